@@ -1,5 +1,5 @@
--- The numbers of blocks by their names, one block more.
-use Rattle.std.proofs.Common.{◌≡◌, ◌<◌, ℕ, ◌+◌, List, [], ◌∷◌, length, take, get_or, Some, cond, sym, ap, ◌∙◌, String, string_bytes}
+-- The numbers of blocks by their names, with another block.
+use Rattle.std.proofs.Common.{◌≡◌, ◌<◌, ℕ, ◌+◌, List, [], length, take, get_or, Some, cond, sym, ap, ◌∙◌, String, string_bytes}
 use Rattle.std.specs.Str.{bytes_eq}
 use Rattle.std.specs.Map.{lookup}
 use Rattle.std.specs.BTreeMap.{BTreeMap, is_at, get_by_text, UpdatesBy}
@@ -7,17 +7,12 @@ use Rattle.std.specs.Ordering.{nat_cmp}
 use Rattle.std.specs.Cmp.Lexicographic.{slice_cmp}
 use Rattle.std.specs.String.{string_cmp}
 use Rattle.std.specs.declared.alloc.Global.{Global}
-use Rattle.std.proofs.lemmas.List.{take_more}
 use Rattle.std.proofs.lemmas.Map.Text.{btree_map_updates_text}
-use Rattle.flow_text.specs.declared.written.Block.{Block}
-use Rattle.flow_text.specs.SyntaxViews.{block_syntax, blocks_syntax}
+use Rattle.flow_syntax.specs.declared.written.Block.{Block}
+use Rattle.flow_syntax.specs.SyntaxViews.{blocks_syntax}
 use Rattle.flow_text.specs.Checking.{found, block_names}
-use Rattle.flow_text.proofs.Stacked.{blocks_push, blocks_none}
-
--- the block before the last `i` blocks
-pub blocks_more : (bs : List Block) (i : ℕ) (b : Block) → i < length bs → b ≡ get_or bs i b → blocks_syntax (take (i + 1) bs) ≡ block_syntax b ∷ blocks_syntax (take i bs)
-blocks_more bs i b lt is =
-    ap blocks_syntax (take_more bs i b lt) ∙ blocks_push (take i bs) (get_or bs i b) ∙ ap (λ c. block_syntax c ∷ blocks_syntax (take i bs)) (sym is)
+use Rattle.flow_syntax.proofs.Stacked.{blocks_none}
+use Rattle.flow_syntax.proofs.LastMembers.{blocks_more}
 
 -- the name of a block before others is that block's
 pub found_first : (bs : List Block) (i k : ℕ) (b : Block) (text : List ℕ) → i < length bs → b ≡ get_or bs i b → found (block_names k (blocks_syntax (take (i + 1) bs))) text ≡ cond (bytes_eq b.name.text.now text) (Some k) (found (block_names (k + 1) (blocks_syntax (take i bs))) text)

@@ -14,13 +14,13 @@ use Rattle.flow_model.specs.Expressions.{ExprTree}
 use Rattle.flow_model.specs.Graphs.{StatementTree}
 use Rattle.flow_model.specs.Polish as polish
 use Rattle.flow_model.specs.Polish.{expr_of, values_of}
-use Rattle.flow_text.specs.declared.written.Node.{Node}
-use Rattle.flow_text.specs.declared.written.Statement.{Statement}
+use Rattle.flow_syntax.specs.declared.written.Node.{Node}
+use Rattle.flow_syntax.specs.declared.written.Statement.{Statement}
 use Rattle.flow_text.specs.Scopes.{ScopeParts}
-use Rattle.flow_text.specs.SyntaxViews.{tokens_syntax, expr_syntax, exprs_syntax, statement_syntax, statements_syntax}
+use Rattle.flow_syntax.specs.SyntaxViews.{tokens_syntax, expr_syntax, exprs_syntax, statement_syntax, statements_syntax}
 use Rattle.flow_text.specs.Resolving.{expression_of}
 use Rattle.flow_text.specs.Checking.{next_target, targets_after, expressions_after, statement_of, statements_after}
-use Rattle.flow_text.proofs.Stacked.{tokens_push, exprs_push, exprs_none, statements_push}
+use Rattle.flow_syntax.proofs.Stacked.{tokens_push, exprs_push, exprs_none, statements_push}
 use Rattle.flow_text.proofs.LastTaken.{before_last, nothing_left}
 
 pub tokens_length : (ts : List Token) → length (tokens_syntax ts) ≡ length ts

@@ -1,15 +1,15 @@
--- Names of a condition resolved, one node more.
+-- Names of a condition resolved, with another node.
 use Rattle.std.proofs.Common.{◌≡◌, List, [], ◌∷◌, ◌++◌, Result, Ok, Err, sym, ap, ◌∙◌, map}
 use Rattle.std.proofs.lemmas.List.{map-append}
 use Rattle.text_tokens.specs.declared.fault.TextFault.{TextFault}
 use Rattle.text_grammar.specs.Parsed.{◌>>=◌}
 use Rattle.flow_model.specs.declared.graph.CondNode.{CondNode as Checked}
 use Rattle.flow_model.specs.Polish.{CondPart, cond_part}
-use Rattle.flow_text.specs.declared.written.CondNode.{CondNode}
+use Rattle.flow_syntax.specs.declared.written.CondNode.{CondNode}
 use Rattle.flow_text.specs.Scopes.{ScopeParts}
-use Rattle.flow_text.specs.SyntaxViews.{cond_node_syntax, cond_syntax}
+use Rattle.flow_syntax.specs.SyntaxViews.{cond_node_syntax, cond_syntax}
 use Rattle.flow_text.specs.Resolving.{part_of, parts_after}
-use Rattle.flow_text.proofs.Stacked.{cond_push}
+use Rattle.flow_syntax.proofs.Stacked.{cond_push}
 
 node_first : (s : ScopeParts) (made : List CondPart) (before : List CondNode) (n : CondNode) → parts_after s made (cond_syntax (before ++ n ∷ [])) ≡ (part_of s (cond_node_syntax n) >>= λ x. parts_after s (made ++ x ∷ []) (cond_syntax before))
 node_first s made before n = ap (parts_after s made) (cond_push before n)

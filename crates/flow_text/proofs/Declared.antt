@@ -5,9 +5,9 @@ use Rattle.text_tokens.specs.declared.token.Token.{Token}
 use Rattle.text_tokens.specs.TokenParts.{parts_of_token}
 use Rattle.text_grammar.specs.Parsed.{◌>>=◌}
 use Rattle.flow_model.specs.declared.sort.Sort.{Sort}
-use Rattle.flow_text.specs.SyntaxViews.{tokens_syntax}
+use Rattle.flow_syntax.specs.SyntaxViews.{tokens_syntax}
 use Rattle.flow_text.specs.Scopes.{ScopeParts, with_sort, with_variable, sorts_declared, variables_declared}
-use Rattle.flow_text.proofs.Stacked.{tokens_push}
+use Rattle.flow_syntax.proofs.Stacked.{tokens_push}
 
 -- the last name is declared first
 pub sort_first : (s : ScopeParts) (before : List Token) (t : Token) → sorts_declared s (tokens_syntax (before ++ t ∷ [])) ≡ (with_sort s (parts_of_token t) >>= λ u. sorts_declared u (tokens_syntax before))

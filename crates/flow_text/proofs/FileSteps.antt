@@ -1,19 +1,22 @@
 -- Graphs with their results, one more.
-use Rattle.std.proofs.Common.{◌≡◌, ◌<◌, ◌≤◌, ℕ, ◌+◌, List, [], ◌∷◌, ◌++◌, length, drop, get_or, map, Result, Ok, Err, sym, ap, ◌∙◌}
+use Rattle.std.proofs.Common.{◌≡◌, ◌<◌, ◌≤◌, ℕ, ◌+◌, List, [], ◌∷◌, ◌++◌, length, drop, get_or, map, Some, Result, Ok, Err, sym, ap, subst, ◌∙◌}
 use Rattle.std.specs.Prelude.{Vec}
 use Rattle.std.specs.declared.alloc.Global.{Global}
 use Rattle.std.proofs.lemmas.List.{map-append, length-map, drop_more, drop_all}
 use Rattle.text_tokens.specs.declared.fault.TextFault.{TextFault}
-use Rattle.text_grammar.specs.Parsed.{◌>>=◌}
+use Rattle.text_grammar.specs.Parsed.{◌>>=◌, Makes}
 use Rattle.flow_model.specs.declared.sort.Sort.{Sort}
 use Rattle.flow_model.specs.declared.graph.Block.{Block}
 use Rattle.flow_model.specs.Graphs.{Graph}
 use Rattle.flow_model.specs.Polish.{graph_of}
+use Rattle.flow_syntax.specs.Syntax.{ItemSyntax}
 use Rattle.flow_text.specs.declared.known.WrittenGraph.{WrittenGraph}
 use Rattle.flow_text.specs.Scopes.{ScopeParts}
 use Rattle.flow_text.specs.KnownViews.{graph_syntax}
-use Rattle.flow_text.specs.FileViews.{graphs_of}
-use Rattle.flow_text.specs.Checking.{GraphSyntax, next_graph, graphs_after}
+use Rattle.flow_text.specs.declared.reading.FlowFile.{FlowFile}
+use Rattle.flow_text.specs.DeclaredNames.{variable_names, function_names}
+use Rattle.flow_text.specs.FileViews.{graphs_of, file_parts}
+use Rattle.flow_text.specs.Checking.{GraphSyntax, next_graph, graphs_after, Known, nothing_known, items_known, with_goal, file_of}
 
 module _ (s : ScopeParts) (goal : ℕ × ℕ) (shared : List Sort) where
   pub graph_made : (made : List (Vec Block Global)) (k : ℕ) (g : GraphSyntax) (gs : List GraphSyntax) (x : Vec Block Global) → length made ≡ k → next_graph s goal shared k g ≡ Ok (graph_of x.items) → graphs_after s goal shared (graphs_of made) (g ∷ gs) ≡ graphs_after s goal shared (graphs_of (made ++ x ∷ [])) gs
@@ -44,3 +47,11 @@ module _ (s : ScopeParts) (goal : ℕ × ℕ) (shared : List Sort) where
   no_graph made gs i whole past invariant = sym invariant ∙ ap (λ l. graphs_after s goal shared (graphs_of made) (map graph_syntax l)) (drop_all i gs past)
 
 pub ruleset graphs = (graph_made, graph_refused)
+
+-- the file of all items, with their names
+pub file_made : (is : List ItemSyntax) (k : Known) (goal : ℕ × ℕ) (vs fs : List (List ℕ)) (r : Result FlowFile TextFault) → items_known nothing_known is ≡ Ok k → k.goal ≡ Some goal → vs ≡ variable_names is → fs ≡ function_names is → Makes (Unit {0}) file_parts r (with_goal vs fs k (Some goal)) → Makes (Unit {0}) file_parts r (file_of is)
+file_made is k goal vs fs r known wanted variables functions makes =
+    subst (Makes (Unit {0}) file_parts r)
+    (ap (with_goal vs fs k) (sym wanted) ∙ ap (λ v. with_goal v fs k k.goal) variables ∙ ap (λ f. with_goal (variable_names is) f k k.goal) functions
+    ∙ sym (ap (λ (m : Result Known TextFault). m >>= λ l. with_goal (variable_names is) (function_names is) l l.goal) known))
+    makes

@@ -8,11 +8,11 @@ use Rattle.flow_model.specs.declared.graph.Block.{Block as Checked}
 use Rattle.flow_model.specs.Graphs.{Graph}
 use Rattle.flow_model.specs.Graphs as model
 use Rattle.flow_model.specs.Polish.{block_of, graph_of}
-use Rattle.flow_text.specs.declared.written.Block.{Block}
+use Rattle.flow_syntax.specs.declared.written.Block.{Block}
 use Rattle.flow_text.specs.Scopes.{ScopeParts}
-use Rattle.flow_text.specs.SyntaxViews.{block_syntax, blocks_syntax}
+use Rattle.flow_syntax.specs.SyntaxViews.{block_syntax, blocks_syntax}
 use Rattle.flow_text.specs.Checking.{next_block, blocks_after}
-use Rattle.flow_text.proofs.Stacked.{blocks_push}
+use Rattle.flow_syntax.proofs.Stacked.{blocks_push}
 
 module _ (s : ScopeParts) (results : Option (List Sort)) (find : List ℕ → Option ℕ) where
   block_first : (made : Graph) (before : List Block) (b : Block) → blocks_after s results find made (blocks_syntax (before ++ b ∷ [])) ≡ (next_block s results find (length made) (block_syntax b) >>= λ x. blocks_after s results find (made ++ x ∷ []) (blocks_syntax before))

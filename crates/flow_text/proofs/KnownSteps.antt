@@ -5,11 +5,11 @@ use Rattle.text_tokens.specs.declared.token.Token.{Token}
 use Rattle.text_tokens.specs.TokenParts.{parts_of_token}
 use Rattle.text_grammar.specs.Parsed.{◌>>=◌}
 use Rattle.flow_model.specs.declared.sort.Sort.{Sort}
-use Rattle.flow_text.specs.declared.written.Item.{Item}
+use Rattle.flow_syntax.specs.declared.written.Item.{Item}
 use Rattle.flow_text.specs.Scopes.{ScopeParts, next_parameter, parameters_after}
-use Rattle.flow_text.specs.SyntaxViews.{tokens_syntax, item_syntax, items_syntax}
+use Rattle.flow_syntax.specs.SyntaxViews.{tokens_syntax, item_syntax, items_syntax}
 use Rattle.flow_text.specs.Checking.{Known, item_known, items_known}
-use Rattle.flow_text.proofs.Stacked.{tokens_push, items_push}
+use Rattle.flow_syntax.proofs.Stacked.{tokens_push, items_push}
 
 parameter_first : (s : ScopeParts) (made : List Sort) (before : List Token) (t : Token) → parameters_after s made (tokens_syntax (before ++ t ∷ [])) ≡ (next_parameter s (parts_of_token t) (length made) >>= λ x. parameters_after s (made ++ x ∷ []) (tokens_syntax before))
 parameter_first s made before t = ap (parameters_after s made) (tokens_push before t)

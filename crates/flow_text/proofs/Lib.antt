@@ -1,9 +1,3 @@
-pub mod GrammarExamples
-pub mod Reversed
-pub mod TokensTaken
-pub mod Stacked
-pub mod Taken
-pub mod NodeLists
 pub mod NameTables
 pub mod ScopeLists
 pub mod LastTaken
@@ -15,10 +9,9 @@ pub mod CondSteps
 pub mod Checked
 pub mod BlockLists
 pub mod GraphSteps
-pub mod LastMembers
 pub mod KnownSteps
 pub mod ResultSteps
+pub mod NameSteps
 pub mod FileSteps
 pub mod NamedItems
-pub mod NamedSyntax
 pub mod OneAnswer

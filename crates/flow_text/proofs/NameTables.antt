@@ -26,7 +26,7 @@ ties-bytes_eq : (q name : List ℕ) → eq_by_cmp (slice_cmp nat_cmp) q name ≡
 ties-bytes_eq q name = (eq_by_cmp_equiv nat_list_cmp_total).symm q name ∙ is_eq-slice_cmp name q
 
 -- an insertion changes the meaning of its own name only
-get-insert_name : (m : FinMap (slice_cmp nat_cmp) Meaning) (name : List ℕ) (v : Meaning) (q : List ℕ) → get (insert m name v) q ≡ cond (bytes_eq name q) (Some v) (get m q)
+pub get-insert_name : (m : FinMap (slice_cmp nat_cmp) Meaning) (name : List ℕ) (v : Meaning) (q : List ℕ) → get (insert m name v) q ≡ cond (bytes_eq name q) (Some v) (get m q)
 get-insert_name m name v q = get-insert nat_list_cmp_total m name v q ∙ ap (λ b. cond b (Some v) (get m q)) (ties-bytes_eq q name)
 
 -- setting one text of the map inserts its name into the meanings

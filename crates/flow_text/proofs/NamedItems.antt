@@ -19,11 +19,11 @@ use Rattle.flow_model.specs.Graphs.{StatementTree, Graph}
 use Rattle.flow_text.specs.declared.limits.TheConstants.{MAX_BLOCKS, MAX_PARAMETERS}
 use Rattle.flow_text.specs.declared.meaning.Meaning.{Meaning}
 use Rattle.flow_text.specs.declared.meaning.Meaning.TheVariants.{SortName, Function, Variable, GraphName}
-use Rattle.flow_text.specs.Terminals.{spelled_number}
-use Rattle.flow_text.specs.Syntax.{NodeSyntax, numeral, named, called, converted, operation, ExprSyntax, CondNodeSyntax, always, never, compared, compared_signed, negation, both, either, CondSyntax, StatementSyntax, assign, claim, JumpSyntax, goto, branch, return, abort, BlockSyntax, a_block, ItemSyntax, sorts, function, variables, graph, rounds, split, equal}
+use Rattle.flow_syntax.specs.Terminals.{spelled_number}
+use Rattle.flow_syntax.specs.Syntax.{NodeSyntax, numeral, named, called, converted, operation, ExprSyntax, CondNodeSyntax, always, never, compared, compared_signed, negation, both, either, CondSyntax, StatementSyntax, assign, claim, JumpSyntax, goto, branch, return, abort, BlockSyntax, a_block, ItemSyntax, sorts, function, variables, graph, rounds, split, equal}
 use Rattle.flow_text.specs.Scopes.{FunctionParts, function_parts, ScopeParts, meaning, meaning_in, may_declare, with_sort, with_variable, sorts_declared, variables_declared, sort_meant, sort_or_width, sort_named, width_named, few_parameters, next_parameter, parameters_after, same_sort, may_have_function, may_have_graph, scope_before}
 use Rattle.flow_text.specs.Resolving.{Wanted, operand, second_operand, number_of_width, number_in, with_sort_wanted, variable_in, application_of, function_in, conversion_in, sort_or_u64, sort_of_first, sort_of_sides, node_in, sort_wanted, next_node, nodes_after, expression_of, relation_on, rel_named, width_of_sort, comparison_of, signed_comparison_of, part_of, parts_after, condition_of}
-use Rattle.flow_text.specs.Sizes.{nodes_with}
+use Rattle.flow_syntax.specs.Sizes.{nodes_with}
 use Rattle.flow_text.specs.Checking.{is_set, target_of, target_meant, next_target, targets_after, expressions_after, expressions_of, seconds, assigned, statement_of, statements_after, block_or_fault, found, block_names, block_name, returned, jump_of, may_have_block, block_of, next_block, blocks_after, graph_of, GraphSyntax, a_graph, Known, nothing_known, graph_meant, at_most_once, with_nodes, few_rounds, item_known, items_known, sorts_returned, shared_sorts, whole_graph, next_graph, graphs_after, with_goal, file_of}
 
 if_named : {A : Type 0} (b : Bool) (x y : Result A TextFault) → IsNamed x → IsNamed y → IsNamed (cond b x y)
@@ -282,9 +282,9 @@ graphs_named s goal shared made [] = tt
 graphs_named s goal shared made (g ∷ gs) =
     then_named (next_graph s goal shared (length made) g) _ (whole_named s (sorts_returned s goal shared (length made) g) g) (λ x. graphs_named s goal shared (made ++ x ∷ []) gs)
 
-goal_named : (k : Known) (goal : Option (ℕ × ℕ)) → IsNamed (with_goal k goal)
-goal_named k None = tt
-goal_named k (Some goal) = then_named (graphs_after k.scope goal (shared_sorts k.scope goal k.graphs) [] k.graphs) _ (graphs_named k.scope goal (shared_sorts k.scope goal k.graphs) [] k.graphs) (λ gs. tt)
+goal_named : (vs fs : List (List ℕ)) (k : Known) (goal : Option (ℕ × ℕ)) → IsNamed (with_goal vs fs k goal)
+goal_named vs fs k None = tt
+goal_named vs fs k (Some goal) = then_named (graphs_after k.scope goal (shared_sorts k.scope goal k.graphs) [] k.graphs) _ (graphs_named k.scope goal (shared_sorts k.scope goal k.graphs) [] k.graphs) (λ gs. tt)
 
 pub file_named : (is : List ItemSyntax) → IsNamed (file_of is)
-file_named is = then_named (items_known nothing_known is) _ (items_named nothing_known is) (λ k. goal_named k k.goal)
+file_named is = then_named (items_known nothing_known is) _ (items_named nothing_known is) (λ k. goal_named _ _ k k.goal)

@@ -13,22 +13,21 @@ use Rattle.text_reader.specs.Values.{values}
 use Rattle.text_reader.proofs.Leading as leading
 use Rattle.text_reader.proofs.Ending.{some_end}
 use Rattle.problem_file.specs.FirstFaults as base
-use Rattle.problem_file.specs.FirstFaults.{IsNoText}
 use Rattle.problem_file.specs.Laws.{HaveOneAnswer}
 use Rattle.problem_file.proofs.TextAnswers.{Tells, one_answer}
-use Rattle.flow_text.specs.declared.phrase.TheConstants.{FILE}
+use Rattle.flow_syntax.specs.declared.phrase.TheConstants.{FILE}
 use Rattle.flow_text.specs.declared.reading.FlowFile.{FlowFile}
-use Rattle.flow_text.specs.Terminals.{mark_of}
-use Rattle.flow_text.specs.Syntax.{ItemSyntax}
-use Rattle.flow_text.specs.Actions.{first, items_in}
-use Rattle.flow_text.specs.Productions.{rules, weights, actions}
-use Rattle.flow_text.specs.Spelling.{AreSpelled}
+use Rattle.flow_syntax.specs.Terminals.{mark_of}
+use Rattle.flow_syntax.specs.Syntax.{ItemSyntax}
+use Rattle.flow_syntax.specs.Actions.{first, items_in}
+use Rattle.flow_syntax.specs.Productions.{rules, weights, actions}
+use Rattle.flow_syntax.specs.Spelling.{AreSpelled}
 use Rattle.flow_text.specs.Checking.{FlowFileParts, file_of}
 use Rattle.flow_text.specs.FileViews.{file_parts}
 use Rattle.flow_text.specs.Texts.{Spells, HasSyntaxFault, IsFlowText, HasItemFault, FirstFault, no_text, bad_token, wrong_syntax, wrong_item, Answers}
 use Rattle.text_grammar.proofs.NamedFaults.{IsNamed}
-use Rattle.flow_text.proofs.GrammarExamples.{rules_light}
-use Rattle.flow_text.proofs.NamedSyntax.{syntax_named}
+use Rattle.flow_syntax.proofs.GrammarExamples.{rules_light}
+use Rattle.flow_syntax.proofs.NamedSyntax.{syntax_named}
 use Rattle.flow_text.proofs.NamedItems.{file_named}
 
 -- ---- bytes have tokens, or a first fault before their syntax is checked

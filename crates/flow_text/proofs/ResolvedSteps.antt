@@ -1,16 +1,16 @@
--- Names of an expression resolved, one node more.
+-- Names of an expression resolved, with another node.
 use Rattle.std.proofs.Common.{◌≡◌, List, [], ◌∷◌, ◌++◌, length, Result, Ok, Err, refl, sym, ap, ◌∙◌}
 use Rattle.text_tokens.specs.declared.fault.TextFault.{TextFault}
 use Rattle.text_tokens.specs.declared.fault.TextFault.TheVariants.{NoMemory}
 use Rattle.text_grammar.specs.Parsed.{◌>>=◌, Makes}
 use Rattle.flow_model.specs.declared.graph.ExprNode.{ExprNode}
-use Rattle.flow_text.specs.declared.written.Node.{Node}
-use Rattle.flow_text.specs.Syntax.{ExprSyntax}
+use Rattle.flow_syntax.specs.declared.written.Node.{Node}
+use Rattle.flow_syntax.specs.Syntax.{ExprSyntax}
 use Rattle.flow_text.specs.Scopes.{ScopeParts}
-use Rattle.flow_text.specs.SyntaxViews.{node_syntax, expr_syntax}
+use Rattle.flow_syntax.specs.SyntaxViews.{node_syntax, expr_syntax}
 use Rattle.flow_text.specs.Resolving.{Wanted, next_node, nodes_after}
 use Rattle.flow_text.specs.Working.Wanting.{Gives}
-use Rattle.flow_text.proofs.Stacked.{expr_push, expr_none}
+use Rattle.flow_syntax.proofs.Stacked.{expr_push, expr_none}
 use Rattle.flow_text.proofs.LastTaken.{nothing_left}
 
 -- the last node is the first that is resolved

@@ -1,20 +1,20 @@
--- Sorts of results, one `return`, one place or one graph more.
+-- Sorts of results, with another `return`, place or graph.
 use Rattle.std.proofs.Common.{◌≡◌, ◌<◌, ◌≤◌, ℕ, ◌+◌, ◌-◌, List, [], ◌∷◌, ◌++◌, length, take, drop, get_or, set, map, Option, Some, None, refl, sym, ap, ◌∙◌, arith}
 use Rattle.std.specs.Prelude.{Vec}
 use Rattle.std.specs.declared.alloc.Global.{Global}
 use Rattle.std.proofs.lemmas.List.{append-nil, append_assoc, drop_more, drop_all, take_all, take-append-drop, take_more_set, drop-set-lt}
 use Rattle.flow_model.specs.declared.sort.Sort.{Sort}
 use Rattle.flow_text.specs.declared.known.WrittenGraph.{WrittenGraph}
-use Rattle.flow_text.specs.declared.written.Node.{Node}
-use Rattle.flow_text.specs.declared.written.Block.{Block}
-use Rattle.flow_text.specs.Actions.{first_name}
-use Rattle.flow_text.specs.Syntax.{ExprSyntax}
+use Rattle.flow_syntax.specs.declared.written.Node.{Node}
+use Rattle.flow_syntax.specs.declared.written.Block.{Block}
+use Rattle.flow_syntax.specs.Actions.{first_name}
+use Rattle.flow_syntax.specs.Syntax.{ExprSyntax}
 use Rattle.flow_text.specs.Scopes.{ScopeParts}
-use Rattle.flow_text.specs.SyntaxViews.{expr_syntax, exprs_syntax, block_syntax, blocks_syntax}
+use Rattle.flow_syntax.specs.SyntaxViews.{expr_syntax, exprs_syntax, block_syntax, blocks_syntax}
 use Rattle.flow_text.specs.KnownViews.{graph_syntax}
 use Rattle.flow_text.specs.Resolving.{sort_of_first}
 use Rattle.flow_text.specs.Checking.{ResultSorts, first_sort, first_sorts, named_sorts, with_results, with_all_results, with_named, shared_results}
-use Rattle.flow_text.proofs.Stacked.{exprs_push, exprs_none, blocks_push}
+use Rattle.flow_syntax.proofs.Stacked.{exprs_push, exprs_none, blocks_push}
 use Rattle.flow_text.proofs.LastTaken.{before_last, nothing_left}
 
 pub results_more : (s : ScopeParts) (xs now : ResultSorts) (before : List Block) (b : Block) → now ≡ with_results s xs (block_syntax b) → with_all_results s xs (blocks_syntax (before ++ b ∷ [])) ≡ with_all_results s now (blocks_syntax before)

@@ -5,7 +5,7 @@ use Rattle.flow_model.specs.declared.sort.Sort.{Sort}
 use Rattle.flow_text.specs.Resolving.{Wanted, operand}
 use Rattle.flow_text.specs.declared.resolve.Wanted.{Wanted as IsWanted}
 use Rattle.flow_text.specs.Working.Wanting.{wanted_syntax, wanted_stack}
-use Rattle.flow_text.proofs.Reversed.{reversed_append}
+use Rattle.flow_syntax.proofs.Reversed.{reversed_append}
 
 pub wanted_push : (ws : List IsWanted) (w : IsWanted) → wanted_stack (ws ++ w ∷ []) ≡ wanted_syntax w ∷ wanted_stack ws
 unfolding wanted_stack
@@ -15,7 +15,7 @@ pub wanted_none : wanted_stack [] ≡ []
 unfolding wanted_stack
 wanted_none = refl
 
--- one operand more is wanted before others
+-- another operand is needed before others
 pub operand_before : (sorts : List Sort) (n : ℕ) (d : Sort) (olds news others : List Wanted) → 0 < n → n ≤ length sorts → news ≡ operand (get_or sorts (n - 1) d) ∷ olds → olds ≡ map operand (drop n sorts) ++ others → news ≡ map operand (drop (n - 1) sorts) ++ others
 operand_before sorts n d olds news others some le is invariant =
     let back : n ≡ n - 1 + 1 = omega arith in

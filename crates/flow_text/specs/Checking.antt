@@ -11,15 +11,16 @@ use Rattle.flow_model.specs.declared.sort.Sort.{Sort}
 use Rattle.flow_model.specs.Expressions.{ExprTree}
 use Rattle.flow_model.specs.Graphs as model
 use Rattle.flow_model.specs.Graphs.{StatementTree, JumpTree, Block, Graph}
-use Rattle.flow_text.specs.Terminals.{spelled_number}
-use Rattle.flow_text.specs.Syntax.{FirstSyntax, no_name, ExprSyntax, CondSyntax, StatementSyntax, assign, claim, JumpSyntax, goto, branch, return, abort, BlockSyntax, a_block, ItemSyntax, sorts, function, variables, graph, rounds, split, equal}
+use Rattle.flow_syntax.specs.Terminals.{spelled_number}
+use Rattle.flow_syntax.specs.Syntax.{FirstSyntax, no_name, ExprSyntax, CondSyntax, StatementSyntax, assign, claim, JumpSyntax, goto, branch, return, abort, BlockSyntax, a_block, ItemSyntax, sorts, function, variables, graph, rounds, split, equal}
 use Rattle.flow_text.specs.declared.limits.TheConstants.{MAX_BLOCKS}
 use Rattle.flow_text.specs.declared.meaning.Meaning.{Meaning}
 use Rattle.flow_text.specs.declared.meaning.Meaning.TheVariants.{Variable, GraphName}
-use Rattle.flow_text.specs.Actions.{first_name}
+use Rattle.flow_syntax.specs.Actions.{first_name}
 use Rattle.flow_text.specs.Scopes.{ScopeParts, Counts, no_names, meaning, meaning_in, sorts_declared, may_have_function, with_function, variables_declared, may_have_graph, with_graph, counts_of, scope_before, sort_named, parameters_after, sort_fault, unknown}
+use Rattle.flow_text.specs.DeclaredNames.{variable_names, function_names}
 use Rattle.flow_text.specs.Resolving.{sort_of_first, sort_or_u64, expression_of, condition_of}
-use Rattle.flow_text.specs.Sizes.{nodes_with}
+use Rattle.flow_syntax.specs.Sizes.{nodes_with}
 
 -- the number of the first of some names that is the text
 abbrev pub found : List (List ℕ × ℕ) → List ℕ → Option ℕ
@@ -314,7 +315,8 @@ abbrev pub graphs_after : ScopeParts → ℕ × ℕ → List Sort → List Graph
 graphs_after s goal shared before [] = Ok before
 graphs_after s goal shared before (g ∷ gs) = next_graph s goal shared (length before) g >>= λ x. graphs_after s goal shared (before ++ x ∷ []) gs
 
--- a flow file: the sorts of its variables, its graphs, and which of them are to be equal
+-- a flow file: the sorts of its variables, its graphs, which of them the goal compares, and the names of its variables and
+-- of its functions
 pub record FlowFileParts : Type 0 where
   pub sorts : List Sort
   pub graphs : List Graph
@@ -322,20 +324,23 @@ pub record FlowFileParts : Type 0 where
   pub after : ℕ
   pub rounds : ℕ
   pub splits : Bool
+  pub variable_names : List (List ℕ)
+  pub function_names : List (List ℕ)
 
 abbrev pub rounds_or_one : Option ℕ → ℕ
 rounds_or_one None = 1
 rounds_or_one (Some n) = n
 
-abbrev pub with_goal : Known → Option (ℕ × ℕ) → Result FlowFileParts TextFault
-with_goal k None = Err fault.NoGoal
-with_goal k (Some goal) =
+-- the file of what is known of all items, with the names that they declare
+abbrev pub with_goal : List (List ℕ) → List (List ℕ) → Known → Option (ℕ × ℕ) → Result FlowFileParts TextFault
+with_goal vs fs k None = Err fault.NoGoal
+with_goal vs fs k (Some goal) =
     graphs_after k.scope goal (shared_sorts k.scope goal k.graphs) [] k.graphs
-    >>= λ gs. Ok (record { sorts = k.scope.variables; graphs = gs; before = goal.0; after = goal.1; rounds = rounds_or_one k.rounds; splits = k.splits })
+    >>= λ gs. Ok (record { sorts = k.scope.variables; graphs = gs; before = goal.0; after = goal.1; rounds = rounds_or_one k.rounds; splits = k.splits; variable_names = vs; function_names = fs })
 
 -- the file of some items, or its first fault
 abbrev pub file_of : List ItemSyntax → Result FlowFileParts TextFault
-file_of items = items_known nothing_known items >>= λ k. with_goal k k.goal
+file_of items = items_known nothing_known items >>= λ k. with_goal (variable_names items) (function_names items) k k.goal
 
 abbrev pub graph_or_none : Option Graph → Graph
 graph_or_none None = []

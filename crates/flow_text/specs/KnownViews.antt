@@ -5,7 +5,7 @@ use Rattle.flow_text.specs.declared.known.Known.{Known as KnownItems}
 use Rattle.flow_text.specs.Checking.{GraphSyntax, a_graph, Known}
 use Rattle.flow_text.specs.Scopes.{counts}
 use Rattle.flow_text.specs.ScopeViews.{scope_parts}
-use Rattle.flow_text.specs.SyntaxViews.{blocks_syntax}
+use Rattle.flow_syntax.specs.SyntaxViews.{blocks_syntax}
 
 abbrev pub graph_syntax : WrittenGraph → GraphSyntax
 graph_syntax g = a_graph (counts g.sorts g.functions g.variables g.graphs) (blocks_syntax g.blocks.items)

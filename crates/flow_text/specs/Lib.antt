@@ -1,13 +1,7 @@
-pub mod Terminals
-pub mod Syntax
-pub mod Actions
-pub mod SyntaxViews
-pub mod Productions
-pub mod Spelling
 pub mod Scopes
 pub mod ScopeViews
+pub mod DeclaredNames
 pub mod Resolving
-pub mod Sizes
 pub mod Checking
 pub mod KnownViews
 pub mod ResultViews

@@ -20,9 +20,9 @@ use Rattle.flow_model.specs.Conditions.{CondTree}
 use Rattle.flow_model.specs.Polish.{expr_of, CondPart, a_condition, a_negation, a_conjunction, a_disjunction, conds_of, first_cond}
 use Rattle.flow_text.specs.declared.meaning.Meaning.{Meaning}
 use Rattle.flow_text.specs.declared.meaning.Meaning.TheVariants.{Function, Variable}
-use Rattle.flow_text.specs.Terminals.{spelled_number}
-use Rattle.flow_text.specs.Syntax.{FirstSyntax, no_name, a_name, a_conversion, NodeSyntax, numeral, named, called, converted, operation, ExprSyntax, CondNodeSyntax, always, never, compared, compared_signed, negation, both, either, CondSyntax}
-use Rattle.flow_text.specs.Actions.{first_of, first_name}
+use Rattle.flow_syntax.specs.Terminals.{spelled_number}
+use Rattle.flow_syntax.specs.Syntax.{FirstSyntax, no_name, a_name, a_conversion, NodeSyntax, numeral, named, called, converted, operation, ExprSyntax, CondNodeSyntax, always, never, compared, compared_signed, negation, both, either, CondSyntax}
+use Rattle.flow_syntax.specs.Actions.{first_of, first_name}
 use Rattle.flow_text.specs.Scopes.{FunctionParts, function_parts, ScopeParts, meaning_in, width_named, same_sort, sort_fault, unknown}
 
 -- ---- sorts

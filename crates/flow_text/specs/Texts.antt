@@ -6,12 +6,12 @@ use Rattle.text_tokens.specs.TokenParts.{TokenParts}
 use Rattle.text_tokens.specs.Lex.{Lexes, FirstBad}
 use Rattle.text_reader.specs.Derivations.{IsFirstFault}
 use Rattle.problem_file.specs.FirstFaults.{IsNoText}
-use Rattle.flow_text.specs.declared.phrase.TheConstants.{FILE}
+use Rattle.flow_syntax.specs.declared.phrase.TheConstants.{FILE}
 use Rattle.flow_text.specs.declared.reading.FlowFile.{FlowFile}
-use Rattle.flow_text.specs.Terminals.{mark_of}
-use Rattle.flow_text.specs.Syntax.{ItemSyntax}
-use Rattle.flow_text.specs.Spelling.{AreSpelled}
-use Rattle.flow_text.specs.Productions.{rules}
+use Rattle.flow_syntax.specs.Terminals.{mark_of}
+use Rattle.flow_syntax.specs.Syntax.{ItemSyntax}
+use Rattle.flow_syntax.specs.Spelling.{AreSpelled}
+use Rattle.flow_syntax.specs.Productions.{rules}
 use Rattle.flow_text.specs.Checking.{FlowFileParts, file_of}
 use Rattle.flow_text.specs.FileViews.{file_parts}
 

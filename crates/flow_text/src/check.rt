@@ -5,16 +5,16 @@ ghost use Rattle.text_grammar.specs.Parsed.{Makes};
 ghost use Rattle.flow_model.specs.Polish.{statement_of, values_of};
 ghost use Rattle.flow_text.specs.Checking.{is_set, target_of, next_target, targets_after, expressions_of, firsts, seconds, assigned, statements_after};
 ghost use Rattle.flow_text.specs.Checking as checking;
-ghost use Rattle.flow_text.specs.Syntax as spelled;
+ghost use Rattle.flow_syntax.specs.Syntax as spelled;
 ghost use Rattle.flow_text.specs.ScopeViews.{sight_parts};
-ghost use Rattle.flow_text.specs.SyntaxViews.{tokens_syntax, exprs_syntax, cond_syntax, statement_syntax, statements_syntax};
+ghost use Rattle.flow_syntax.specs.SyntaxViews.{tokens_syntax, exprs_syntax, cond_syntax, statement_syntax, statements_syntax};
 
 use crate::meaning::Meaning;
 use crate::resolve_cond::resolve_cond;
 use crate::resolve_expr::resolve_expr;
 use crate::sight::{Sight, sort_at};
-use crate::written::{CondNode, Node, Statement};
 use flow_model::{ExprNode, Sort};
+use flow_syntax::{CondNode, Node, Statement};
 use kat_model::NoMemory;
 use std::alloc::Global;
 use text_tokens::{TextFault, Token};
@@ -65,7 +65,7 @@ fn next_target(
 }
 
 // Returns the variables that an assignment sets, with their sorts.
-#[tactic(auto, using(crate::proofs::Stacked::pushes, crate::proofs::Checked::targets, crate::proofs::LastTaken::last))]
+#[tactic(auto, using(flow_syntax::proofs::Stacked::pushes, crate::proofs::Checked::targets, crate::proofs::LastTaken::last))]
 fn targets(alloc: Global, sight: &Sight, names: &[Token]) -> Result<Vec<(usize, Sort)>, TextFault>
     ensures { Makes (Unit {0}) (λ v. v.items) result (targets_after (sight_parts sight.now) [] (tokens_syntax names.now)) }
 {
@@ -80,7 +80,7 @@ fn targets(alloc: Global, sight: &Sight, names: &[Token]) -> Result<Vec<(usize, 
 }
 
 /// Returns expressions of the sorts, one for each.
-#[tactic(auto, using(crate::proofs::Stacked::pushes, crate::proofs::Checked::expressions, crate::proofs::LastTaken::last))]
+#[tactic(auto, using(flow_syntax::proofs::Stacked::pushes, crate::proofs::Checked::expressions, crate::proofs::LastTaken::last))]
 pub(crate) fn resolve_all(
     alloc: Global,
     sight: &Sight,
@@ -122,7 +122,7 @@ fn sorts_of(alloc: Global, targets: &[(usize, Sort)]) -> Result<Vec<Sort>, NoMem
     Ok(sorts)
 }
 
-#[tactic(auto, using(crate::proofs::Checked::tokens_length, crate::proofs::NodeLists::exprs_length))]
+#[tactic(auto, using(crate::proofs::Checked::tokens_length, flow_syntax::proofs::NodeLists::exprs_length))]
 fn assign(
     alloc: Global,
     sight: &Sight,
@@ -167,7 +167,7 @@ fn check_statement(
 }
 
 /// Returns the statements with their names resolved, or their first fault in text order.
-#[tactic(auto, using(crate::proofs::Stacked::pushes, crate::proofs::Checked::statements, crate::proofs::LastTaken::last))]
+#[tactic(auto, using(flow_syntax::proofs::Stacked::pushes, crate::proofs::Checked::statements, crate::proofs::LastTaken::last))]
 pub(crate) fn check_statements(
     alloc: Global,
     sight: &Sight,

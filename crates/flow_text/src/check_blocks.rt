@@ -8,14 +8,14 @@ ghost use Rattle.flow_model.specs.Polish.{jump_of, block_of, graph_of};
 ghost use Rattle.flow_text.specs.Checking.{found, block_names, block_or_fault, may_have_block, returned, gone_to, branched, next_block, blocks_after};
 ghost use Rattle.flow_text.specs.Checking as checking;
 ghost use Rattle.flow_text.specs.ScopeViews.{sight_parts};
-ghost use Rattle.flow_text.specs.SyntaxViews.{exprs_syntax, cond_syntax, jump_syntax, block_syntax, blocks_syntax};
+ghost use Rattle.flow_syntax.specs.SyntaxViews.{exprs_syntax, cond_syntax, jump_syntax, block_syntax, blocks_syntax};
 
 use crate::check::{check_statements, resolve_all};
 use crate::limits::MAX_BLOCKS;
 use crate::resolve_cond::resolve_cond;
 use crate::sight::Sight;
-use crate::written::{Block, CondNode, Jump, Node};
 use flow_model::{Jump as CheckedJump, Sort};
+use flow_syntax::{Block, CondNode, Jump, Node};
 use kat_model::NoMemory;
 use std::alloc::Global;
 use std::collections::BTreeMap;
@@ -68,7 +68,7 @@ fn may_have_block(names: &BTreeMap<String, usize>, k: usize, name: &Token) -> Re
     }
 }
 
-#[tactic(auto, using(crate::proofs::NodeLists::exprs_length))]
+#[tactic(auto, using(flow_syntax::proofs::NodeLists::exprs_length))]
 fn return_of(
     alloc: Global,
     sight: &Sight,
@@ -174,7 +174,7 @@ fn next_block(
     check_block(alloc, sight, results, names, block)
 }
 
-#[tactic(auto, using(crate::proofs::Stacked::pushes, crate::proofs::GraphSteps::blocks, crate::proofs::LastTaken::last))]
+#[tactic(auto, using(flow_syntax::proofs::Stacked::pushes, crate::proofs::GraphSteps::blocks, crate::proofs::LastTaken::last))]
 fn check_blocks(
     alloc: Global,
     sight: &Sight,

@@ -7,17 +7,15 @@ ghost use Rattle.flow_text.specs.Scopes.{sort_meant, sort_named, next_parameter,
 ghost use Rattle.flow_text.specs.Checking.{nothing_known, few_rounds, graph_meant, sorts_known, function_known, variables_known, graph_known, rounds_known, split_known, goal_known, item_known, items_known};
 ghost use Rattle.flow_text.specs.ScopeViews.{scope_parts};
 ghost use Rattle.flow_text.specs.KnownViews.{known_parts};
-ghost use Rattle.flow_text.specs.SyntaxViews.{tokens_syntax, blocks_syntax, item_syntax, items_syntax};
+ghost use Rattle.flow_syntax.specs.SyntaxViews.{tokens_syntax, blocks_syntax, item_syntax, items_syntax};
 
 use crate::check_blocks::check_graph;
 use crate::limits::MAX_PARAMETERS;
 use crate::meaning::Meaning;
-use crate::node_counts::nodes_with;
 use crate::scope::Scope;
 use crate::sight::{sight_of_all, width_named};
-use crate::terminal::spelled_number;
-use crate::written::{Block, Item};
 use flow_model::Sort;
+use flow_syntax::{Block, Item, nodes_with, spelled_number};
 use kat_model::MAX_ROUNDS;
 use std::alloc::Global;
 use text_tokens::{TextFault, Token};
@@ -78,7 +76,7 @@ fn next_parameter(scope: &Scope, token: &Token, count: usize) -> Result<Sort, Te
     Err(TextFault::TooMany(token.at))
 }
 
-#[tactic(auto, using(crate::proofs::Stacked::pushes, crate::proofs::KnownSteps::parameters, crate::proofs::LastTaken::last))]
+#[tactic(auto, using(flow_syntax::proofs::Stacked::pushes, crate::proofs::KnownSteps::parameters, crate::proofs::LastTaken::last))]
 fn parameter_sorts(alloc: Global, scope: &Scope, tokens: &[Token]) -> Result<Vec<Sort>, TextFault>
     ensures { Makes (Unit {0}) (λ v. v.items) result (parameters_after (scope_parts scope.now) [] (tokens_syntax tokens.now)) }
 {
@@ -249,7 +247,7 @@ impl<'a> Known<'a> {
 }
 
 /// Checks all items, which are from the last to the first.
-#[tactic(auto, using(crate::proofs::Stacked::pushes, crate::proofs::KnownSteps::known))]
+#[tactic(auto, using(flow_syntax::proofs::Stacked::pushes, crate::proofs::KnownSteps::known))]
 pub(crate) fn check_items<'a>(
     alloc: Global,
     mut items: Vec<Item<'a>>,

@@ -3,7 +3,7 @@
 /// What a name of a flow file means. Sorts, functions, variables and graphs are numbered in the order of their
 /// declarations.
 #[derive(Clone, Copy)]
-pub(crate) enum Meaning {
+pub enum Meaning {
     SortName(usize),
     Function(usize),
     Variable(usize),

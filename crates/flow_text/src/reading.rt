@@ -1,5 +1,5 @@
 //! Reads flow files.
-ghost use Rattle.std.specs.Prelude.{◌≡◌, ◌≤◌, [], length, map, None, Some, IfOk, IfErr};
+ghost use Rattle.std.specs.Prelude.{◌≡◌, ◌≤◌, [], length, map, None, Some, IfOk, IfErr, string_bytes};
 ghost use Rattle.text_tokens.specs.declared.fault.TextFault.TheVariants.{NoMemory as NoRoom};
 ghost use Rattle.text_tokens.specs.declared.lexer.TheConstants.{MAX_LEN as MOST};
 ghost use Rattle.text_grammar.specs.Parsed.{Makes};
@@ -8,22 +8,22 @@ ghost use Rattle.flow_text.specs.Checking.{FlowFileParts, shared_sorts, known_so
 ghost use Rattle.flow_text.specs.ScopeViews.{scope_parts};
 ghost use Rattle.flow_text.specs.KnownViews.{graph_syntax, known_parts};
 ghost use Rattle.flow_text.specs.FileViews.{graphs_of, file_parts};
-ghost use Rattle.flow_text.specs.SyntaxViews.{items_syntax};
+ghost use Rattle.flow_syntax.specs.SyntaxViews.{items_syntax};
 ghost use Rattle.flow_text.specs.Texts.{IsFlowText, Answers};
 
 use crate::check_blocks::check_graph;
+use crate::declared_names::{DeclaredNames, declared_names};
 use crate::known::{Known, WrittenGraph, check_items};
-use crate::parsing::items;
 use crate::results::{Results, sight_of};
 use crate::scope::Scope;
-use crate::written::Item;
 use flow_model::{Block, Sort};
+use flow_syntax::{Item, items};
 use kat_model::NoMemory;
 use problem_file::text_of;
 use std::alloc::Global;
 use text_tokens::{TextFault, tokens};
 
-/// A flow file: the sorts of its variables, its graphs, and which of them are to be equal.
+/// A flow file: the sorts of its variables, its graphs, which of them the goal compares, and names for comments.
 #[derive(Drop)]
 pub struct FlowFile {
     pub sorts: Vec<Sort>,
@@ -33,6 +33,9 @@ pub struct FlowFile {
     pub after: usize,
     pub rounds: u64,
     pub splits: bool,
+    /// The names of the variables and of the functions, in the order of their declarations.
+    pub variable_names: Vec<String>,
+    pub function_names: Vec<String>,
 }
 
 // Returns the sorts of the results of both graphs of the goal.
@@ -132,8 +135,13 @@ fn all_graphs(
 }
 
 // Returns the file of what is known of all items, with its goal.
-fn file_with_goal(alloc: Global, known: Known, goal: (usize, usize)) -> Result<FlowFile, TextFault>
-    ensures { Makes (Unit {0}) file_parts result (with_goal (known_parts known.entry) (Some goal)) }
+fn file_with_goal(
+    alloc: Global,
+    known: Known,
+    goal: (usize, usize),
+    names: DeclaredNames,
+) -> Result<FlowFile, TextFault>
+    ensures { Makes (Unit {0}) file_parts result (with_goal (map string_bytes names.variables.items) (map string_bytes names.functions.items) (known_parts known.entry) (Some goal)) }
 {
     let Known {
         alloc: _,
@@ -160,6 +168,8 @@ fn file_with_goal(alloc: Global, known: Known, goal: (usize, usize)) -> Result<F
         after: goal.1,
         rounds: rounds_or_one(rounds),
         splits,
+        variable_names: names.variables,
+        function_names: names.functions,
     })
 }
 
@@ -176,10 +186,11 @@ fn rounds_or_one(rounds: Option<u64>) -> u64
 fn file(alloc: Global, items: Vec<Item>) -> Result<FlowFile, TextFault>
     ensures { Makes (Unit {0}) file_parts result (file_of (items_syntax items.entry.items)) }
 {
+    let names = declared_names(alloc, &items)?;
     let known = check_items(alloc, items)?;
     match known.goal {
         None => Err(TextFault::NoGoal),
-        Some(goal) => file_with_goal(alloc, known, goal),
+        Some(goal) => file_with_goal(alloc, known, goal, names),
     }
 }
 

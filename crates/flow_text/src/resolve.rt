@@ -5,15 +5,14 @@ ghost use Rattle.text_grammar.specs.Parsed.{Makes};
 ghost use Rattle.flow_text.specs.Resolving.{operand, number_in, number_of_width, with_sort_wanted, application_of, function_in, variable_in, conversion_in, operator_on, operator_in, with_parameters, with_operand, node_in, sort_wanted, next_node, resolved};
 ghost use Rattle.flow_text.specs.Scopes.{meaning, width_named};
 ghost use Rattle.flow_text.specs.ScopeViews.{function_of, sight_parts};
-ghost use Rattle.flow_text.specs.SyntaxViews.{node_syntax, expr_syntax};
+ghost use Rattle.flow_syntax.specs.SyntaxViews.{node_syntax, expr_syntax};
 ghost use Rattle.flow_text.specs.Working.Wanting.{wanted_syntax, wanted_stack, Gives};
 
 use crate::meaning::Meaning;
 use crate::scope::Function;
 use crate::sight::{Sight, function_at, sort_at, sort_or_u64, width_named};
-use crate::terminal::spelled_number;
-use crate::written::Node;
 use flow_model::{ExprNode, Sort};
+use flow_syntax::{Node, spelled_number};
 use kat_model::{NoMemory, Width};
 use std::alloc::Global;
 use text_tokens::{TextFault, Token};
@@ -267,7 +266,7 @@ fn next_node<'a>(
 }
 
 /// Returns the expression with its names resolved, where a sort is wanted, or its first fault in text order.
-#[tactic(auto, using(crate::proofs::Stacked::pushes, crate::proofs::WantedStacks::wants, crate::proofs::ResolvedSteps::steps, crate::proofs::LastTaken::last))]
+#[tactic(auto, using(flow_syntax::proofs::Stacked::pushes, crate::proofs::WantedStacks::wants, crate::proofs::ResolvedSteps::steps, crate::proofs::LastTaken::last))]
 pub(crate) fn resolve<'a>(
     alloc: Global,
     sight: &Sight,

@@ -5,12 +5,12 @@ ghost use Rattle.text_grammar.specs.Parsed.{Makes};
 ghost use Rattle.flow_model.specs.Polish.{cond_part, cond_of};
 ghost use Rattle.flow_text.specs.Resolving.{rel_named, sort_of_sides, signed_rel_named, relation_on, width_of_sort, comparison_of, signed_comparison_of, part_of, parts_after, condition_of};
 ghost use Rattle.flow_text.specs.ScopeViews.{sight_parts};
-ghost use Rattle.flow_text.specs.SyntaxViews.{cond_node_syntax, cond_syntax, expr_syntax};
+ghost use Rattle.flow_syntax.specs.SyntaxViews.{cond_node_syntax, cond_syntax, expr_syntax};
 
 use crate::resolve_expr::resolve_expr;
 use crate::sight::Sight;
-use crate::written::{CondNode, Node};
 use flow_model::Sort;
+use flow_syntax::{CondNode, Node};
 use kat_model::{Rel, Width};
 use std::alloc::Global;
 use text_tokens::{TextFault, Token};
@@ -113,7 +113,7 @@ fn resolve_node(
     }
 }
 
-#[tactic(auto, using(crate::proofs::Stacked::pushes, crate::proofs::CondSteps::nodes, crate::proofs::LastTaken::last))]
+#[tactic(auto, using(flow_syntax::proofs::Stacked::pushes, crate::proofs::CondSteps::nodes, crate::proofs::LastTaken::last))]
 fn resolve_nodes(
     alloc: Global,
     sight: &Sight,

@@ -3,12 +3,12 @@ ghost use Rattle.text_grammar.specs.Parsed.{Makes};
 ghost use Rattle.flow_model.specs.Polish.{expr_of};
 ghost use Rattle.flow_text.specs.Resolving.{expression_of};
 ghost use Rattle.flow_text.specs.ScopeViews.{sight_parts};
-ghost use Rattle.flow_text.specs.SyntaxViews.{expr_syntax};
+ghost use Rattle.flow_syntax.specs.SyntaxViews.{expr_syntax};
 
 use crate::resolve::resolve;
 use crate::sight::Sight;
-use crate::written::Node;
 use flow_model::{ExprNode, Sort};
+use flow_syntax::Node;
 use std::alloc::Global;
 use text_tokens::TextFault;
 

@@ -6,14 +6,13 @@ ghost use Rattle.flow_text.specs.Checking.{first_sort, first_sorts, named_sorts,
 ghost use Rattle.flow_text.specs.ScopeViews.{scope_parts, sight_parts};
 ghost use Rattle.flow_text.specs.KnownViews.{graph_syntax};
 ghost use Rattle.flow_text.specs.ResultViews.{result_sorts};
-ghost use Rattle.flow_text.specs.SyntaxViews.{exprs_syntax, jump_syntax, block_syntax, blocks_syntax};
+ghost use Rattle.flow_syntax.specs.SyntaxViews.{exprs_syntax, jump_syntax, block_syntax, blocks_syntax};
 
 use crate::known::WrittenGraph;
-use crate::making_exprs::first_name;
 use crate::scope::Scope;
 use crate::sight::{Sight, sort_or_u64};
-use crate::written::{Block, Jump, Node};
 use flow_model::Sort;
+use flow_syntax::{Block, Jump, Node, first_name};
 use kat_model::NoMemory;
 use std::alloc::Global;
 
@@ -62,7 +61,7 @@ fn first_sorts(sorts: &mut [Option<Sort>], sight: &Sight, exprs: &[Vec<Node>])
 }
 
 // Returns the sorts of the first names of the expressions.
-#[tactic(auto, using(crate::proofs::Stacked::pushes, crate::proofs::LastTaken::last))]
+#[tactic(auto, using(flow_syntax::proofs::Stacked::pushes, crate::proofs::LastTaken::last))]
 fn named_sorts(
     alloc: Global,
     sight: &Sight,
@@ -139,7 +138,7 @@ impl Results {
         self.add_jump(sight, &block.jump)
     }
 
-    #[tactic(auto, using(crate::proofs::Stacked::pushes, crate::proofs::ResultSteps::results, crate::proofs::LastTaken::last))]
+    #[tactic(auto, using(flow_syntax::proofs::Stacked::pushes, crate::proofs::ResultSteps::results, crate::proofs::LastTaken::last))]
     fn add_blocks(&mut self, sight: &Sight, blocks: &[Block]) -> Result<(), NoMemory>
         ensures { OnOk result (result_sorts self.new ≡ with_all_results (sight_parts sight.now) (result_sorts self.old) (blocks_syntax blocks.now)) }
     {

@@ -3,7 +3,7 @@ ghost use Rattle.std.specs.Prelude.{◌≡◌, ◌<◌, OnOk};
 ghost use Rattle.text_tokens.specs.TokenParts.{parts_of_token};
 ghost use Rattle.problem_file.specs.Working.Walks.{Does};
 ghost use Rattle.flow_text.specs.Scopes.{no_names, meaning, may_declare, with_sort, may_have_function, with_function, with_variable, may_have_graph, with_graph_name, sorts_declared, variables_declared};
-ghost use Rattle.flow_text.specs.SyntaxViews.{tokens_syntax};
+ghost use Rattle.flow_syntax.specs.SyntaxViews.{tokens_syntax};
 ghost use Rattle.flow_text.specs.ScopeViews.{scope_parts};
 
 use crate::limits::{MAX_FUNCTIONS, MAX_SORTS, MAX_VARIABLES};
@@ -126,7 +126,7 @@ impl Scope {
     }
 
     /// Declares sorts of these names, which are from the last to the first.
-    #[tactic(auto, using(crate::proofs::Stacked::pushes, crate::proofs::Declared::declarations, crate::proofs::LastTaken::last))]
+    #[tactic(auto, using(flow_syntax::proofs::Stacked::pushes, crate::proofs::Declared::declarations, crate::proofs::LastTaken::last))]
     pub(crate) fn declare_sorts(&mut self, names: &[Token]) -> Result<(), TextFault>
         ensures { Does (Unit {0}) result (scope_parts self.new) (sorts_declared (scope_parts self.old) (tokens_syntax names.now)) }
     {
@@ -139,7 +139,7 @@ impl Scope {
     }
 
     /// Declares variables of these names, which are from the last to the first.
-    #[tactic(auto, using(crate::proofs::Stacked::pushes, crate::proofs::Declared::declarations, crate::proofs::LastTaken::last))]
+    #[tactic(auto, using(flow_syntax::proofs::Stacked::pushes, crate::proofs::Declared::declarations, crate::proofs::LastTaken::last))]
     pub(crate) fn declare_variables(&mut self, sort: Sort, names: &[Token]) -> Result<(), TextFault>
         ensures { Does (Unit {0}) result (scope_parts self.new) (variables_declared (scope_parts self.old) sort (tokens_syntax names.now)) }
     {

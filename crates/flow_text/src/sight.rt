@@ -5,13 +5,12 @@ ghost use Rattle.text_tokens.specs.TokenParts.{parts_of_token};
 ghost use Rattle.flow_text.specs.Scopes.{is_declared, meaning_in, width_named};
 ghost use Rattle.flow_text.specs.Resolving.{sort_of_meaning, sort_of_word, sort_of_first, sort_or_u64, sort_of_sides};
 ghost use Rattle.flow_text.specs.ScopeViews.{function_of, functions_of, scope_parts, sight_parts};
-ghost use Rattle.flow_text.specs.SyntaxViews.{first_syntax, expr_syntax};
+ghost use Rattle.flow_syntax.specs.SyntaxViews.{first_syntax, expr_syntax};
 
-use crate::making_exprs::{first_name, first_of};
 use crate::meaning::Meaning;
 use crate::scope::{Function, Scope};
-use crate::written::{FirstName, Node};
 use flow_model::Sort;
+use flow_syntax::{FirstName, Node, first_name, first_of};
 use kat_model::Width;
 use text_tokens::Token;
 

@@ -41,6 +41,22 @@ fn flow_files_are_read(rt: HostRuntime) -> Result<(), Fail> {
     Ok(())
 }
 
+fn is_name(names: &[String], number: usize, name: &str) -> bool {
+    match names.get(number) {
+        Some(found) => found.as_str() == name,
+        None => false,
+    }
+}
+
+#[test]
+fn names_are_kept(rt: HostRuntime) -> Result<(), Fail> {
+    let file = read(rt.alloc(), SEARCH.as_bytes())?;
+    assert!(rt; is_name(&file.variable_names, 0, "p"));
+    assert!(rt; is_name(&file.variable_names, 3, "m"));
+    assert!(rt; is_name(&file.function_names, 0, "load"));
+    Ok(())
+}
+
 // Returns the fault of a graph of this block, over `x` and `y` of u8, `a` and `b` of an opaque sort, and a function.
 fn fault_of(alloc: Global, body: &str) -> Option<TextFault> {
     let Ok(text) = format!(in alloc; "{START}{body} }} }} equal g, g;") else {

@@ -6,3 +6,4 @@ pub mod Leftmost
 pub mod ValuesMade
 pub mod MovesMade
 pub mod ReaderExamples
+pub mod KeptValues

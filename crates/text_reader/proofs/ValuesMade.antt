@@ -1,4 +1,4 @@
--- The values of a derivation, one step more at the front.
+-- The values of a derivation, with another first step.
 use Rattle.std.proofs.Common.{◌≡◌, ◌≤◌, ◌<◌, ℕ, zero, suc, ◌+◌, ◌-◌, List, [], ◌∷◌, ◌++◌, length, drop, get_or, refl, ap, arith}
 use Rattle.std.proofs.lemmas.List.{drop_more}
 use Rattle.text_tokens.specs.declared.token.Token.{Token}

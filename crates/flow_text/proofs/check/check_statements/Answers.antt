@@ -8,8 +8,8 @@ use Rattle.flow_model.specs.Polish.{statement_of}
 use Rattle.flow_text.specs.Checking as checking
 use Rattle.flow_text.specs.Checking.{statements_after}
 use Rattle.flow_text.specs.ScopeViews.{sight_parts}
-use Rattle.flow_text.specs.SyntaxViews.{statement_syntax, statements_syntax}
-use Rattle.flow_text.proofs.Stacked.{statements_none}
+use Rattle.flow_syntax.specs.SyntaxViews.{statement_syntax, statements_syntax}
+use Rattle.flow_syntax.proofs.Stacked.{statements_none}
 use Rattle.flow_text.proofs.LastTaken.{kept, left_at, ended}
 use Rattle.flow_text.proofs.ProgramResults.{fault_seen}
 use Rattle.flow_text.proofs.Checked.{statement_made, statement_refused}

@@ -2,7 +2,7 @@ use Rattle.std.proofs.Common.{◌≡◌, [], length, map}
 use Rattle.flow_model.specs.Polish.{statement_of}
 use Rattle.flow_text.specs.Checking.{statements_after}
 use Rattle.flow_text.specs.ScopeViews.{sight_parts}
-use Rattle.flow_text.specs.SyntaxViews.{statements_syntax}
+use Rattle.flow_syntax.specs.SyntaxViews.{statements_syntax}
 use Rattle.flow_text.proofs.check.check_statements.Given as goal
 
 -- the statements so far, and those that are left

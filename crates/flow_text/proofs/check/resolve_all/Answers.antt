@@ -10,7 +10,7 @@ use Rattle.flow_model.specs.Polish.{expr_of, values_of}
 use Rattle.flow_text.specs.Resolving.{expression_of}
 use Rattle.flow_text.specs.Checking.{expressions_after, expressions_of}
 use Rattle.flow_text.specs.ScopeViews.{sight_parts}
-use Rattle.flow_text.specs.SyntaxViews.{expr_syntax, exprs_syntax}
+use Rattle.flow_syntax.specs.SyntaxViews.{expr_syntax, exprs_syntax}
 use Rattle.flow_text.proofs.ProgramResults.{fault_seen}
 use Rattle.flow_text.proofs.Checked.{expression_turn, expression_fault, no_more, no_sort}
 use Rattle.flow_text.proofs.check.resolve_all.Goals as goal

@@ -2,7 +2,7 @@ use Rattle.std.proofs.Common.{◌≡◌, drop}
 use Rattle.flow_model.specs.Polish.{values_of}
 use Rattle.flow_text.specs.Checking.{expressions_after, expressions_of}
 use Rattle.flow_text.specs.ScopeViews.{sight_parts}
-use Rattle.flow_text.specs.SyntaxViews.{exprs_syntax}
+use Rattle.flow_syntax.specs.SyntaxViews.{exprs_syntax}
 use Rattle.flow_text.proofs.check.resolve_all.Given as goal
 
 -- the expressions so far, and those of the sorts that are left

@@ -7,8 +7,8 @@ use Rattle.text_tokens.specs.TokenParts.{parts_of_token}
 use Rattle.flow_model.specs.declared.sort.Sort.{Sort}
 use Rattle.flow_text.specs.Checking.{next_target, targets_after}
 use Rattle.flow_text.specs.ScopeViews.{sight_parts}
-use Rattle.flow_text.specs.SyntaxViews.{tokens_syntax}
-use Rattle.flow_text.proofs.Stacked.{tokens_none}
+use Rattle.flow_syntax.specs.SyntaxViews.{tokens_syntax}
+use Rattle.flow_syntax.proofs.Stacked.{tokens_none}
 use Rattle.flow_text.proofs.LastTaken.{kept, left_at, ended}
 use Rattle.flow_text.proofs.ProgramResults.{fault_made}
 use Rattle.flow_text.proofs.Checked.{target_made, target_refused}

@@ -1,7 +1,7 @@
 use Rattle.std.proofs.Common.{◌≡◌, [], length}
 use Rattle.flow_text.specs.Checking.{targets_after}
 use Rattle.flow_text.specs.ScopeViews.{sight_parts}
-use Rattle.flow_text.specs.SyntaxViews.{tokens_syntax}
+use Rattle.flow_syntax.specs.SyntaxViews.{tokens_syntax}
 use Rattle.flow_text.proofs.check.targets.Given as goal
 
 -- the targets so far, and those of the names that are left

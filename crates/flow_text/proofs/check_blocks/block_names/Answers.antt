@@ -2,7 +2,7 @@ use Rattle.std.proofs.Common.{◌≡◌, ℕ, ◌+◌, ◌-◌, List, length, ta
 use mathlib.Core.Path.{fun_ext}
 use Rattle.std.specs.BTreeMap.{get_by_text}
 use Rattle.flow_text.specs.Checking.{found, block_names}
-use Rattle.flow_text.specs.SyntaxViews.{blocks_syntax}
+use Rattle.flow_syntax.specs.SyntaxViews.{blocks_syntax}
 use Rattle.flow_text.proofs.BlockLists.{none_found, name_found}
 use Rattle.flow_text.proofs.check_blocks.block_names.Goals as goal
 

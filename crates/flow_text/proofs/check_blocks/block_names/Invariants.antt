@@ -1,7 +1,7 @@
 use Rattle.std.proofs.Common.{◌≡◌, ℕ, ◌+◌, List, length, take}
 use Rattle.std.specs.BTreeMap.{get_by_text}
 use Rattle.flow_text.specs.Checking.{found, block_names}
-use Rattle.flow_text.specs.SyntaxViews.{blocks_syntax}
+use Rattle.flow_syntax.specs.SyntaxViews.{blocks_syntax}
 use Rattle.flow_text.proofs.check_blocks.block_names.Given as goal
 
 -- the names of the last blocks, numbered from `number` on

@@ -10,8 +10,8 @@ use Rattle.flow_model.specs.declared.graph.Block.{Block}
 use Rattle.flow_model.specs.Polish.{block_of, graph_of}
 use Rattle.flow_text.specs.Checking.{next_block, blocks_after}
 use Rattle.flow_text.specs.ScopeViews.{sight_parts}
-use Rattle.flow_text.specs.SyntaxViews.{block_syntax, blocks_syntax}
-use Rattle.flow_text.proofs.Stacked.{blocks_none}
+use Rattle.flow_syntax.specs.SyntaxViews.{block_syntax, blocks_syntax}
+use Rattle.flow_syntax.proofs.Stacked.{blocks_none}
 use Rattle.flow_text.proofs.LastTaken.{kept, left_at, ended}
 use Rattle.flow_text.proofs.ProgramResults.{fault_seen}
 use Rattle.flow_text.proofs.GraphSteps.{block_made, block_refused}

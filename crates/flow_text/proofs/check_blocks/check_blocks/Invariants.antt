@@ -5,7 +5,7 @@ use Rattle.flow_model.specs.declared.sort.Sort.{Sort}
 use Rattle.flow_model.specs.Polish.{graph_of}
 use Rattle.flow_text.specs.Checking.{blocks_after}
 use Rattle.flow_text.specs.ScopeViews.{sight_parts}
-use Rattle.flow_text.specs.SyntaxViews.{blocks_syntax}
+use Rattle.flow_syntax.specs.SyntaxViews.{blocks_syntax}
 use Rattle.flow_text.proofs.check_blocks.check_blocks.Given as goal
 
 -- the blocks so far, and those that are left

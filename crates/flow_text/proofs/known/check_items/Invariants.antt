@@ -1,7 +1,7 @@
 use Rattle.std.proofs.Common.{◌≡◌, length}
 use Rattle.flow_text.specs.Checking.{nothing_known, items_known}
 use Rattle.flow_text.specs.KnownViews.{known_parts}
-use Rattle.flow_text.specs.SyntaxViews.{items_syntax}
+use Rattle.flow_syntax.specs.SyntaxViews.{items_syntax}
 use Rattle.flow_text.proofs.known.check_items.Given as goal
 
 -- what is known so far, and the items that are left

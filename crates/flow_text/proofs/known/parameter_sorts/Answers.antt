@@ -6,8 +6,8 @@ use Rattle.text_tokens.specs.declared.fault.TextFault.{TextFault}
 use Rattle.flow_model.specs.declared.sort.Sort.{Sort}
 use Rattle.flow_text.specs.Scopes.{parameters_after}
 use Rattle.flow_text.specs.ScopeViews.{scope_parts}
-use Rattle.flow_text.specs.SyntaxViews.{tokens_syntax}
-use Rattle.flow_text.proofs.Stacked.{tokens_none}
+use Rattle.flow_syntax.specs.SyntaxViews.{tokens_syntax}
+use Rattle.flow_syntax.proofs.Stacked.{tokens_none}
 use Rattle.flow_text.proofs.LastTaken.{kept, left_at, ended}
 use Rattle.flow_text.proofs.ProgramResults.{fault_made}
 use Rattle.flow_text.proofs.KnownSteps.{parameter_made, parameter_refused}

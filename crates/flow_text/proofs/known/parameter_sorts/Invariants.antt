@@ -1,7 +1,7 @@
 use Rattle.std.proofs.Common.{◌≡◌, [], length}
 use Rattle.flow_text.specs.Scopes.{parameters_after}
 use Rattle.flow_text.specs.ScopeViews.{scope_parts}
-use Rattle.flow_text.specs.SyntaxViews.{tokens_syntax}
+use Rattle.flow_syntax.specs.SyntaxViews.{tokens_syntax}
 use Rattle.flow_text.proofs.known.parameter_sorts.Given as goal
 
 -- the sorts so far, and those of the tokens that are left

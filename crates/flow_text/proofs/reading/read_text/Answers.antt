@@ -3,11 +3,11 @@ use Rattle.std.proofs.lemmas.Result.{err_from_is_err_and}
 use Rattle.text_tokens.specs.declared.fault.TextFault.{TextFault}
 use Rattle.text_tokens.specs.TokenParts.{parts_of_tokens}
 use Rattle.text_reader.specs.Derivations.{IsReaderFault}
-use Rattle.flow_text.specs.declared.phrase.TheConstants.{FILE}
-use Rattle.flow_text.specs.Terminals.{mark_of}
-use Rattle.flow_text.specs.SyntaxViews.{items_syntax}
-use Rattle.flow_text.specs.Productions.{rules}
-use Rattle.flow_text.specs.Spelling.{AreSpelled}
+use Rattle.flow_syntax.specs.declared.phrase.TheConstants.{FILE}
+use Rattle.flow_syntax.specs.Terminals.{mark_of}
+use Rattle.flow_syntax.specs.SyntaxViews.{items_syntax}
+use Rattle.flow_syntax.specs.Productions.{rules}
+use Rattle.flow_syntax.specs.Spelling.{AreSpelled}
 use Rattle.flow_text.specs.Texts.{Answers}
 use Rattle.flow_text.proofs.OneAnswer.{bad_told, syntax_told, file_told}
 use Rattle.flow_text.proofs.reading.read_text.Goals as goal

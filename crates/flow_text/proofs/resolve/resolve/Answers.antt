@@ -6,7 +6,7 @@ use Rattle.text_tokens.specs.declared.fault.TextFault.{TextFault}
 use Rattle.flow_model.specs.declared.graph.ExprNode.{ExprNode}
 use Rattle.flow_text.specs.Resolving.{nodes_after, next_node, resolved}
 use Rattle.flow_text.specs.ScopeViews.{sight_parts}
-use Rattle.flow_text.specs.SyntaxViews.{node_syntax, expr_syntax}
+use Rattle.flow_syntax.specs.SyntaxViews.{node_syntax, expr_syntax}
 use Rattle.flow_text.specs.Working.Wanting.{wanted_syntax, wanted_stack}
 use Rattle.flow_text.proofs.LastTaken.{before_last}
 use Rattle.flow_text.proofs.ResolvedSteps.{node_kept, node_refused, none_wanted, none_left, fault_given}

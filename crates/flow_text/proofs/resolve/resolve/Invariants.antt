@@ -1,7 +1,7 @@
 use Rattle.std.proofs.Common.{◌≡◌, length}
 use Rattle.flow_text.specs.Resolving.{nodes_after, resolved}
 use Rattle.flow_text.specs.ScopeViews.{sight_parts}
-use Rattle.flow_text.specs.SyntaxViews.{expr_syntax}
+use Rattle.flow_syntax.specs.SyntaxViews.{expr_syntax}
 use Rattle.flow_text.specs.Working.Wanting.{wanted_stack}
 use Rattle.flow_text.proofs.resolve.resolve.Given as goal
 

@@ -7,8 +7,8 @@ use Rattle.flow_model.specs.declared.graph.CondNode.{CondNode}
 use Rattle.flow_model.specs.Polish.{cond_part}
 use Rattle.flow_text.specs.Resolving.{part_of, parts_after}
 use Rattle.flow_text.specs.ScopeViews.{sight_parts}
-use Rattle.flow_text.specs.SyntaxViews.{cond_node_syntax, cond_syntax}
-use Rattle.flow_text.proofs.Stacked.{cond_none}
+use Rattle.flow_syntax.specs.SyntaxViews.{cond_node_syntax, cond_syntax}
+use Rattle.flow_syntax.proofs.Stacked.{cond_none}
 use Rattle.flow_text.proofs.LastTaken.{kept, left_at, ended}
 use Rattle.flow_text.proofs.ProgramResults.{fault_seen}
 use Rattle.flow_text.proofs.CondSteps.{node_made, node_refused}

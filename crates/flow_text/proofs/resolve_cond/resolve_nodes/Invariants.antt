@@ -2,7 +2,7 @@ use Rattle.std.proofs.Common.{◌≡◌, [], length, map}
 use Rattle.flow_model.specs.Polish.{cond_part}
 use Rattle.flow_text.specs.Resolving.{parts_after}
 use Rattle.flow_text.specs.ScopeViews.{sight_parts}
-use Rattle.flow_text.specs.SyntaxViews.{cond_syntax}
+use Rattle.flow_syntax.specs.SyntaxViews.{cond_syntax}
 use Rattle.flow_text.proofs.resolve_cond.resolve_nodes.Given as goal
 
 -- the nodes so far, and those that are left

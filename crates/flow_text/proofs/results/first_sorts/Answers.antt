@@ -1,10 +1,10 @@
 use Rattle.std.proofs.Common.{◌<◌, ◌≤◌, length, None, ap, ◌∙◌, arith}
 use Rattle.std.proofs.lemmas.List.{set-get_or}
-use Rattle.flow_text.specs.Actions.{first_name}
+use Rattle.flow_syntax.specs.Actions.{first_name}
 use Rattle.flow_text.specs.Resolving.{sort_of_first}
 use Rattle.flow_text.specs.Checking.{first_sort, first_sorts}
 use Rattle.flow_text.specs.ScopeViews.{sight_parts}
-use Rattle.flow_text.specs.SyntaxViews.{expr_syntax, exprs_syntax}
+use Rattle.flow_syntax.specs.SyntaxViews.{expr_syntax, exprs_syntax}
 use Rattle.flow_text.proofs.ResultSteps.{sort_set, no_expression, no_place}
 use Rattle.flow_text.proofs.results.first_sorts.Goals as goal
 

@@ -1,7 +1,7 @@
 use Rattle.std.proofs.Common.{◌≡◌, ◌++◌, drop, take}
 use Rattle.flow_text.specs.Checking.{first_sorts}
 use Rattle.flow_text.specs.ScopeViews.{sight_parts}
-use Rattle.flow_text.specs.SyntaxViews.{exprs_syntax}
+use Rattle.flow_syntax.specs.SyntaxViews.{exprs_syntax}
 use Rattle.flow_text.proofs.results.first_sorts.Given as goal
 
 -- the sorts so far, and those of the places that are left

@@ -1,13 +1,13 @@
 use Rattle.std.proofs.Common.{◌≡◌, ◌-◌, List, [], ◌∷◌, ◌++◌, length, take, Option, sym, ap, subst, ◌∙◌}
 use Rattle.std.proofs.lemmas.List.{append-nil}
 use Rattle.flow_model.specs.declared.sort.Sort.{Sort}
-use Rattle.flow_text.specs.Syntax.{ExprSyntax}
-use Rattle.flow_text.specs.Actions.{first_name}
+use Rattle.flow_syntax.specs.Syntax.{ExprSyntax}
+use Rattle.flow_syntax.specs.Actions.{first_name}
 use Rattle.flow_text.specs.Resolving.{sort_of_first}
 use Rattle.flow_text.specs.Checking.{named_sorts}
 use Rattle.flow_text.specs.ScopeViews.{sight_parts}
-use Rattle.flow_text.specs.SyntaxViews.{expr_syntax, exprs_syntax}
-use Rattle.flow_text.proofs.Stacked.{exprs_none}
+use Rattle.flow_syntax.specs.SyntaxViews.{expr_syntax, exprs_syntax}
+use Rattle.flow_syntax.proofs.Stacked.{exprs_none}
 use Rattle.flow_text.proofs.LastTaken.{kept, ended}
 use Rattle.flow_text.proofs.ResultSteps.{named_more}
 use Rattle.flow_text.proofs.results.named_sorts.Goals as goal

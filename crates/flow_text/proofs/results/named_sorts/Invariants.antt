@@ -1,7 +1,7 @@
 use Rattle.std.proofs.Common.{◌≡◌, ◌++◌, length}
 use Rattle.flow_text.specs.Checking.{named_sorts}
 use Rattle.flow_text.specs.ScopeViews.{sight_parts}
-use Rattle.flow_text.specs.SyntaxViews.{exprs_syntax}
+use Rattle.flow_syntax.specs.SyntaxViews.{exprs_syntax}
 use Rattle.flow_text.proofs.results.named_sorts.Given as goal
 
 -- the sorts so far, and those of the expressions that are left

@@ -2,8 +2,8 @@ use Rattle.std.proofs.Common.{sym}
 use Rattle.flow_text.specs.Checking.{with_all_results}
 use Rattle.flow_text.specs.ScopeViews.{sight_parts}
 use Rattle.flow_text.specs.ResultViews.{result_sorts}
-use Rattle.flow_text.specs.SyntaxViews.{blocks_syntax}
-use Rattle.flow_text.proofs.Stacked.{blocks_none}
+use Rattle.flow_syntax.specs.SyntaxViews.{blocks_syntax}
+use Rattle.flow_syntax.proofs.Stacked.{blocks_none}
 use Rattle.flow_text.proofs.LastTaken.{kept, ended}
 use Rattle.flow_text.proofs.ResultSteps.{results_more}
 use Rattle.flow_text.proofs.results.Results.add_blocks.Goals as goal

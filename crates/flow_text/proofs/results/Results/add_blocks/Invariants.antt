@@ -2,7 +2,7 @@ use Rattle.std.proofs.Common.{◌≡◌, length}
 use Rattle.flow_text.specs.Checking.{with_all_results}
 use Rattle.flow_text.specs.ScopeViews.{sight_parts}
 use Rattle.flow_text.specs.ResultViews.{result_sorts}
-use Rattle.flow_text.specs.SyntaxViews.{blocks_syntax}
+use Rattle.flow_syntax.specs.SyntaxViews.{blocks_syntax}
 use Rattle.flow_text.proofs.results.Results.add_blocks.Given as goal
 
 -- the results so far, and those of the blocks that are left

@@ -1,7 +1,7 @@
 use Rattle.std.proofs.Common.{◌≡◌, length}
 use Rattle.flow_text.specs.Scopes.{sorts_declared}
 use Rattle.flow_text.specs.ScopeViews.{scope_parts}
-use Rattle.flow_text.specs.SyntaxViews.{tokens_syntax}
+use Rattle.flow_syntax.specs.SyntaxViews.{tokens_syntax}
 use Rattle.flow_text.proofs.scope.Scope.declare_sorts.Given as goal
 
 -- the names that are left are declared after those so far

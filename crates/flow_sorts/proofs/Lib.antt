@@ -1,0 +1,5 @@
+pub mod Holding
+pub mod SortedNodes
+pub mod SortedGraphs
+pub mod SortedFiles
+pub mod NamedLines

@@ -1,0 +1,17 @@
+//! Laws of the definitions. Each function does nothing: its contract is the law.
+ghost use Rattle.std.specs.Prelude.{ℕ, List, All};
+ghost use Rattle.problem_texts.specs.CommentedTexts.{IsComment};
+ghost use Rattle.flow_text.specs.Checking.{FlowFileParts, pair_of};
+ghost use Rattle.flow_text.specs.Texts.{IsFlowText};
+ghost use Rattle.flow_problem.specs.PlacedProblems.{IsFlowPair};
+
+/// Both graphs of the goal of a flow file have a block, and each of their expressions has the sort that its place
+/// requires.
+pub fn files_are_sorted()
+    ensures { (text : List ℕ) (f : FlowFileParts) → IsFlowText text f → IsFlowPair (pair_of f) }
+{}
+
+/// The names of the variables and of the functions of a flow file may be comments: they are UTF-8 without a line feed.
+pub fn names_are_lines()
+    ensures { (text : List ℕ) (f : FlowFileParts) → IsFlowText text f → All IsComment f.variable_names × All IsComment f.function_names }
+{}

@@ -1,0 +1,11 @@
+pub mod GrammarExamples
+pub mod Reversed
+pub mod TokensTaken
+pub mod Stacked
+pub mod Taken
+pub mod NodeLists
+pub mod LastMembers
+pub mod NamedSyntax
+pub mod WholeSyntax
+pub mod SpelledWhole
+pub mod NamedValues

@@ -1,0 +1,22 @@
+-- A derivation takes all tokens, and its value is what they spell.
+use Rattle.std.proofs.Common.{◌≡◌, ℕ, List, length, map, sym, ◌∙◌}
+use Rattle.std.proofs.lemmas.List.{length-map}
+use Rattle.text_tokens.specs.declared.token.Token.{Token}
+use Rattle.text_tokens.specs.TokenParts.{TokenParts, parts_of_token, parts_of_tokens}
+use Rattle.text_reader.specs.declared.rule.Step.{Step}
+use Rattle.text_reader.specs.Derivations.{Derives}
+use Rattle.text_reader.specs.Values.{count_taken, values}
+use Rattle.text_reader.proofs.ValuesMade.{derived_taken}
+use Rattle.flow_syntax.specs.declared.phrase.TheConstants.{FILE}
+use Rattle.flow_syntax.specs.Terminals.{mark_of}
+use Rattle.flow_syntax.specs.Syntax.{ItemSyntax}
+use Rattle.flow_syntax.specs.Actions.{first, items_in}
+use Rattle.flow_syntax.specs.Productions.{rules, actions}
+use Rattle.flow_syntax.specs.Spelling.{AreSpelled}
+
+pub all_taken : (toks : List Token) (end : ℕ) (steps : List Step) → Derives rules FILE (map mark_of (parts_of_tokens toks)) end steps → count_taken steps ≡ length toks
+all_taken toks end steps d =
+    derived_taken rules FILE (map mark_of (parts_of_tokens toks)) end steps d ∙ length-map (parts_of_tokens toks) mark_of ∙ length-map toks parts_of_token
+
+pub are_spelled : (tokens : List TokenParts) (end : ℕ) (steps : List Step) (is : List ItemSyntax) → Derives rules FILE (map mark_of tokens) end steps → is ≡ items_in (first (values actions steps tokens)) → AreSpelled tokens end is
+are_spelled tokens end steps is d e = record { steps = steps; derived = d; value = sym e }

@@ -1,0 +1,18 @@
+use Rattle.std.proofs.Common.{◌≡◌, [], arith}
+use Rattle.flow_syntax.specs.Actions.{statements_in}
+use Rattle.flow_syntax.specs.SyntaxViews.{value_syntax}
+use Rattle.flow_syntax.proofs.Stacked.{statements_none}
+use Rattle.flow_syntax.proofs.Taken.{statements_held, jump_held, no_statements_held, no_jump_held}
+use Rattle.flow_syntax.proofs.stack.body_in.Goals as goal
+
+pub returns-in-Body-clause-statements : goal.returns-in-Body-clause-statements
+returns-in-Body-clause-statements c = statements_held c.args.value c.in-Body.statements c.in-Body.jump c.in-Body.is
+
+pub returns-in-Body-clause-jump : goal.returns-in-Body-clause-jump
+returns-in-Body-clause-jump c = jump_held c.args.value c.in-Body.statements c.in-Body.jump c.in-Body.is
+
+pub returns-clause-statements : goal.returns-clause-statements
+returns-clause-statements c = let none : [] ≡ statements_in (value_syntax c.args.value) = no_statements_held c.args.value c.in_default.not-Body in grind (arith, statements_none)
+
+pub returns-clause-jump : goal.returns-clause-jump
+returns-clause-jump c = no_jump_held c.args.value c.in_default.not-Body

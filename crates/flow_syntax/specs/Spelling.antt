@@ -1,0 +1,17 @@
+-- What tokens spell.
+use Rattle.std.specs.Prelude.{◌≡◌, ℕ, List, map}
+use Rattle.text_tokens.specs.TokenParts.{TokenParts}
+use Rattle.text_reader.specs.declared.rule.Step.{Step}
+use Rattle.text_reader.specs.Derivations.{Derives}
+use Rattle.text_reader.specs.Values.{values}
+use Rattle.flow_syntax.specs.declared.phrase.TheConstants.{FILE}
+use Rattle.flow_syntax.specs.Terminals.{mark_of}
+use Rattle.flow_syntax.specs.Syntax.{ItemSyntax}
+use Rattle.flow_syntax.specs.Actions.{first, items_in}
+use Rattle.flow_syntax.specs.Productions.{rules, actions}
+
+-- the tokens of a text of `end` bytes spell these items: the items are the value of their derivation
+pub record AreSpelled (tokens : List TokenParts) (end : ℕ) (is : List ItemSyntax) : Type 0 where
+  pub steps : List Step
+  pub derived : Derives rules FILE (map mark_of tokens) end steps
+  pub value : items_in (first (values actions steps tokens)) ≡ is

@@ -1,0 +1,211 @@
+//! What productions make of statements, jumps and blocks.
+ghost use Rattle.std.specs.Prelude.{◌≡◌, ◌∷◌, [], OnOk};
+ghost use Rattle.flow_syntax.specs.Actions.{body, bodies_done};
+ghost use Rattle.flow_syntax.specs.SyntaxViews.{stack_syntax, jump_syntax};
+
+use crate::action::BodyAction;
+use crate::stack::{
+    push, skip, take_blocks, take_body, take_cond, take_expr, take_exprs, take_token, take_tokens,
+};
+use crate::value::Value;
+use crate::written::{Block, Jump, Statement};
+use kat_model::NoMemory;
+use std::alloc::Global;
+
+#[tactic(auto, using(crate::proofs::Stacked::pushes))]
+fn assigning(alloc: Global, stack: &mut Vec<Value>) -> Result<(), NoMemory>
+    ensures { OnOk result (stack_syntax stack.new.items ≡ bodies_done BodyAction.Assigning (stack_syntax stack.old.items)) }
+{
+    let target = take_token(stack);
+    let mut targets = take_tokens(alloc, stack);
+    let becomes = take_token(stack);
+    let value = take_expr(alloc, stack);
+    let mut values = take_exprs(alloc, stack);
+    skip(stack);
+    let (mut statements, jump) = take_body(alloc, stack);
+    targets.push(target)?;
+    values.push(value)?;
+    statements.push(Statement::Assign(targets, becomes, values))?;
+    push(stack, Value::Body(statements, jump))?;
+    Ok(())
+}
+
+#[tactic(auto, using(crate::proofs::Stacked::pushes))]
+fn asserting(alloc: Global, stack: &mut Vec<Value>) -> Result<(), NoMemory>
+    ensures { OnOk result (stack_syntax stack.new.items ≡ bodies_done BodyAction.Asserting (stack_syntax stack.old.items)) }
+{
+    skip(stack);
+    let cond = take_cond(alloc, stack);
+    skip(stack);
+    let (mut statements, jump) = take_body(alloc, stack);
+    statements.push(Statement::Claim(cond))?;
+    push(stack, Value::Body(statements, jump))?;
+    Ok(())
+}
+
+#[tactic(auto, using(crate::proofs::Stacked::pushes))]
+fn push_jump<'a>(alloc: Global, stack: &mut Vec<Value<'a>>, jump: Jump<'a>) -> Result<(), NoMemory>
+    ensures { OnOk result (stack_syntax stack.new.items ≡ body [] (jump_syntax jump.entry) ∷ stack_syntax stack.old.items) }
+{
+    push(stack, Value::Body(Vec::new(alloc), jump))?;
+    Ok(())
+}
+
+#[tactic(auto, using(crate::proofs::Stacked::pushes))]
+fn going(alloc: Global, stack: &mut Vec<Value>) -> Result<(), NoMemory>
+    ensures { OnOk result (stack_syntax stack.new.items ≡ bodies_done BodyAction.Going (stack_syntax stack.old.items)) }
+{
+    skip(stack);
+    let block = take_token(stack);
+    skip(stack);
+    push_jump(alloc, stack, Jump::Goto(block))?;
+    Ok(())
+}
+
+#[tactic(auto, using(crate::proofs::Stacked::pushes))]
+fn branching(alloc: Global, stack: &mut Vec<Value>) -> Result<(), NoMemory>
+    ensures { OnOk result (stack_syntax stack.new.items ≡ bodies_done BodyAction.Branching (stack_syntax stack.old.items)) }
+{
+    skip(stack);
+    let cond = take_cond(alloc, stack);
+    skip(stack);
+    let block = take_token(stack);
+    skip(stack);
+    let other = take_token(stack);
+    skip(stack);
+    push_jump(alloc, stack, Jump::Branch(cond, block, other))?;
+    Ok(())
+}
+
+#[tactic(auto, using(crate::proofs::Stacked::pushes))]
+fn returning(alloc: Global, stack: &mut Vec<Value>) -> Result<(), NoMemory>
+    ensures { OnOk result (stack_syntax stack.new.items ≡ bodies_done BodyAction.Returning (stack_syntax stack.old.items)) }
+{
+    let word = take_token(stack);
+    let values = take_exprs(alloc, stack);
+    push_jump(alloc, stack, Jump::Return(word, values))?;
+    Ok(())
+}
+
+#[tactic(auto, using(crate::proofs::Stacked::pushes))]
+fn aborting(alloc: Global, stack: &mut Vec<Value>) -> Result<(), NoMemory>
+    ensures { OnOk result (stack_syntax stack.new.items ≡ bodies_done BodyAction.Aborting (stack_syntax stack.old.items)) }
+{
+    skip(stack);
+    skip(stack);
+    push_jump(alloc, stack, Jump::Abort)?;
+    Ok(())
+}
+
+#[tactic(auto, using(crate::proofs::Stacked::pushes))]
+fn no_blocks(alloc: Global, stack: &mut Vec<Value>) -> Result<(), NoMemory>
+    ensures { OnOk result (stack_syntax stack.new.items ≡ bodies_done BodyAction.NoBlocks (stack_syntax stack.old.items)) }
+{
+    push(stack, Value::Blocks(Vec::new(alloc)))?;
+    Ok(())
+}
+
+#[tactic(auto, using(crate::proofs::Stacked::pushes))]
+fn next_plain_block(alloc: Global, stack: &mut Vec<Value>) -> Result<(), NoMemory>
+    ensures { OnOk result (stack_syntax stack.new.items ≡ bodies_done BodyAction.NextPlainBlock (stack_syntax stack.old.items)) }
+{
+    skip(stack);
+    let name = take_token(stack);
+    skip(stack);
+    let (statements, jump) = take_body(alloc, stack);
+    skip(stack);
+    let mut blocks = take_blocks(alloc, stack);
+    blocks.push(Block {
+        is_cut: false,
+        name,
+        statements,
+        jump,
+    })?;
+    push(stack, Value::Blocks(blocks))?;
+    Ok(())
+}
+
+#[tactic(auto, using(crate::proofs::Stacked::pushes))]
+fn next_cut_block(alloc: Global, stack: &mut Vec<Value>) -> Result<(), NoMemory>
+    ensures { OnOk result (stack_syntax stack.new.items ≡ bodies_done BodyAction.NextCutBlock (stack_syntax stack.old.items)) }
+{
+    skip(stack);
+    skip(stack);
+    let name = take_token(stack);
+    skip(stack);
+    let (statements, jump) = take_body(alloc, stack);
+    skip(stack);
+    let mut blocks = take_blocks(alloc, stack);
+    blocks.push(Block {
+        is_cut: true,
+        name,
+        statements,
+        jump,
+    })?;
+    push(stack, Value::Blocks(blocks))?;
+    Ok(())
+}
+
+#[tactic(auto, using(crate::proofs::Stacked::pushes))]
+fn plain_block(alloc: Global, stack: &mut Vec<Value>) -> Result<(), NoMemory>
+    ensures { OnOk result (stack_syntax stack.new.items ≡ bodies_done BodyAction.PlainBlock (stack_syntax stack.old.items)) }
+{
+    skip(stack);
+    let name = take_token(stack);
+    skip(stack);
+    let (statements, jump) = take_body(alloc, stack);
+    skip(stack);
+    let mut blocks = Vec::new(alloc);
+    blocks.push(Block {
+        is_cut: false,
+        name,
+        statements,
+        jump,
+    })?;
+    push(stack, Value::Blocks(blocks))?;
+    Ok(())
+}
+
+#[tactic(auto, using(crate::proofs::Stacked::pushes))]
+fn cut_block(alloc: Global, stack: &mut Vec<Value>) -> Result<(), NoMemory>
+    ensures { OnOk result (stack_syntax stack.new.items ≡ bodies_done BodyAction.CutBlock (stack_syntax stack.old.items)) }
+{
+    skip(stack);
+    skip(stack);
+    let name = take_token(stack);
+    skip(stack);
+    let (statements, jump) = take_body(alloc, stack);
+    skip(stack);
+    let mut blocks = Vec::new(alloc);
+    blocks.push(Block {
+        is_cut: true,
+        name,
+        statements,
+        jump,
+    })?;
+    push(stack, Value::Blocks(blocks))?;
+    Ok(())
+}
+
+/// Replaces the values of the parts by that of the phrase. Fails only when out of memory.
+pub(crate) fn make_bodies(
+    alloc: Global,
+    action: BodyAction,
+    stack: &mut Vec<Value>,
+) -> Result<(), NoMemory>
+    ensures { OnOk result (stack_syntax stack.new.items ≡ bodies_done action (stack_syntax stack.old.items)) }
+{
+    match action {
+        BodyAction::Assigning => assigning(alloc, stack),
+        BodyAction::Asserting => asserting(alloc, stack),
+        BodyAction::Going => going(alloc, stack),
+        BodyAction::Branching => branching(alloc, stack),
+        BodyAction::Returning => returning(alloc, stack),
+        BodyAction::Aborting => aborting(alloc, stack),
+        BodyAction::CutBlock => cut_block(alloc, stack),
+        BodyAction::PlainBlock => plain_block(alloc, stack),
+        BodyAction::NoBlocks => no_blocks(alloc, stack),
+        BodyAction::NextCutBlock => next_cut_block(alloc, stack),
+        BodyAction::NextPlainBlock => next_plain_block(alloc, stack),
+    }
+}

@@ -1,0 +1,139 @@
+//! What productions make of items.
+ghost use Rattle.std.specs.Prelude.{◌≡◌, OnOk};
+ghost use Rattle.flow_syntax.specs.Actions.{items_done};
+ghost use Rattle.flow_syntax.specs.SyntaxViews.{stack_syntax};
+
+use crate::action::ItemAction;
+use crate::stack::{push, skip, take_blocks, take_items, take_token, take_tokens};
+use crate::value::Value;
+use crate::written::Item;
+use kat_model::NoMemory;
+use std::alloc::Global;
+
+#[tactic(auto, using(crate::proofs::Stacked::pushes))]
+fn no_items(alloc: Global, stack: &mut Vec<Value>) -> Result<(), NoMemory>
+    ensures { OnOk result (stack_syntax stack.new.items ≡ items_done ItemAction.NoItems (stack_syntax stack.old.items)) }
+{
+    push(stack, Value::Items(Vec::new(alloc)))?;
+    Ok(())
+}
+
+#[tactic(auto, using(crate::proofs::Stacked::pushes))]
+fn sorts_item(alloc: Global, stack: &mut Vec<Value>) -> Result<(), NoMemory>
+    ensures { OnOk result (stack_syntax stack.new.items ≡ items_done ItemAction.SortsItem (stack_syntax stack.old.items)) }
+{
+    let word = take_token(stack);
+    let names = take_tokens(alloc, stack);
+    skip(stack);
+    let mut items = take_items(alloc, stack);
+    items.push(Item::Sorts(word, names))?;
+    push(stack, Value::Items(items))?;
+    Ok(())
+}
+
+#[tactic(auto, using(crate::proofs::Stacked::pushes))]
+fn function_item(alloc: Global, stack: &mut Vec<Value>) -> Result<(), NoMemory>
+    ensures { OnOk result (stack_syntax stack.new.items ≡ items_done ItemAction.FunctionItem (stack_syntax stack.old.items)) }
+{
+    let word = take_token(stack);
+    let result_sort = take_token(stack);
+    let name = take_token(stack);
+    skip(stack);
+    let parameters = take_tokens(alloc, stack);
+    skip(stack);
+    let mut items = take_items(alloc, stack);
+    items.push(Item::Function(word, result_sort, name, parameters))?;
+    push(stack, Value::Items(items))?;
+    Ok(())
+}
+
+#[tactic(auto, using(crate::proofs::Stacked::pushes))]
+fn variables_item(alloc: Global, stack: &mut Vec<Value>) -> Result<(), NoMemory>
+    ensures { OnOk result (stack_syntax stack.new.items ≡ items_done ItemAction.VariablesItem (stack_syntax stack.old.items)) }
+{
+    let word = take_token(stack);
+    let sort = take_token(stack);
+    let names = take_tokens(alloc, stack);
+    skip(stack);
+    let mut items = take_items(alloc, stack);
+    items.push(Item::Variables(word, sort, names))?;
+    push(stack, Value::Items(items))?;
+    Ok(())
+}
+
+#[tactic(auto, using(crate::proofs::Stacked::pushes, crate::proofs::Reversed::blocks_append))]
+fn graph_item(alloc: Global, stack: &mut Vec<Value>) -> Result<(), NoMemory>
+    ensures { OnOk result (stack_syntax stack.new.items ≡ items_done ItemAction.GraphItem (stack_syntax stack.old.items)) }
+{
+    let word = take_token(stack);
+    let name = take_token(stack);
+    skip(stack);
+    let mut first = take_blocks(alloc, stack);
+    let mut blocks = take_blocks(alloc, stack);
+    blocks.append(&mut first)?;
+    skip(stack);
+    let mut items = take_items(alloc, stack);
+    items.push(Item::Graph(word, name, blocks))?;
+    push(stack, Value::Items(items))?;
+    Ok(())
+}
+
+#[tactic(auto, using(crate::proofs::Stacked::pushes))]
+fn rounds_item(alloc: Global, stack: &mut Vec<Value>) -> Result<(), NoMemory>
+    ensures { OnOk result (stack_syntax stack.new.items ≡ items_done ItemAction.RoundsItem (stack_syntax stack.old.items)) }
+{
+    let word = take_token(stack);
+    let number = take_token(stack);
+    skip(stack);
+    let mut items = take_items(alloc, stack);
+    items.push(Item::Rounds(word, number))?;
+    push(stack, Value::Items(items))?;
+    Ok(())
+}
+
+#[tactic(auto, using(crate::proofs::Stacked::pushes))]
+fn split_item(alloc: Global, stack: &mut Vec<Value>) -> Result<(), NoMemory>
+    ensures { OnOk result (stack_syntax stack.new.items ≡ items_done ItemAction.SplitItem (stack_syntax stack.old.items)) }
+{
+    let word = take_token(stack);
+    skip(stack);
+    let mut items = take_items(alloc, stack);
+    items.push(Item::Split(word))?;
+    push(stack, Value::Items(items))?;
+    Ok(())
+}
+
+#[tactic(auto, using(crate::proofs::Stacked::pushes))]
+fn equal_item(alloc: Global, stack: &mut Vec<Value>) -> Result<(), NoMemory>
+    ensures { OnOk result (stack_syntax stack.new.items ≡ items_done ItemAction.EqualItem (stack_syntax stack.old.items)) }
+{
+    let word = take_token(stack);
+    let before = take_token(stack);
+    skip(stack);
+    let after = take_token(stack);
+    skip(stack);
+    let mut items = take_items(alloc, stack);
+    items.push(Item::Equal(word, before, after))?;
+    push(stack, Value::Items(items))?;
+    Ok(())
+}
+
+/// Replaces the values of the parts by that of the phrase. Fails only when out of memory.
+pub(crate) fn make_items(
+    alloc: Global,
+    action: ItemAction,
+    stack: &mut Vec<Value>,
+) -> Result<(), NoMemory>
+    ensures { OnOk result (stack_syntax stack.new.items ≡ items_done action (stack_syntax stack.old.items)) }
+{
+    match action {
+        ItemAction::NoItems => no_items(alloc, stack),
+        ItemAction::SortsItem => sorts_item(alloc, stack),
+        ItemAction::FunctionItem => function_item(alloc, stack),
+        ItemAction::VariablesItem => variables_item(alloc, stack),
+        ItemAction::GraphItem => graph_item(alloc, stack),
+        ItemAction::RoundsItem => rounds_item(alloc, stack),
+        ItemAction::SplitItem => split_item(alloc, stack),
+        ItemAction::EqualItem => equal_item(alloc, stack),
+    }
+}

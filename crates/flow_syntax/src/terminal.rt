@@ -1,0 +1,204 @@
+//! The terminals of the format, numbered after those that the reader knows.
+ghost use Rattle.std.specs.Prelude.{◌≡◌};
+ghost use Rattle.text_tokens.specs.TokenParts.{parts_of_token};
+ghost use Rattle.flow_syntax.specs.Terminals.{word_terminal, symbol_terminal, number_terminal, terminal_of, spelled_number};
+
+use text_grammar::Terminal;
+use text_reader::{CLOSE_ROUND, NUMBER, OPEN_ROUND, WIDE_NUMBER};
+use text_tokens::{Kind, Token};
+
+/// A name that is not a keyword.
+pub const NAME: usize = 5;
+/// A symbol of no rule.
+pub const OTHER: usize = 6;
+
+/// `sort`
+pub const SORT: usize = 7;
+/// `fun`
+pub const FUN: usize = 8;
+/// `var`
+pub const VAR: usize = 9;
+/// `graph`
+pub const GRAPH: usize = 10;
+/// `block`
+pub const BLOCK: usize = 11;
+/// `cut`
+pub const CUT: usize = 12;
+/// `goto`
+pub const GOTO: usize = 13;
+/// `if`
+pub const IF: usize = 14;
+/// `else`
+pub const ELSE: usize = 15;
+/// `return`
+pub const RETURN: usize = 16;
+/// `abort`
+pub const ABORT: usize = 17;
+/// `assert`
+pub const ASSERT: usize = 18;
+/// `equal`
+pub const EQUAL: usize = 19;
+/// `rounds`
+pub const ROUNDS: usize = 20;
+/// `split`
+pub const SPLIT: usize = 21;
+/// `true`
+pub const TRUE: usize = 22;
+/// `false`
+pub const FALSE: usize = 23;
+/// `u8`
+pub const U8: usize = 24;
+/// `u16`
+pub const U16: usize = 25;
+/// `u32`
+pub const U32: usize = 26;
+/// `u64`
+pub const U64: usize = 27;
+/// `s8`
+pub const S8: usize = 28;
+/// `s16`
+pub const S16: usize = 29;
+/// `s32`
+pub const S32: usize = 30;
+/// `s64`
+pub const S64: usize = 31;
+/// `slt`
+pub const SLT: usize = 32;
+/// `sle`
+pub const SLE: usize = 33;
+/// `sgt`
+pub const SGT: usize = 34;
+/// `sge`
+pub const SGE: usize = 35;
+
+/// `,`
+pub const COMMA: usize = 36;
+/// `;`
+pub const SEMICOLON: usize = 37;
+/// `{`
+pub const CURLY_OPEN: usize = 38;
+/// `}`
+pub const CURLY_CLOSE: usize = 39;
+/// `:=`
+pub const BECOMES: usize = 40;
+/// `==`
+pub const EQ: usize = 41;
+/// `!=`
+pub const NE: usize = 42;
+/// `<`
+pub const LT: usize = 43;
+/// `<=`
+pub const LE: usize = 44;
+/// `>`
+pub const GT: usize = 45;
+/// `>=`
+pub const GE: usize = 46;
+/// `+`
+pub const PLUS: usize = 47;
+/// `-`
+pub const MINUS: usize = 48;
+/// `*`
+pub const STAR: usize = 49;
+/// `&&`
+pub const AND: usize = 50;
+/// `||`
+pub const OR: usize = 51;
+/// `!`
+pub const BANG: usize = 52;
+
+fn word_terminal(text: &str) -> usize
+    ensures { result ≡ word_terminal text.now }
+{
+    match text.as_bytes() {
+        b"sort" => SORT,
+        b"fun" => FUN,
+        b"var" => VAR,
+        b"graph" => GRAPH,
+        b"block" => BLOCK,
+        b"cut" => CUT,
+        b"goto" => GOTO,
+        b"if" => IF,
+        b"else" => ELSE,
+        b"return" => RETURN,
+        b"abort" => ABORT,
+        b"assert" => ASSERT,
+        b"equal" => EQUAL,
+        b"rounds" => ROUNDS,
+        b"split" => SPLIT,
+        b"true" => TRUE,
+        b"false" => FALSE,
+        b"u8" => U8,
+        b"u16" => U16,
+        b"u32" => U32,
+        b"u64" => U64,
+        b"s8" => S8,
+        b"s16" => S16,
+        b"s32" => S32,
+        b"s64" => S64,
+        b"slt" => SLT,
+        b"sle" => SLE,
+        b"sgt" => SGT,
+        b"sge" => SGE,
+        _ => NAME,
+    }
+}
+
+fn symbol_terminal(text: &str) -> usize
+    ensures { result ≡ symbol_terminal text.now }
+{
+    match text.as_bytes() {
+        b"(" => OPEN_ROUND,
+        b")" => CLOSE_ROUND,
+        b"," => COMMA,
+        b";" => SEMICOLON,
+        b"{" => CURLY_OPEN,
+        b"}" => CURLY_CLOSE,
+        b":=" => BECOMES,
+        b"==" => EQ,
+        b"!=" => NE,
+        b"<" => LT,
+        b"<=" => LE,
+        b">" => GT,
+        b">=" => GE,
+        b"+" => PLUS,
+        b"-" => MINUS,
+        b"*" => STAR,
+        b"&&" => AND,
+        b"||" => OR,
+        b"!" => BANG,
+        _ => OTHER,
+    }
+}
+
+fn number_terminal(terminal: Terminal) -> usize
+    ensures { result ≡ number_terminal terminal }
+{
+    match terminal {
+        Terminal::Zero | Terminal::One | Terminal::Number(_) => NUMBER,
+        Terminal::WideNumber => WIDE_NUMBER,
+        _ => OTHER,
+    }
+}
+
+/// Returns the terminal of a token.
+pub(crate) fn terminal_of(token: &Token) -> usize
+    ensures { result ≡ terminal_of token.now.kind token.now.text.now }
+{
+    match token.kind {
+        Kind::Name => word_terminal(token.text),
+        Kind::Number => number_terminal(text_grammar::terminal_of(token)),
+        Kind::Symbol => symbol_terminal(token.text),
+    }
+}
+
+/// Returns the number that a token spells, if it spells one below 2^64.
+pub fn spelled_number(token: &Token) -> Option<u64>
+    ensures { result ≡ spelled_number (parts_of_token token.now) }
+{
+    match text_grammar::terminal_of(token) {
+        Terminal::Zero => Some(0),
+        Terminal::One => Some(1),
+        Terminal::Number(n) => Some(n),
+        _ => None,
+    }
+}

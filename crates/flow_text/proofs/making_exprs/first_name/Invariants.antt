@@ -1,8 +1,0 @@
-use Rattle.std.proofs.Common.{◌≡◌, take}
-use Rattle.flow_text.specs.Actions.{first_name}
-use Rattle.flow_text.specs.SyntaxViews.{first_syntax, expr_syntax}
-use Rattle.flow_text.proofs.making_exprs.first_name.Given as goal
-
--- the first name of the last nodes
-abbrev pub invariant-loop-node : goal.invariant-loop-node
-invariant-loop-node l = first_syntax l.first ≡ first_name (expr_syntax (take l.node-index l.nodes))

@@ -1,9 +1,0 @@
-use Rattle.std.proofs.Common.{◌≡◌, min, take}
-use Rattle.flow_text.specs.Sizes.{total, expr_nodes}
-use Rattle.flow_text.specs.SyntaxViews.{exprs_syntax}
-use Rattle.flow_text.specs.declared.node_counts.TheConstants.{MOST}
-use Rattle.flow_text.proofs.node_counts.exprs_nodes.Given as goal
-
--- the last members
-abbrev pub invariant-loop-expr : goal.invariant-loop-expr
-invariant-loop-expr l = l.nodes ≡ min (total expr_nodes (exprs_syntax (take l.expr-index l.exprs))) MOST
