@@ -1,0 +1,3 @@
+pub mod EdgesOfTables
+pub mod MappedRows
+mod SameActions

@@ -1,0 +1,2 @@
+pub mod EdgeViews
+pub mod EdgeTables

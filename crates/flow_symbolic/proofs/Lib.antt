@@ -1,0 +1,4 @@
+pub mod CourseLists
+pub mod Courses
+pub mod FoundWays
+pub mod ActionForms

@@ -1,0 +1,5 @@
+pub mod Outcomes
+pub mod Faults
+pub mod CourseTrees
+pub mod WayTrees
+pub mod ActionTrees

@@ -1,0 +1,3 @@
+pub mod TreeCounts
+pub mod TreeFits
+pub mod OneOutcome

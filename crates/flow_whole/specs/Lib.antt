@@ -1,0 +1,3 @@
+pub mod WholeGraphs
+pub mod GraphOutcomes
+pub mod Laws
