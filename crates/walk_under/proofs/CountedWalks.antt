@@ -20,9 +20,14 @@ use Rattle.hypothesis_kinds.specs.Broken.{IsBrokenBy}
 use Rattle.hypothesis_kinds.proofs.FewerHypotheses.{unbroken_allowed}
 use Rattle.certificate.specs.Decisions.{IsShortest}
 use Rattle.partial_derivs.specs.Moves.{IsTermOf}
-use Rattle.partial_derivs.proofs.Kept.{IsTermOf-trees}
-use Rattle.walk_under.specs.Working.Counting.{AreShortHyps, AreCounted, AreBroken, IsCountedList, IsFoundUnder, with_counted}
-use Rattle.walk_under.specs.declared.counting.ShortHyp.{ShortHyp}
+use Rattle.partial_derivs.specs.Tables.{AreRight}
+use Rattle.partial_derivs.proofs.Kept.{IsTermOf-trees, Keeps-functions}
+use Rattle.partial_derivs.proofs.Tables.{AreRight-kept}
+use Rattle.test_diagrams.specs.Functions.{KeepsFunctions}
+use Rattle.hypothesis_counts.specs.Counting.{tree_of, AreShortHyps, AreCounted, AreBroken}
+use Rattle.walk_under.specs.Working.Counting.{IsCountedList, IsFoundUnder, with_counted, MayBegin}
+use Rattle.hypothesis_counts.specs.declared.counting.ShortHyp.{ShortHyp}
+use Rattle.walk_under.specs.declared.walk.TestedWorklist.{TestedWorklist}
 use Rattle.walk_under.proofs.RefutedByAllowed.{refuted_by_allowed}
 
 module _ (q : ProblemParts) (counted : List Term) (fewer : IsSubset counted (short_hyps q)) where
@@ -56,9 +61,6 @@ module _ (q : ProblemParts) (counted : List Term) (fewer : IsSubset counted (sho
   unbroken_shortest x s each = shortest_as_long x x s (unbroken_refutes x s.refutes each) refl
 
 -- ---- the hypotheses as the program stores them
-
-abbrev pub tree_of : ShortHyp → Term
-tree_of h = kat_tree h.hyp
 
 module _ (q : ProblemParts) (store : NodeParts) (hyps : List ShortHyp) (are : AreShortHyps q store hyps) (counts : List Bool) where
   -- the string breaks none of the hypotheses that do not count
@@ -99,4 +101,11 @@ short_hyps_later q s t hyps grows are = record {
   terms = λ h k.
       let own = are.terms h k in
       (IsTermOf-trees s t grows q.tests h.term own.0, grows.trees h.term own.0.is_id ∙ own.1);
+}
+
+-- after more diagrams, the next walk may begin
+pub may_begin : (q : ProblemParts) (store : NodeParts) (old new : TestedWorklist) → new.derivatives ≡ old.derivatives → KeepsFunctions old.diagrams new.diagrams → old.diagrams.tests ≡ q.tests → AreRight store old.diagrams old.derivatives → MayBegin q store new
+may_begin q store old new same kept tests right = record {
+  tests = kept.tests ∙ tests;
+  right = subst (AreRight store new.diagrams) (sym same) (AreRight-kept store store old.diagrams new.diagrams old.derivatives (Keeps-functions store old.diagrams new.diagrams kept) right);
 }

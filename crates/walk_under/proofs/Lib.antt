@@ -31,10 +31,6 @@ pub mod StoredTests
 pub mod DiagramTests
 pub mod MergedIds
 pub mod MergedWalk
-pub mod Uncounted
-pub mod BrokenStrings
-pub mod CountedHyps
 pub mod CountedWalks
 pub mod UnderDecisions
-pub mod ShortIds
 pub mod EndedSame

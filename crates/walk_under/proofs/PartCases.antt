@@ -203,6 +203,42 @@ pub both_values : {H₀ H₁ H₂ P₀ P₁ : Type 0} (g₀ g₁ : Bool) → g�
 both_values true g₁ e more first second h = ⊎_elim (λ old. second (inl (first (inl old)))) (λ p. second (inr (more p, e))) h
 both_values false g₁ e more first second h = ⊎_elim (λ old. second (inl (first (inl old)))) (λ p. second (inl (first (inr (p, refl))))) h
 
+-- ---- guards that are true nowhere
+
+-- the guard is false at each atom
+pub never_true : (d : DiagramsParts) (never guard : ℕ) (atom : Atom) → IsDiagramOf d never (λ a. false) → guard ≡ never → IsAtomOf d atom → value_of d guard atom ≡ false
+never_true d never guard atom is e fits = ap (λ i. value_of d i atom) e ∙ is.value atom fits
+
+pub region_never : (d : DiagramsParts) (region never guard : ℕ) → IsDiagramId d region → IsDiagramOf d never (λ a. false) → guard ≡ never → IsRegionWhere d d region guard false region
+region_never d region never guard own is e = record {
+  is_id = own;
+  told = λ atom fits. ((λ h. (h, never_true d never guard atom is e fits)), (λ p. p.0));
+}
+
+both_false : (a b : Bool) → (a || b) ≡ false → (a ≡ false) × (b ≡ false)
+both_false true b e = absurd (true≢false e)
+both_false false b e = (refl, e)
+
+-- the guards differ where the guard of the other side is true
+tells_side : (c d : DiagramsParts) (kept : KeepsFunctions c d) (old side never other id : ℕ) → IsDiagramOf c never (λ a. false) → other ≡ never → IsDiagramOf d id (λ a. value_of c old a || value_of c side a) → (atom : Atom) → IsAtomOf d atom → IsFalse (value_of d id atom) → (value_of c old atom ≡ false) × (value_of c side atom ≡ value_of c other atom)
+tells_side c d kept old side never other id none e is atom fits h =
+    let f = both_false (value_of c old atom) (value_of c side atom) (sym (is.value atom fits) ∙ h) in
+    (f.0, f.1 ∙ sym (never_true c never other atom none e (fits ∙ kept.tests)))
+
+pub tells_left : (c d : DiagramsParts) → KeepsFunctions c d → (old never id : ℕ) (i : Item) → IsDiagramOf c never (λ a. false) → i.right ≡ never → IsDiagramOf d id (λ a. value_of c old a || value_of c i.left a) → TellsApart c d old i id
+tells_left c d kept old never id i none e is = record {
+  is_id = is.in_range;
+  was = λ atom fits h. (tells_side c d kept old i.left never i.right id none e is atom fits h).0;
+  alike = λ atom fits h. (tells_side c d kept old i.left never i.right id none e is atom fits h).1;
+}
+
+pub tells_right : (c d : DiagramsParts) → KeepsFunctions c d → (old never id : ℕ) (i : Item) → IsDiagramOf c never (λ a. false) → i.left ≡ never → IsDiagramOf d id (λ a. value_of c old a || value_of c i.right a) → TellsApart c d old i id
+tells_right c d kept old never id i none e is = record {
+  is_id = is.in_range;
+  was = λ atom fits h. (tells_side c d kept old i.right never i.left id none e is atom fits h).0;
+  alike = λ atom fits h. sym (tells_side c d kept old i.right never i.left id none e is atom fits h).1;
+}
+
 -- ---- items whose guards differ
 
 pub tells_apart : (c₀ c₁ c₂ c₃ c₄ : DiagramsParts) → KeepsFunctions c₀ c₁ → KeepsFunctions c₁ c₂ → KeepsFunctions c₂ c₃ → KeepsFunctions c₃ c₄ → (old only_left only_right apart id : ℕ) (i : Item) → IsDiagramId c₀ old → IsDiagramId c₀ i.left → IsDiagramId c₀ i.right
@@ -233,10 +269,6 @@ alike_chosen d [] atom same = refl
 alike_chosen d (i ∷ is) atom same =
     ap (λ b. cond b (i.target ∷ chosen d Left is atom) (chosen d Left is atom)) (same i (inl refl))
     ∙ ap (λ ts. cond (value_of d i.right atom) (i.target ∷ ts) ts) (alike_chosen d is atom (λ j h. same j (inr h)))
-
--- an item read in range is in the list
-pub read_item : {X : Type 0} (xs : List X) (k : ℕ) (x : X) → k < length xs → x ≡ get_or xs k x → Has xs x
-read_item xs k x lt is = has_at xs k x (slice_get-get_or xs k x lt ∙ ap Some (sym is))
 
 -- what holds for the first k items and the next one holds for the first k + 1 items
 pub front_more : {X : Type 0} (P : List X → Type 0) (xs : List X) (k : ℕ) (x : X) → k < length xs → x ≡ get_or xs k x → P (take k xs ++ x ∷ []) → P (take (k + 1) xs)

@@ -25,6 +25,14 @@ pub(crate) struct AllowedMoves {
 }
 
 impl AllowedMoves {
+    /// Returns the moves of no action. All atoms are allowed. Allocates nothing.
+    pub(crate) fn of_no_action(alloc: Global, diagrams: &Diagrams) -> AllowedMoves {
+        AllowedMoves {
+            allowed: diagrams.constant(true),
+            actions: Vec::new(alloc),
+        }
+    }
+
     /// Returns what the short hypotheses `shorts` allow. Fails only when out of memory; on failure, extra nodes,
     /// diagrams and derivatives may remain.
     pub(crate) fn of_hyps(

@@ -1,5 +1,5 @@
 //! Decides a problem by walks under tests that count more and more of its short hypotheses.
-ghost use Rattle.std.specs.Prelude.{◌≡◌, ◌↔◌, ◌<◌, ℕ, List, true, false, length, slice_index_or, IfOk, MatchOption, IsTrue};
+ghost use Rattle.std.specs.Prelude.{◌≡◌, ◌↔◌, ◌<◌, ℕ, List, [], true, false, length, slice_index_or, IfOk, OnOk, MatchOption, IsTrue};
 ghost use Rattle.kat_model.specs.Members.{Has};
 ghost use Rattle.kat_model.specs.Trees.{Term};
 ghost use Rattle.kat_model.specs.Problems.{IsProblem};
@@ -11,27 +11,39 @@ ghost use Rattle.certificate.specs.Decisions.{IsShortest, node_terms};
 ghost use Rattle.term_nodes.specs.NodeLists.{NodeParts, AreNodes};
 ghost use Rattle.term_nodes.specs.NodeTrees.{tree_at, HasTree};
 ghost use Rattle.term_nodes.specs.Growth.{Grows};
-ghost use Rattle.test_diagrams.specs.Functions.{IsDiagramId};
+ghost use Rattle.test_diagrams.specs.Functions.{IsDiagramId, KeepsFunctions};
 ghost use Rattle.walk_pairs.specs.ClosedTerms.{AreIdsOf};
 ghost use Rattle.walk_under.specs.Decisions.{IsDecisionUnder};
-ghost use Rattle.walk_under.specs.Working.Counting.{uncounted, AreShortHyps, IsCountedList, IsFoundUnder, HasEnded, IsOutcome, StillCount};
+ghost use Rattle.hypothesis_counts.specs.Counting.{uncounted, AreShortHyps, StillCount};
+ghost use Rattle.walk_under.specs.Working.Counting.{IsCountedList, IsFoundUnder, HasEnded, IsOutcome, MayBegin, IsTurnEnd};
 ghost use Rattle.walk_under.specs.Working.Walking.{walk_context, AreClosedIds, IsUnderWay, IsDifference};
 
-use crate::counting::{
-    ShortHyp, broken_by, count_all, count_next, counted_ids, first_counts, has_some, limit_of,
-    short_hyps,
-};
 use crate::smoothing::smoothed;
 use crate::walk::{FoundDifference, FoundString, RunEnd, TestedWorklist};
 use certificate::{Evidence, Style};
 use goal_forms::eliminate;
-use hypothesis_kinds::long_problem;
+use hypothesis_counts::{
+    ShortHyp, broken_by, count_all, count_next, counted_ids, first_counts, has_some, limit_of,
+    short_hyps,
+};
+use hypothesis_kinds::{is_short, long_problem};
 use kat_model::{NoMemory, Problem};
 use std::alloc::Global;
 use string_tables::{GString, refutes};
 use term_store::Store;
 use test_diagrams::{DiagramId, Diagrams};
 use walk_pairs::{ClosedIds, cert_of, closed_ids};
+
+/// How one walk of a problem ends.
+#[derive(Drop)]
+pub(crate) enum TurnEnd {
+    /// The walk found no difference.
+    Alike,
+    /// The string refutes the problem.
+    Refuted(GString),
+    /// The next walk counts more hypotheses.
+    Again,
+}
 
 /// How the walks of a problem end.
 #[derive(Drop)]
@@ -42,11 +54,42 @@ pub(crate) enum Outcome {
     Refuted(GString),
 }
 
+// Whether some hypothesis of the problem is long.
+fn has_long(problem: &Problem) -> bool
+    ensures { result ≡ false → long_hyps problem.now ≡ [] }
+{
+    for hyp in problem.hyps() {
+        let short = is_short(hyp);
+        if !short {
+            return true;
+        }
+    }
+    false
+}
+
+// Returns the ids of the sides of the problem, which are the closed sides if no hypothesis is long. Nothing is copied.
+fn own_sides(store: &mut Store, problem: &Problem) -> Result<ClosedIds, NoMemory>
+    ensures ids { IfOk result (AreIdsOf store.new (closed (with_hyps problem.now []))) }
+    ensures kept { Grows store.old store.new }
+{
+    let left = store.of_tree(problem.left())?;
+    let right = store.of_tree(problem.right())?;
+    Ok(ClosedIds {
+        left,
+        right,
+        universal: None,
+    })
+}
+
 // Returns the ids of the closed sides of the problem with only its long hypotheses.
 fn side_ids(alloc: Global, store: &mut Store, problem: &Problem) -> Result<ClosedIds, NoMemory>
     ensures ids { IfOk result (AreIdsOf store.new (closed (with_hyps problem.now (long_hyps problem.now)))) }
     ensures kept { Grows store.old store.new }
 {
+    let any_long = has_long(problem);
+    if !any_long {
+        return own_sides(store, problem);
+    }
     let long = long_problem(alloc, problem)?;
     let closed = eliminate(alloc, &long)?;
     closed_ids(store, &closed)
@@ -137,6 +180,8 @@ fn string_of(
     ensures answer { IfOk result (λ answer. MatchOption answer (uncounted counts.new < uncounted counts.old) (IsShortest problem.now)) }
     ensures counting { StillCount counts.old counts.new }
     ensures flags { length counts.new ≡ length counts.old }
+    ensures derivatives { OnOk result (walk.new.derivatives ≡ walk.old.derivatives) }
+    ensures kept { OnOk result (KeepsFunctions walk.old.diagrams walk.new.diagrams) }
 {
     let string = walk.string_to(alloc, found.place, found.atom)?;
     let broken = broken_by(alloc, hyps, counts, &string.string)?;
@@ -158,55 +203,54 @@ fn string_of(
     )
 }
 
-// Runs a walk that counts these hypotheses. Returns how the walks of the problem end; without a result, makes more
-// hypotheses count.
+// Runs a walk that counts these hypotheses. If it gives no answer, makes more hypotheses count.
 fn turn(
     alloc: Global,
     store: &mut Store,
     problem: &Problem,
+    walk: &mut TestedWorklist,
     sides: &ClosedIds,
     hyps: &[ShortHyp],
     counts: &mut [bool],
-) -> Result<Option<Outcome>, NoMemory>
+) -> Result<TurnEnd, NoMemory>
     requires flags { length counts.old ≡ length hyps.now }
     requires hyps { AreShortHyps problem.now store.old hyps.now }
     requires sides { AreClosedIds (with_hyps problem.now (long_hyps problem.now)) store.old sides.now }
-    ensures outcome { IfOk result (λ outcome. MatchOption outcome (uncounted counts.new < uncounted counts.old) (IsOutcome problem.now store.new)) }
+    requires walk { MayBegin problem.now store.old walk.old }
+    ensures end { IfOk result (IsTurnEnd problem.now store.new walk.new counts.old counts.new) }
     ensures counting { StillCount counts.old counts.new }
     ensures flags { length counts.new ≡ length counts.old }
     ensures kept { Grows store.old store.new }
 {
     let ids = counted_ids(alloc, hyps, counts)?;
-    let tests = problem.tests();
     let actions = problem.actions();
-    let mut walk = TestedWorklist::new(alloc, store, tests, actions, &ids, sides)?;
+    walk.begin(alloc, store, actions, &ids, sides)?;
     let limit = limit_of(counts);
     let end = walk.run(alloc, store, actions, limit)?;
     match end {
-        RunEnd::Ended => Ok(Some(Outcome::Alike(walk))),
+        RunEnd::Ended => Ok(TurnEnd::Alike),
         RunEnd::Full => {
             count_all(counts);
-            Ok(None)
+            Ok(TurnEnd::Again)
         }
         RunEnd::Found(found) => {
-            let answer = string_of(alloc, problem, &mut walk, hyps, counts, found)?;
+            let answer = string_of(alloc, problem, walk, hyps, counts, found)?;
             match answer {
-                Some(string) => Ok(Some(Outcome::Refuted(string))),
-                None => Ok(None),
+                Some(string) => Ok(TurnEnd::Refuted(string)),
+                None => Ok(TurnEnd::Again),
             }
         }
     }
 }
 
 // Runs walks that count more and more short hypotheses, until one finds no difference or finds a string that refutes
-// the problem.
+// the problem. Each walk has the diagrams and the derivatives of those before it.
 fn outcome_of(alloc: Global, store: &mut Store, problem: &Problem) -> Result<Outcome, NoMemory>
     ensures within { IfOk result (λ outcome. IsProblem problem.now) }
     ensures outcome { IfOk result (IsOutcome problem.now store.new) }
     ensures kept { Grows store.old store.new }
 {
-    // The proof needs the limits of the problem.
-    let _tests = problem.tests();
+    let tests = problem.tests();
     let sides = side_ids(alloc, store, problem)?;
     let shorts = short_hyps(alloc, store, problem)?;
     let hyps = shorts.as_slice();
@@ -214,9 +258,12 @@ fn outcome_of(alloc: Global, store: &mut Store, problem: &Problem) -> Result<Out
     let _ = store.count();
     let mut flags = first_counts(alloc, hyps)?;
     let counts = flags.as_mut_slice();
+    let mut walk = TestedWorklist::new(alloc, tests)?;
     'walks: loop {
-        if let Some(outcome) = turn(alloc, store, problem, &sides, hyps, counts)? {
-            return Ok(outcome);
+        match turn(alloc, store, problem, &mut walk, &sides, hyps, counts)? {
+            TurnEnd::Alike => return Ok(Outcome::Alike(walk)),
+            TurnEnd::Refuted(string) => return Ok(Outcome::Refuted(string)),
+            TurnEnd::Again => {}
         }
     }
 }

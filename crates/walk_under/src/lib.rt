@@ -4,7 +4,6 @@
 mod allowed;
 mod asking;
 mod bars;
-mod counting;
 mod deciding;
 mod entry;
 mod entry_list;

@@ -41,6 +41,9 @@ fn region_where(
     if value {
         return diagrams.and(region, guard);
     }
+    if guard == diagrams.constant(false) {
+        return Ok(region);
+    }
     and_not(diagrams, region, guard)
 }
 
@@ -126,7 +129,8 @@ fn add_case(
     Ok(())
 }
 
-// Appends the parts of `part` at which the left guard of the item has the value `left`.
+// Appends the parts of `part` at which the left guard of the item has the value `left`. Most items lead to their target on
+// one side only; then the guard of the other side has one value.
 fn add_cases(
     alloc: Global,
     diagrams: &mut Diagrams,
@@ -147,6 +151,9 @@ fn add_cases(
     ensures kept { OnOk result (KeepsFunctions diagrams.old diagrams.new) }
 {
     add_case(alloc, diagrams, parts, part, item, left, false)?;
+    if item.right == diagrams.constant(false) {
+        return Ok(());
+    }
     add_case(alloc, diagrams, parts, part, item, left, true)
 }
 
@@ -170,6 +177,9 @@ fn split_part(
     ensures kept { OnOk result (KeepsFunctions diagrams.old diagrams.new) }
 {
     add_cases(alloc, diagrams, parts, part, item, false)?;
+    if item.left == diagrams.constant(false) {
+        return Ok(());
+    }
     add_cases(alloc, diagrams, parts, part, item, true)
 }
 
@@ -245,6 +255,12 @@ fn with_difference(
     ensures told { IfOk result (TellsApart diagrams.old diagrams.new id item.now) }
     ensures kept { OnOk result (KeepsFunctions diagrams.old diagrams.new) }
 {
+    if item.right == diagrams.constant(false) {
+        return diagrams.or(id, item.left);
+    }
+    if item.left == diagrams.constant(false) {
+        return diagrams.or(id, item.right);
+    }
     let only_left = and_not(diagrams, item.left, item.right)?;
     let only_right = and_not(diagrams, item.right, item.left)?;
     let apart = diagrams.or(only_left, only_right)?;

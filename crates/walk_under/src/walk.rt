@@ -9,6 +9,7 @@ ghost use Rattle.term_nodes.specs.NodeLists.{NodeParts};
 ghost use Rattle.term_nodes.specs.NodeTrees.{tree_at};
 ghost use Rattle.term_nodes.specs.Growth.{Grows};
 ghost use Rattle.partial_derivs.specs.Moves.{IsTermOf};
+ghost use Rattle.partial_derivs.specs.Tables.{AreRight};
 ghost use Rattle.test_diagrams.specs.Functions.{value_of, IsDiagramId, IsAtomOf, KeepsFunctions};
 ghost use Rattle.walk_under.specs.Working.Entries.{EntryParts};
 ghost use Rattle.walk_under.specs.Working.Listings.{IsNextPart, IsLevelAtom, IsPlaceWith};
@@ -147,38 +148,18 @@ fn entry_of(
 }
 
 impl TestedWorklist {
-    /// Returns a walk that has listed the pair of the closed sides at all allowed atoms. Fails only when out of memory;
-    /// on failure, extra nodes may remain.
-    pub(crate) fn new(
-        alloc: Global,
-        store: &mut Store,
-        tests: usize,
-        actions: usize,
-        shorts: &[TermId],
-        sides: &ClosedIds,
-    ) -> Result<TestedWorklist, NoMemory>
-        requires terms { All (IsTermOf store.old tests) shorts.now }
-        ensures under_way { IfOk result (λ w. (q : ProblemParts) → tests ≡ q.tests → actions ≡ q.actions → AreClosedIds q store.old sides.now
-            → IsUnderWay (walk_context (map (tree_at store.old) shorts.now) q store.new) w 0) }
-        ensures kept { Grows store.old store.new }
+    /// Returns a walk that has not begun: it has no pairs, and its moves are those of no action.
+    pub(crate) fn new(alloc: Global, tests: usize) -> Result<TestedWorklist, NoMemory>
+        ensures tests { IfOk result (λ w. w.diagrams.tests ≡ tests) }
+        ensures right { IfOk result (λ w. (store : NodeParts) → AreRight store w.diagrams w.derivatives) }
     {
-        let mut diagrams = Diagrams::new(alloc, tests)?;
-        let mut derivatives = Derivatives::new(alloc);
-        let moves = AllowedMoves::of_hyps(
-            alloc,
-            store,
-            &mut diagrams,
-            &mut derivatives,
-            shorts,
-            actions,
-        )?;
-        let entry = first_entry(alloc, sides, moves.allowed())?;
-        let mut entries = EntryList::new(alloc);
-        entries.push(alloc, entry)?;
+        let diagrams = Diagrams::new(alloc, tests)?;
+        let derivatives = Derivatives::new(alloc);
+        let moves = AllowedMoves::of_no_action(alloc, &diagrams);
         let listing = Listing {
-            entries,
-            universal: sides.universal,
-            count: store.count(),
+            entries: EntryList::new(alloc),
+            universal: None,
+            count: 0,
         };
         Ok(TestedWorklist {
             listing,
@@ -186,6 +167,43 @@ impl TestedWorklist {
             diagrams,
             derivatives,
         })
+    }
+
+    /// Begins a walk that has listed only the pair of the closed sides, at all atoms that the short hypotheses `shorts`
+    /// allow. The diagrams and the derivatives of earlier walks stay, since they depend on no hypothesis. Fails only when
+    /// out of memory; on failure, extra nodes may remain.
+    pub(crate) fn begin(
+        &mut self,
+        alloc: Global,
+        store: &mut Store,
+        actions: usize,
+        shorts: &[TermId],
+        sides: &ClosedIds,
+    ) -> Result<(), NoMemory>
+        requires terms { All (IsTermOf store.old self.old.diagrams.tests) shorts.now }
+        requires right { AreRight store.old self.old.diagrams self.old.derivatives }
+        ensures under_way { OnOk result ((q : ProblemParts) → self.old.diagrams.tests ≡ q.tests → actions ≡ q.actions → AreClosedIds q store.old sides.now
+            → IsUnderWay (walk_context (map (tree_at store.old) shorts.now) q store.new) self.new 0) }
+        ensures kept { Grows store.old store.new }
+    {
+        let moves = AllowedMoves::of_hyps(
+            alloc,
+            store,
+            &mut self.diagrams,
+            &mut self.derivatives,
+            shorts,
+            actions,
+        )?;
+        let entry = first_entry(alloc, sides, moves.allowed())?;
+        let mut entries = EntryList::new(alloc);
+        entries.push(alloc, entry)?;
+        self.listing = Listing {
+            entries,
+            universal: sides.universal,
+            count: store.count(),
+        };
+        self.moves = moves;
+        Ok(())
     }
 
     // Returns the atoms to which the step leads from the part and at which the listed pairs do not join its sets.
@@ -467,6 +485,7 @@ impl TestedWorklist {
         ensures shortest { IfOk result (λ f. (whole : ProblemParts) (shorts longs : List Term) (store : NodeParts) → AreSplit whole.hyps shorts longs
             → IsUnderWay (walk_context shorts (with_hyps whole longs) store) self.old place → IsDifference (walk_context shorts (with_hyps whole longs) store) self.old place last.items → IsShortest whole f.string) }
         ensures regions { IfOk result (λ f. (id : ℕ) → Has f.regions.items id → IsDiagramId self.new.diagrams id) }
+        ensures derivatives { OnOk result (self.new.derivatives ≡ self.old.derivatives) }
         ensures kept { OnOk result (KeepsFunctions self.old.diagrams self.new.diagrams) }
     {
         let mut place = place;

@@ -162,8 +162,9 @@ pub record AreClosedIds (q : ProblemParts) (store : NodeParts) (sides : ClosedId
   pub universal_id : (u : ℕ) → sides.universal ≡ Some u → IsTerm store u
   pub universal : option_map (tree_at store) sides.universal ≡ (closed q).universal
 
--- the end of a run: all pairs are processed, the sets of a pair do not accept alike, or the walk stopped at its limit
+-- The end of a run: all pairs are processed, the sets of a pair do not accept alike, or the walk stopped at its limit
+-- after some of its pairs.
 abbrev pub IsRunEnd : WalkContext → TestedWorklist → RunEnd → Type 0
 IsRunEnd s w Ended = IsUnderWay s w (length w.listing.entries.items)
 IsRunEnd s w (Found d) = IsUnderWay s w d.place × IsDifference s w d.place d.atom.items × IsDiagramId w.diagrams d.region
-IsRunEnd s w Full = Unit {0}
+IsRunEnd s w Full = (place : ℕ) × IsUnderWay s w place

@@ -1,6 +1,6 @@
 use Rattle.std.proofs.Common.{List, ℕ, subst}
 use Rattle.kat_model.specs.Members.{Has}
-use Rattle.walk_under.proofs.Uncounted.{some_items}
+use Rattle.hypothesis_counts.proofs.Uncounted.{some_items}
 use Rattle.walk_under.proofs.CountedWalks.{found_as_long}
 use Rattle.walk_under.proofs.deciding.judge.Goals as goal
 

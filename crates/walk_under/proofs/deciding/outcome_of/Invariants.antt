@@ -2,7 +2,8 @@ use Rattle.std.proofs.Common.{◌≡◌, length}
 use Rattle.kat_model.specs.Degrees.{long_hyps, with_hyps}
 use Rattle.term_nodes.specs.Growth.{Grows}
 use Rattle.walk_under.specs.Working.Walking.{AreClosedIds}
-use Rattle.walk_under.specs.Working.Counting.{AreShortHyps, uncounted}
+use Rattle.hypothesis_counts.specs.Counting.{AreShortHyps, uncounted}
+use Rattle.walk_under.specs.Working.Counting.{MayBegin}
 use Rattle.walk_under.proofs.deciding.outcome_of.Given as goal
 
 abbrev pub invariant-walks : goal.invariant-walks
@@ -11,6 +12,7 @@ invariant-walks l = record {
   sides : AreClosedIds (with_hyps l.problem (long_hyps l.problem)) l.store l.sides;
   flags : length l.counts ≡ length l.hyps;
   kept : Grows l.fn.store l.store;
+  walk : MayBegin l.problem l.store l.walk;
 }
 
 -- fewer hypotheses do not count

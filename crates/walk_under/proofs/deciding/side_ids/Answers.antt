@@ -1,9 +1,15 @@
-use Rattle.std.proofs.Common.{◌≡◌, IfOk, ap, ◌∙◌, subst}
+use Rattle.std.proofs.Common.{◌≡◌, List, IfOk, sym, ap, ◌∙◌, subst}
+use Rattle.kat_model.specs.Trees.{Term}
 use Rattle.kat_model.specs.Closed.{Closed, closed}
 use Rattle.kat_model.specs.Degrees.{long_hyps, with_hyps}
 use Rattle.goal_forms.specs.ClosedTrees.{closed_trees}
 use Rattle.walk_pairs.specs.ClosedTerms.{AreIdsOf}
 use Rattle.walk_under.proofs.deciding.side_ids.Goals as goal
+
+pub returns-then-not-any_long-clause-ids : goal.returns-then-not-any_long-clause-ids
+returns-then-not-any_long-clause-ids c =
+    let p = c.args.problem.now in
+    subst (λ (hs : List Term). IfOk c.own_sides.result (AreIdsOf c.own_sides.new.store (closed (with_hyps p hs)))) (sym (c.has_long-any_long.ensures c.if-not-any_long.true)) c.own_sides.ensures.ids
 
 pub returns-clause-ids : goal.returns-clause-ids
 returns-clause-ids c =

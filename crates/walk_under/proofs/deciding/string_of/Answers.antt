@@ -4,7 +4,8 @@ use Rattle.kat_model.specs.Degrees.{long_hyps, with_hyps}
 use Rattle.test_diagrams.specs.Functions.{DiagramsParts, IsDiagramId}
 use Rattle.walk_under.specs.Working.Walking.{walk_context}
 use Rattle.walk_under.specs.Working.Counting.{IsFoundUnder, with_counted}
-use Rattle.walk_under.proofs.Uncounted.{no_items, some_items}
+use Rattle.hypothesis_counts.proofs.Uncounted.{no_items, some_items}
+use Rattle.walk_under.proofs.PartCases.{always_ok}
 use Rattle.walk_under.proofs.CountedWalks.{counted_split, found_unbroken}
 use Rattle.walk_under.proofs.deciding.string_of.Goals as goal
 
@@ -50,3 +51,9 @@ judge-requires-clause-some c = some_items c.as_slice-places.result.now c.has_som
 
 pub judge-requires-clause-broken : goal.judge-requires-clause-broken
 judge-requires-clause-broken c i h = c.in_ok-broken.ensures.back i (subst (λ (l : List ℕ). Has l i) c.as_slice-places.ensures.value h)
+
+pub returns-clause-derivatives : goal.returns-clause-derivatives
+returns-clause-derivatives c = always_ok c.judge.result c.in_ok-string.ensures.derivatives
+
+pub returns-clause-kept : goal.returns-clause-kept
+returns-clause-kept c = always_ok c.judge.result c.in_ok-string.ensures.kept

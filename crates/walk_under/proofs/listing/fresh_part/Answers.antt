@@ -3,7 +3,8 @@ use Rattle.std.proofs.lemmas.List.{take_all}
 use Rattle.test_diagrams.proofs.Kept.{KeepsFunctions-itself, KeepsFunctions-trans}
 use Rattle.walk_under.specs.Working.Entries.{EntryParts}
 use Rattle.walk_under.specs.Working.Listings.{IsFreshPart}
-use Rattle.walk_under.proofs.PartCases.{front_more, read_item, front_has}
+use Rattle.walk_under.proofs.PartCases.{front_more, front_has}
+use Rattle.hypothesis_counts.proofs.ShortIds.{read_item}
 use Rattle.walk_under.proofs.FreshParts.{fresh_none, fresh_more}
 use Rattle.walk_under.proofs.listing.fresh_part.Goals as goal
 

@@ -3,7 +3,8 @@ use Rattle.std.proofs.lemmas.List.{take_all}
 use Rattle.test_diagrams.proofs.Kept.{KeepsFunctions-itself, KeepsFunctions-trans}
 use Rattle.walk_under.specs.Working.Entries.{EntryParts}
 use Rattle.walk_under.specs.Working.Merging.{AreAtomsOf}
-use Rattle.walk_under.proofs.PartCases.{front_more, read_item}
+use Rattle.walk_under.proofs.PartCases.{front_more}
+use Rattle.hypothesis_counts.proofs.ShortIds.{read_item}
 use Rattle.walk_under.proofs.MergedIds.{atoms_none}
 use Rattle.walk_under.proofs.merging.atoms_of.Goals as goal
 

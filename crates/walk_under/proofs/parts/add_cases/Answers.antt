@@ -1,10 +1,18 @@
-use Rattle.std.proofs.Common.{◌≡◌, ⊎_elim, inl, inr, ◌∙◌}
+use Rattle.std.proofs.Common.{◌≡◌, ⊎_elim, inl, inr, sym, ◌∙◌}
 use Rattle.std.specs.Bool.{IsTrue}
+use Rattle.std.proofs.lemmas.Bool.{eqb-true}
 use Rattle.std.proofs.lemmas.Result.{on_ok_weaker}
 use Rattle.test_diagrams.specs.Functions.{value_of}
 use Rattle.test_diagrams.proofs.Kept.{KeepsFunctions-trans}
-use Rattle.walk_under.proofs.PartCases.{both_ok, part_kept, both_values}
+use Rattle.walk_under.proofs.PartCases.{both_ok, part_kept, both_values, never_true}
 use Rattle.walk_under.proofs.parts.add_cases.Goals as goal
+
+pub returns-then-eq-clause-covers : goal.returns-then-eq-clause-covers
+returns-then-eq-clause-covers c atom fits h =
+    let b = c.add_case.new.diagrams in
+    let right = c.args.item.now.right in
+    let never = never_true b c.constant.result right atom c.constant.ensures.function (eqb-true right c.constant.result (sym c.eq.ensures ∙ c.if-eq.true)) fits in
+    c.in_ok-add_case.ensures.covers atom fits (⊎_elim inl (λ k. inr (record { there = k.0; on_left = k.1; on_right = sym (c.in_ok-add_case.ensures.kept.values right c.requires.right atom) ∙ never })) h)
 
 pub add_case-requires-2-clause-region : goal.add_case-requires-2-clause-region
 add_case-requires-2-clause-region c = c.in_ok-add_case.ensures.kept.ids c.args.part.now.region c.requires.region

@@ -3,7 +3,8 @@ use Rattle.std.proofs.lemmas.List.{take_all}
 use Rattle.std.proofs.lemmas.Result.{IfOk-weaker}
 use Rattle.test_diagrams.proofs.Kept.{KeepsFunctions-itself, KeepsFunctions-trans}
 use Rattle.walk_pairs.specs.declared.items.Item.{Item}
-use Rattle.walk_under.proofs.PartCases.{always_ok, AreAlike, alike_more, alike_rest, region_part, front_more, read_item}
+use Rattle.walk_under.proofs.PartCases.{always_ok, AreAlike, alike_more, alike_rest, region_part, front_more}
+use Rattle.hypothesis_counts.proofs.ShortIds.{read_item}
 use Rattle.walk_under.proofs.parts.differing_part.Goals as goal
 
 pub loop-item-init : goal.loop-item-init

@@ -5,7 +5,8 @@ use Rattle.test_diagrams.proofs.Kept.{KeepsFunctions-itself, KeepsFunctions-tran
 use Rattle.walk_pairs.specs.declared.items.Item.{Item}
 use Rattle.walk_under.specs.declared.parts.Part.{Part}
 use Rattle.walk_under.specs.Working.Parts.{AreParts, HavePartIds, HasPartAt}
-use Rattle.walk_under.proofs.PartCases.{has_permuted, first_parts, front_more, read_item}
+use Rattle.walk_under.proofs.PartCases.{has_permuted, first_parts, front_more}
+use Rattle.hypothesis_counts.proofs.ShortIds.{read_item}
 use Rattle.walk_under.proofs.parts.parts_of.Goals as goal
 
 pub loop-item-init : goal.loop-item-init

@@ -1,9 +1,17 @@
-use Rattle.std.proofs.Common.{◌∙◌}
+use Rattle.std.proofs.Common.{⊎_elim, inl, inr, sym, ◌∙◌}
+use Rattle.std.proofs.lemmas.Bool.{eqb-true}
 use Rattle.std.proofs.lemmas.Result.{on_ok_weaker}
 use Rattle.test_diagrams.specs.Functions.{value_of}
 use Rattle.test_diagrams.proofs.Kept.{KeepsFunctions-trans}
-use Rattle.walk_under.proofs.PartCases.{both_ok, part_kept, both_values}
+use Rattle.walk_under.proofs.PartCases.{both_ok, part_kept, both_values, never_true}
 use Rattle.walk_under.proofs.parts.split_part.Goals as goal
+
+pub returns-then-eq-clause-covers : goal.returns-then-eq-clause-covers
+returns-then-eq-clause-covers c atom fits h =
+    let b = c.add_cases.new.diagrams in
+    let left = c.args.item.now.left in
+    let never = never_true b c.constant.result left atom c.constant.ensures.function (eqb-true left c.constant.result (sym c.eq.ensures ∙ c.if-eq.true)) fits in
+    c.in_ok-add_cases.ensures.covers atom fits (⊎_elim inl (λ k. inr (k, sym (c.in_ok-add_cases.ensures.kept.values left c.requires.left atom) ∙ never)) h)
 
 pub add_cases-requires-2-clause-region : goal.add_cases-requires-2-clause-region
 add_cases-requires-2-clause-region c = c.in_ok-add_cases.ensures.kept.ids c.args.part.now.region c.requires.region

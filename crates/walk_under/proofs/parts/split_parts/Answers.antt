@@ -5,7 +5,8 @@ use Rattle.partial_derivs.proofs.Items.{take_item}
 use Rattle.test_diagrams.proofs.Kept.{KeepsFunctions-itself, KeepsFunctions-trans}
 use Rattle.walk_under.specs.declared.parts.Part.{Part}
 use Rattle.walk_under.specs.Working.Parts.{HasPartAt}
-use Rattle.walk_under.proofs.PartCases.{part_kept, part_at_last, read_item}
+use Rattle.walk_under.proofs.PartCases.{part_kept, part_at_last}
+use Rattle.hypothesis_counts.proofs.ShortIds.{read_item}
 use Rattle.walk_under.proofs.parts.split_parts.Goals as goal
 
 pub loop-part-init : goal.loop-part-init

@@ -1,5 +1,5 @@
 use Rattle.std.proofs.Common.{◌-◌, inr, arith}
-use Rattle.walk_under.proofs.PartCases.{read_item}
+use Rattle.hypothesis_counts.proofs.ShortIds.{read_item}
 use Rattle.walk_under.proofs.smoothing.region_at.Goals as goal
 
 pub returns-then-index-regions : goal.returns-then-index-regions

@@ -33,6 +33,9 @@ loop-place-preserved c =
       kept = Grows-trans c.args.store.now c.loop-place.store c.take.new.store c.loop-place.invariant.kept c.in_ok-found.ensures.kept;
     }
 
+pub returns-then-is_full-clause-answer : goal.returns-then-is_full-clause-answer
+returns-then-is_full-clause-answer c shorts q count u = (c.loop-place.place, c.loop-place.invariant.each shorts q count u)
+
 pub returns-in-Some-clause-answer : goal.returns-in-Some-clause-answer
 returns-in-Some-clause-answer c shorts q count u =
     let found = rw c.in-Some.is at (c.in_ok-found.ensures.taken shorts q count (c.loop-place.invariant.each shorts q count u)) in

@@ -36,6 +36,7 @@ loop-origin-init c =
       kept = KeepsFunctions-itself w.diagrams;
       listing = refl;
       same = refl;
+      derivatives = refl;
       regions = λ id h. absurd (subst (λ l. Has l id) c.new-regions.ensures.items h);
       some = (r.0, r.2.from.level, r.1, subst (IsSoFar r.0 w r.2.from.level c.args.place c.args.last.items) (sym c.new-moves.ensures.items) (so_far_start r.0 w c.args.place c.args.last.items r.1 r.2));
       each = λ s u d. subst (IsSoFar s w d.from.level c.args.place c.args.last.items) (sym c.new-moves.ensures.items) (so_far_start s w c.args.place c.args.last.items u d);
@@ -278,6 +279,7 @@ loop-origin-preserved c =
       kept = later;
       listing = b.listing;
       same = b.same;
+      derivatives = b.derivatives;
       regions = λ id h.
           ⊎_elim
           (λ old. c.in_ok-before.ensures.kept.ids id (b.regions id old))
@@ -307,3 +309,6 @@ returns-clause-regions c id h = c.loop-origin.invariant.regions id h
 
 pub returns-clause-kept : goal.returns-clause-kept
 returns-clause-kept c = c.loop-origin.invariant.kept
+
+pub returns-clause-derivatives : goal.returns-clause-derivatives
+returns-clause-derivatives c = c.loop-origin.invariant.derivatives

@@ -10,6 +10,7 @@ invariant-loop-origin l = record {
   kept : KeepsFunctions l.initial.self.diagrams l.self.diagrams;
   listing : l.self.listing ≡ l.initial.self.listing;
   same : l.self.moves ≡ l.initial.self.moves;
+  derivatives : l.self.derivatives ≡ l.initial.self.derivatives;
   regions : (id : ℕ) → Has l.regions.items id → IsDiagramId l.self.diagrams id;
   some : (s : WalkContext) × (n : ℕ) × IsUnderWay s l.initial.self l.fn.place × IsSoFar s l.initial.self n l.place l.first.items l.moves.items;
   each : (s : WalkContext) → IsUnderWay s l.initial.self l.fn.place → (d : IsDifference s l.initial.self l.fn.place l.fn.last.items) → IsSoFar s l.initial.self d.from.level l.place l.first.items l.moves.items;

@@ -17,7 +17,8 @@ use Rattle.walk_under.specs.Working.Parts.{HasPartAt, AreParts}
 use Rattle.walk_under.specs.Working.Listings.{IsNextPart}
 use Rattle.walk_under.specs.Working.Walking.{WalkContext, IsAtSource, AreNextItems}
 use Rattle.walk_under.proofs.AllowedImages.{within_kept}
-use Rattle.walk_under.proofs.PartCases.{region_somewhere, part_at_last, read_item}
+use Rattle.walk_under.proofs.PartCases.{region_somewhere, part_at_last}
+use Rattle.hypothesis_counts.proofs.ShortIds.{read_item}
 use Rattle.walk_under.proofs.Standing.{next_part_kept, source_later}
 use Rattle.walk_under.proofs.Visiting.{visited_then, visited_part, visited_nowhere, visited_from, next_items_kept, next_same, part_next}
 use Rattle.walk_under.proofs.walk.TestedWorklist.visit.Goals as goal

@@ -1,0 +1,4 @@
+pub mod ShortIds
+pub mod Uncounted
+pub mod BrokenStrings
+pub mod CountedHyps
