@@ -1,4 +1,4 @@
-//! `check`, `replay`, `explain` and `chain`.
+//! `check`, `replay`, `explain`, `try` and `chain`.
 ghost use Rattle.std.specs.Prelude.{◌≡◌, ℕ, Ok};
 ghost use Rattle.kat_model.specs.Problems.{ProblemParts};
 ghost use Rattle.kat_model.specs.Expressions.{CondTree};
@@ -15,10 +15,12 @@ ghost use Rattle.tool_check.specs.Check.{CheckHeadline, CheckReply};
 ghost use Rattle.tool_check.specs.Replay.{ReplayHeadline, ReplayReply};
 ghost use Rattle.tool_check.specs.Chain.{ChainHeadline, ChainReply};
 ghost use Rattle.tool_explain.specs.Explain.{ExplainHeadline, ExplainReply};
+ghost use Rattle.tool_try.specs.Try.{TryHeadline, TryReply};
+ghost use Rattle.tool_try.specs.TryWith.{TryWithHeadline, TryWithReply};
 ghost use Rattle.kat_c.specs.CallEnds.{call_end, GivesReply};
 
 use crate::giving::give;
-use kat_tool::{chain_bytes, check_bytes, explain_bytes, replay_bytes};
+use kat_tool::{chain_bytes, check_bytes, explain_bytes, replay_bytes, try_bytes, try_with_bytes};
 use std::alloc::Global;
 
 /// Gives the caller the reply of `kat_tool::check_bytes`.
@@ -73,6 +75,39 @@ pub extern "C" fn kat_explain(
     ensures reply { GivesReply (ExplainReply text.now evidence.now) (call_end out.old out.new needed.new result) }
 {
     give(explain_bytes(alloc, text, evidence), out, needed)
+}
+
+/// Gives the caller the reply of `kat_tool::try_bytes`.
+#[unsafe(no_mangle)]
+pub extern "C" fn kat_try(
+    alloc: Global,
+    text: &[u8],
+    turns: u64,
+    out: &mut [u8],
+    needed: &mut usize,
+) -> u8
+    ensures headline { (f : FileParts) → Reads text.now f
+        → GivesReply (TryHeadline f turns) (call_end out.old out.new needed.new result) }
+    ensures reply { GivesReply (TryReply text.now turns) (call_end out.old out.new needed.new result) }
+{
+    give(try_bytes(alloc, text, turns), out, needed)
+}
+
+/// Gives the caller the reply of `kat_tool::try_with_bytes`.
+#[unsafe(no_mangle)]
+pub extern "C" fn kat_try_with(
+    alloc: Global,
+    text: &[u8],
+    turns: u64,
+    evidence: &[u8],
+    out: &mut [u8],
+    needed: &mut usize,
+) -> u8
+    ensures headline { (f : FileParts) (a : AbstractParts) → Reads text.now f → IsConcrete f → abstract_of f ≡ Ok a
+        → GivesReply (TryWithHeadline turns evidence.now f a) (call_end out.old out.new needed.new result) }
+    ensures reply { GivesReply (TryWithReply turns text.now evidence.now) (call_end out.old out.new needed.new result) }
+{
+    give(try_with_bytes(alloc, text, evidence, turns), out, needed)
 }
 
 /// Gives the caller the reply of `kat_tool::chain_bytes`.

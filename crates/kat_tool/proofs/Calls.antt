@@ -8,7 +8,7 @@ use Rattle.kat_model.specs.Members.{Has}
 use Rattle.kat_model.specs.Problems.{ProblemParts}
 use Rattle.bisim_worklist.proofs.AnswerCerts.{answer_accepted}
 use Rattle.outline_rules.specs.Tasks.{TaskParts}
-use Rattle.tool_commands.specs.Commands.{Command, decide, decide_json, show, gkat, batch, check, replay, explain, outline, outline_check, chain, run, oneloop, bench, optimise, command_of, files_of}
+use Rattle.tool_commands.specs.Commands.{Command, decide, decide_json, show, gkat, batch, check, replay, explain, try_goal, try_with, outline, outline_check, chain, run, oneloop, bench, optimise, command_of, files_of}
 use Rattle.tool_inputs.specs.Contents.{MayContain}
 use Rattle.tool_inputs.specs.FileProblem.{Asks, HasProblem}
 use Rattle.tool_inputs.specs.Steps.{ShelfUse, ReplySpec, HasFailedOn}
@@ -24,6 +24,9 @@ use Rattle.tool_check.specs.Check.{CheckStatus, CheckReply}
 use Rattle.tool_check.specs.Replay.{ReplayReply}
 use Rattle.tool_check.specs.Chain.{ChainReply}
 use Rattle.tool_explain.specs.Explain.{ExplainReply}
+use Rattle.tool_try.specs.Try.{TryReply}
+use Rattle.tool_try.specs.Questions.{HasConcrete}
+use Rattle.tool_try.specs.TryWith.{TryWithReply}
 use Rattle.tool_outline.specs.Triples.{HasTask, PosesSomeTask}
 use Rattle.tool_outline.specs.Outline.{IsNoted, OutlinesText, OutlineReply}
 use Rattle.tool_outline.specs.OutlineCheck.{OutlineCheckReply}
@@ -46,6 +49,7 @@ use Rattle.tool_check.specs.Working.CheckReplies.{check_one}
 use Rattle.tool_check.specs.Working.ReplayReplies.{replay_one}
 use Rattle.tool_check.specs.Working.ChainReplies.{chain_one}
 use Rattle.tool_explain.specs.Working.ExplainReplies.{explain_one}
+use Rattle.tool_try.specs.Working.TryReplies.{try_one, try_with_one}
 use Rattle.tool_outline.specs.Working.OutlineReplies.{outline_one}
 use Rattle.tool_outline.specs.Working.NotesReplies.{outline_check_one}
 use Rattle.tool_programs.specs.Working.ShowReplies.{show_one}
@@ -80,6 +84,8 @@ command_one s (batch file) = plain_file s file BatchReply batch_one
 command_one s (check file other) = of_two_files s file other HasProblem CheckReply check_one
 command_one s (replay file other) = of_two_files s file other HasProblem ReplayReply replay_one
 command_one s (explain file other) = of_two_files s file other HasProblem ExplainReply explain_one
+command_one s (try_goal file turns) = plain_file s file (λ t. TryReply t turns) (λ t. try_one t turns)
+command_one s (try_with file turns other) = of_two_files s file other HasConcrete (TryWithReply turns) (try_with_one turns)
 command_one s (outline file) = plain_file s file OutlineReply outline_one
 command_one s (outline_check file other) = of_two_files s file other PosesSomeTask OutlineCheckReply outline_check_one
 command_one s (chain file other) = of_two_files s file other HasProblem ChainReply chain_one

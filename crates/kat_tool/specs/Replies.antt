@@ -1,6 +1,6 @@
 -- The replies of the top call to words.
 use Rattle.std.specs.Prelude.{◌≡◌, ◌⊎◌, ℕ, List, None, Some}
-use Rattle.tool_commands.specs.Commands.{Command, decide, decide_json, show, gkat, batch, check, replay, explain, outline, outline_check, chain, run, oneloop, bench, optimise, command_of}
+use Rattle.tool_commands.specs.Commands.{Command, decide, decide_json, show, gkat, batch, check, replay, explain, try_goal, try_with, outline, outline_check, chain, run, oneloop, bench, optimise, command_of}
 use Rattle.tool_inputs.specs.Contents.{MayContain}
 use Rattle.tool_inputs.specs.FileProblem.{HasProblem}
 use Rattle.tool_inputs.specs.Steps.{ShelfUse, ReplySpec}
@@ -13,6 +13,9 @@ use Rattle.tool_check.specs.Check.{CheckReply}
 use Rattle.tool_check.specs.Replay.{ReplayReply}
 use Rattle.tool_check.specs.Chain.{ChainReply}
 use Rattle.tool_explain.specs.Explain.{ExplainReply}
+use Rattle.tool_try.specs.Try.{TryReply}
+use Rattle.tool_try.specs.Questions.{HasConcrete}
+use Rattle.tool_try.specs.TryWith.{TryWithReply}
 use Rattle.tool_outline.specs.Triples.{PosesSomeTask}
 use Rattle.tool_outline.specs.Outline.{OutlineReply}
 use Rattle.tool_outline.specs.OutlineCheck.{OutlineCheckReply}
@@ -33,6 +36,8 @@ RepliesTo s (batch file) = OfFile s file BatchReply
 RepliesTo s (check file evidence) = OfTwoFiles s file evidence HasProblem CheckReply
 RepliesTo s (replay file evidence) = OfTwoFiles s file evidence HasProblem ReplayReply
 RepliesTo s (explain file evidence) = OfTwoFiles s file evidence HasProblem ExplainReply
+RepliesTo s (try_goal file turns) = OfFile s file (λ text. TryReply text turns)
+RepliesTo s (try_with file turns evidence) = OfTwoFiles s file evidence HasConcrete (TryWithReply turns)
 RepliesTo s (outline file) = OfFile s file OutlineReply
 RepliesTo s (outline_check file notes) = OfTwoFiles s file notes PosesSomeTask OutlineCheckReply
 RepliesTo s (chain file proof) = OfTwoFiles s file proof HasProblem ChainReply

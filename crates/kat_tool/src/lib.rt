@@ -31,6 +31,8 @@ pub use tool_outline::{outline_bytes, outline_check_bytes};
 use tool_outline::{OutlineCheckCommand, OutlineCommand};
 pub use tool_programs::{gkat_bytes, one_loop_bytes, run_bytes, show_bytes};
 use tool_programs::{GkatCommand, OneLoopCommand, RunCommand, ShowCommand};
+use tool_try::{TryCommand, TryWithCommand};
+pub use tool_try::{try_bytes, try_with_bytes};
 
 fn command_reply<S: Shelf>(
     alloc: Global,
@@ -50,6 +52,12 @@ fn command_reply<S: Shelf>(
         Command::Check(file, other) => reply_to_files(alloc, &CheckCommand, file, other, shelf),
         Command::Replay(file, other) => reply_to_files(alloc, &ReplayCommand, file, other, shelf),
         Command::Explain(file, other) => reply_to_files(alloc, &ExplainCommand, file, other, shelf),
+        Command::Try { file, turns } => reply_to_file(alloc, &TryCommand { turns }, file, shelf),
+        Command::TryWith {
+            file,
+            turns,
+            evidence,
+        } => reply_to_files(alloc, &TryWithCommand { turns }, file, evidence, shelf),
         Command::Outline(file) => reply_to_text_file(alloc, &OutlineCommand, file, shelf),
         Command::OutlineCheck(file, other) => {
             reply_to_files(alloc, &OutlineCheckCommand, file, other, shelf)
@@ -84,7 +92,8 @@ fn answer<S: Shelf>(alloc: Global, words: &Words, shelf: &mut S) -> Result<Reply
 /// Runs the command of the words over the shelf, sends the output to the sink and returns the exit status. `IsRun` of
 /// `specs/Run.antt` says all of it.
 /// - 0: the goals hold, those of a concrete file for all its stores; or, for other commands, the result is printed
-/// - 1: the question over tests and actions fails, which says nothing about stores; `run`: stuck or no turn left
+/// - 1: the question over tests and actions fails, which says nothing about stores; `try`: the goal is false from the
+///   printed store; `run`: stuck or no turn left
 /// - 2: a file is refused, or one of its goals or its program; the output is the line with the reason
 /// - 3: the evidence, the proof or the notes are read but rejected; the output is the line with the first reason
 /// - 4: the shelf failed in this call on a file that the words name

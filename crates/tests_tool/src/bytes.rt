@@ -3,7 +3,7 @@ use crate::fixtures::{DENESTING, DENESTING_EVIDENCE, STAR_TWICE};
 use kat_model::NoMemory;
 use kat_tool::{
     Reply, chain_bytes, check_bytes, decide_bytes, explain_bytes, optimise_bytes, outline_bytes,
-    outline_check_bytes, replay_bytes, run_bytes, show_bytes,
+    outline_check_bytes, replay_bytes, run_bytes, show_bytes, try_bytes, try_with_bytes,
 };
 use std::alloc::Global;
 use std::test::Fail;
@@ -13,6 +13,8 @@ enum Call {
     Check,
     Replay,
     Explain,
+    Try,
+    TryWith,
     Show,
     Run,
     Optimise,
@@ -28,6 +30,8 @@ fn reply_of(alloc: Global, call: &Call, text: &str, second: &str) -> Result<Repl
         Call::Check => check_bytes(alloc, text.as_bytes(), second.as_bytes()),
         Call::Replay => replay_bytes(alloc, text.as_bytes(), second.as_bytes()),
         Call::Explain => explain_bytes(alloc, text.as_bytes(), second.as_bytes()),
+        Call::Try => try_bytes(alloc, text.as_bytes(), 0),
+        Call::TryWith => try_with_bytes(alloc, text.as_bytes(), second.as_bytes(), 0),
         Call::Show => show_bytes(alloc, text.as_bytes()),
         Call::Run => run_bytes(alloc, text.as_bytes(), "P", second, 0),
         Call::Optimise => optimise_bytes(alloc, text.as_bytes(), "L", 1000),
@@ -46,6 +50,13 @@ const UNKEPT_STRING: &str = "kat 1 different\nA 1\nM 0 0\nend\n";
 
 const WRAP_AROUND: &str =
     "var x; prog P { x := 18446744073709551615; x := x + 1; } rounds 1; goal triple {true} P {x == 0};";
+
+const ADDED: &str =
+    "width 8; var x; prog P { x := x + 1; } prog Q { x := x + 2; } goal equal P, Q;";
+
+const ADDED_STRING: &str = "kat 1 different\nA\nM 0\nend\n";
+
+const ADDED_ENDS: &str = "x=0\ndone x=1\ndone x=2\n";
 
 const SHOWN: &str =
     "# t0 is x == 0\n# t1 is x + 1 == 0\ntest t0, t1;\n# a0 is x := 18446744073709551615\n# a1 is x := x + 1\naction a0, a1;\n# assign a0 t0\nhyp ([false].(a0.[!t0])) = 0;\nhyp ([!false].(a0.t0)) = 0;\n# assign a0 t1\nhyp ([true].(a0.[!t1])) = 0;\nhyp ([!true].(a0.t1)) = 0;\n# assign a1 t0\nhyp (t1.(a1.[!t0])) = 0;\nhyp ([!t1].(a1.t0)) = 0;\n# F1 t0 t1\nhyp (t0.t1) = 0;\ngoal equal ([true].((a0.a1).[!t0])), 0;\n";
@@ -134,6 +145,23 @@ const ROWS: &[Row] = &[
         DENESTING_EVIDENCE,
         3,
         "rejected: TermNode 1\n",
+    ),
+    (Call::Try, ADDED, "", 1, ADDED_ENDS),
+    (
+        Call::Try,
+        WRAP_AROUND,
+        "",
+        0,
+        "stores tried 10005, runs cut short 0\n",
+    ),
+    (Call::Try, MIXED, "", 2, "refused: NotConcrete\n"),
+    (Call::TryWith, ADDED, ADDED_STRING, 1, ADDED_ENDS),
+    (
+        Call::TryWith,
+        ADDED,
+        DENESTING_EVIDENCE,
+        3,
+        "rejected: NotAString\n",
     ),
     (Call::Show, WRAP_AROUND, "", 0, SHOWN),
     (Call::Run, MIXED, "y=4,x=3", 0, "done x=3 y=4\n"),

@@ -3,12 +3,13 @@ use Rattle.std.specs.Prelude.{ℕ, ◌^◌, List, [], ◌∷◌, Option, None, S
 use Rattle.std.specs.Option.{option_map}
 use Rattle.std.specs.Str.{bytes_eq}
 use Rattle.tool_commands.specs.declared.words.Command.{Command as Chosen}
-use Rattle.tool_commands.specs.declared.words.Command.TheVariants.{Decide, DecideJson, Show, Batch, Check, Replay, Explain, Chain, Run, OneLoop, Bench, Optimise, Gkat, Outline, OutlineCheck}
+use Rattle.tool_commands.specs.declared.words.Command.TheVariants.{Decide, DecideJson, Show, Batch, Check, Replay, Explain, Try, TryWith, Chain, Run, OneLoop, Bench, Optimise, Gkat, Outline, OutlineCheck}
 use Rattle.tool_commands.specs.declared.words.TheConstants.{DEFAULT_STEPS}
 use Rattle.tool_commands.specs.Numbers.{number_below, count_of}
 
 -- a command and its words: the file of the problem or of several goals, and the file of the evidence, the proof or the
--- notes; or a program of the file, with the word of a store and a number of turns; or a number of problems
+-- notes; or a number of turns, with evidence or without; or a program of the file, with the word of a store and a number
+-- of turns; or a number of problems
 pub data Command : Type 0 where
   decide : (file : List ℕ) → Command
   decide_json : (file : List ℕ) → Command
@@ -18,6 +19,8 @@ pub data Command : Type 0 where
   check : (file evidence : List ℕ) → Command
   replay : (file evidence : List ℕ) → Command
   explain : (file evidence : List ℕ) → Command
+  try_goal : (file : List ℕ) → (turns : ℕ) → Command
+  try_with : (file : List ℕ) → (turns : ℕ) → (evidence : List ℕ) → Command
   outline : (file : List ℕ) → Command
   outline_check : (file notes : List ℕ) → Command
   chain : (file proof : List ℕ) → Command
@@ -36,6 +39,8 @@ command_seen (Batch file) = batch file.now
 command_seen (Check file evidence) = check file.now evidence.now
 command_seen (Replay file evidence) = replay file.now evidence.now
 command_seen (Explain file evidence) = explain file.now evidence.now
+command_seen (Try file turns) = try_goal file.now turns
+command_seen (TryWith file turns evidence) = try_with file.now turns evidence.now
 command_seen (Outline file) = outline file.now
 command_seen (OutlineCheck file notes) = outline_check file.now notes.now
 command_seen (Chain file proof) = chain file.now proof.now
@@ -50,7 +55,8 @@ is_value [] = false
 is_value (b ∷ bs) = not (b == 45)
 
 -- the commands by the words after the name: a file or a number; a file and an option; a file and its evidence, proof,
--- notes or program; a file, a program, a store and turns; a file, a program, an option and its number
+-- notes, program or turns; a file, turns and evidence; a file, a program, a store and turns; a file, a program, an option
+-- and its number
 unfoldable pub with_file : List ℕ → List ℕ → Option Command
 with_file name file =
     if bytes_eq name (codes "decide") then Some (decide file)
@@ -69,11 +75,15 @@ with_value name file value =
     if bytes_eq name (codes "check") then Some (check file value)
     else if bytes_eq name (codes "replay") then Some (replay file value)
     else if bytes_eq name (codes "explain") then Some (explain file value)
+    else if bytes_eq name (codes "try") then option_map (λ n. try_goal file n) (number_below (2 ^ 64) value)
     else if bytes_eq name (codes "chain") then Some (chain file value)
     else if bytes_eq name (codes "outline") then Some (outline_check file value)
     else if bytes_eq name (codes "oneloop") then Some (oneloop file value)
     else if bytes_eq name (codes "optimise") then Some (optimise file value DEFAULT_STEPS)
     else None
+
+unfoldable pub with_evidence : List ℕ → List ℕ → List ℕ → List ℕ → Option Command
+with_evidence name file turns evidence = if bytes_eq name (codes "try") then option_map (λ n. try_with file n evidence) (number_below (2 ^ 64) turns) else None
 
 unfoldable pub with_turns : List ℕ → List ℕ → List ℕ → List ℕ → List ℕ → Option Command
 with_turns name file prog store turns = if bytes_eq name (codes "run") then option_map (λ n. run file prog store n) (number_below (2 ^ 64) turns) else None
@@ -86,6 +96,7 @@ with_limit name file prog option turns =
 abbrev pub command_of : List (List ℕ) → Option Command
 command_of (name ∷ file ∷ []) = if is_value file then with_file name file else None
 command_of (name ∷ file ∷ last ∷ []) = if is_value file then (if is_value last then with_value name file last else with_option name file last) else None
+command_of (name ∷ file ∷ turns ∷ evidence ∷ []) = if is_value file && is_value evidence then with_evidence name file turns evidence else None
 command_of (name ∷ file ∷ prog ∷ next ∷ turns ∷ []) =
     if is_value file && is_value prog then (if is_value next then with_turns name file prog next turns else with_limit name file prog next turns) else None
 command_of words = None
@@ -100,6 +111,8 @@ files_of (batch file) = file ∷ []
 files_of (check file evidence) = file ∷ evidence ∷ []
 files_of (replay file evidence) = file ∷ evidence ∷ []
 files_of (explain file evidence) = file ∷ evidence ∷ []
+files_of (try_goal file turns) = file ∷ []
+files_of (try_with file turns evidence) = file ∷ evidence ∷ []
 files_of (outline file) = file ∷ []
 files_of (outline_check file notes) = file ∷ notes ∷ []
 files_of (chain file proof) = file ∷ proof ∷ []

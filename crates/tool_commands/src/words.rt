@@ -1,7 +1,7 @@
 //! The words of a command line, and the table of the words that form a command.
 ghost use Rattle.std.specs.Prelude.{◌≡◌, ◌++◌, ◌∷◌, [], List, ℕ, OnOk, OnErr, Option, if◌then◌else◌};
 ghost use Rattle.std.specs.Option.{option_map};
-ghost use Rattle.tool_commands.specs.Commands.{command_of, command_seen, is_value, with_file, with_option, with_value, with_turns, with_limit};
+ghost use Rattle.tool_commands.specs.Commands.{command_of, command_seen, is_value, with_file, with_option, with_value, with_evidence, with_turns, with_limit};
 
 use crate::numbers::{ProblemCount, count_of, number_of};
 use kat_model::NoMemory;
@@ -45,6 +45,17 @@ pub enum Command<'a> {
     Replay(&'a str, &'a str),
     /// `explain` FILE EVIDENCE
     Explain(&'a str, &'a str),
+    /// `try` FILE TURNS
+    Try {
+        file: &'a str,
+        turns: u64,
+    },
+    /// `try` FILE TURNS EVIDENCE
+    TryWith {
+        file: &'a str,
+        turns: u64,
+        evidence: &'a str,
+    },
     /// `outline` FILE
     Outline(&'a str),
     /// `outline` FILE NOTES
@@ -98,6 +109,12 @@ impl Words {
         match self.texts.as_slice() {
             [name, file] => of_two(name.as_str(), file.as_str()),
             [name, file, last] => of_three(name.as_str(), file.as_str(), last.as_str()),
+            [name, file, turns, evidence] => of_four(
+                name.as_str(),
+                file.as_str(),
+                turns.as_str(),
+                evidence.as_str(),
+            ),
             [name, file, prog, next, turns] => of_five(
                 name.as_str(),
                 file.as_str(),
@@ -110,7 +127,7 @@ impl Words {
     }
 }
 
-// The commands of two, three and five words.
+// The commands of two, three, four and five words.
 fn of_two<'a>(name: &str, file: &'a str) -> Option<Command<'a>>
     ensures { option_map command_seen result ≡ command_of (name.now ∷ file.now ∷ []) }
 {
@@ -126,6 +143,16 @@ fn of_three<'a>(name: &str, file: &'a str, last: &'a str) -> Option<Command<'a>>
 {
     if is_value(file) {
         with_last(name, file, last)
+    } else {
+        None
+    }
+}
+
+fn of_four<'a>(name: &str, file: &'a str, turns: &str, evidence: &'a str) -> Option<Command<'a>>
+    ensures { option_map command_seen result ≡ command_of (name.now ∷ file.now ∷ turns.now ∷ evidence.now ∷ []) }
+{
+    if is_value(file) && is_value(evidence) {
+        with_evidence(name, file, turns, evidence)
     } else {
         None
     }
@@ -188,7 +215,7 @@ fn with_option<'a>(name: &str, file: &'a str, option: &str) -> Option<Command<'a
     }
 }
 
-// The commands of a file and its evidence, a proof, notes or a program.
+// The commands of a file and its evidence, a proof, notes, a program or a number of turns.
 #[tactic(auto, unfolding(crate::specs::Commands::with_value))]
 fn with_value<'a>(name: &str, file: &'a str, value: &'a str) -> Option<Command<'a>>
     ensures { option_map command_seen result ≡ with_value name.now file.now value.now }
@@ -197,6 +224,10 @@ fn with_value<'a>(name: &str, file: &'a str, value: &'a str) -> Option<Command<'
         "check" => Some(Command::Check(file, value)),
         "replay" => Some(Command::Replay(file, value)),
         "explain" => Some(Command::Explain(file, value)),
+        "try" => match number_of(value) {
+            Some(turns) => Some(Command::Try { file, turns }),
+            None => None,
+        },
         "chain" => Some(Command::Chain(file, value)),
         "outline" => Some(Command::OutlineCheck(file, value)),
         "oneloop" => Some(Command::OneLoop(file, value)),
@@ -204,6 +235,26 @@ fn with_value<'a>(name: &str, file: &'a str, value: &'a str) -> Option<Command<'
             file,
             prog: value,
             turns: DEFAULT_STEPS,
+        }),
+        _ => None,
+    }
+}
+
+// The commands of a file, a number of turns and evidence.
+#[tactic(auto, unfolding(crate::specs::Commands::with_evidence))]
+fn with_evidence<'a>(
+    name: &str,
+    file: &'a str,
+    turns: &str,
+    evidence: &'a str,
+) -> Option<Command<'a>>
+    ensures { option_map command_seen result ≡ with_evidence name.now file.now turns.now evidence.now }
+{
+    match (name, number_of(turns)) {
+        ("try", Some(turns)) => Some(Command::TryWith {
+            file,
+            turns,
+            evidence,
         }),
         _ => None,
     }

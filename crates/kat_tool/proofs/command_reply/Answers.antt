@@ -9,6 +9,12 @@ returns-in-Replay-clause-replied g c = rw c.in-Replay.is c.reply_to_files-in-Rep
 pub returns-in-Explain-clause-replied : goal.returns-in-Explain-clause-replied
 returns-in-Explain-clause-replied g c = rw c.in-Explain.is c.reply_to_files-in-Explain.ensures.replied
 
+pub returns-in-Try-clause-replied : goal.returns-in-Try-clause-replied
+returns-in-Try-clause-replied g c = rw c.in-Try.is c.reply_to_file-in-Try.ensures.replied
+
+pub returns-in-TryWith-clause-replied : goal.returns-in-TryWith-clause-replied
+returns-in-TryWith-clause-replied g c = rw c.in-TryWith.is c.reply_to_files-in-TryWith.ensures.replied
+
 pub returns-in-Run-clause-replied : goal.returns-in-Run-clause-replied
 returns-in-Run-clause-replied g c = rw c.in-Run.is c.reply_to_file-in-Run.ensures.replied
 

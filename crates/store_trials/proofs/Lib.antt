@@ -1,0 +1,9 @@
+pub mod Ascending
+pub mod FalseGoals
+pub mod TrialFacts
+pub mod StoreBounds
+pub mod ListedStores
+pub mod DrawnStores
+pub mod TestValues
+pub mod FollowedMoves
+pub mod ProgNumbers

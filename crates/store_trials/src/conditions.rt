@@ -1,0 +1,51 @@
+//! Whether a condition holds in a store.
+ghost use Rattle.std.specs.Prelude.{◌≡◌, ◌<◌};
+ghost use Rattle.kat_model.specs.Expressions.{expr_tree, cond_tree};
+ghost use Rattle.kat_model.specs.Stores.{modulus, IsStore, value, compares, holds};
+
+use kat_model::{Cond, Expr, Rel, Width};
+
+// Returns the value of an expression. A variable that the store does not have is 0.
+fn value(width: Width, expr: &Expr, store: &[u64]) -> u64
+    requires { IsStore width store.now }
+    ensures value { result ≡ value width store.now (expr_tree expr.now) }
+    ensures bound { result < modulus width }
+{
+    match expr {
+        Expr::Num(n) => width.residue(*n),
+        Expr::Var(k) => store.get(*k).copied().unwrap_or(0),
+        Expr::Add(e, f) => width.add(value(width, e, store), value(width, f, store)),
+        Expr::Sub(e, f) => width.sub(value(width, e, store), value(width, f, store)),
+        Expr::Mul(e, f) => width.mul(value(width, e, store), value(width, f, store)),
+    }
+}
+
+fn compares(rel: Rel, left: u64, right: u64) -> bool
+    ensures { result ≡ compares rel left right }
+{
+    match rel {
+        Rel::Eq => left == right,
+        Rel::Ne => left != right,
+        Rel::Lt => left < right,
+        Rel::Le => left <= right,
+        Rel::Gt => left > right,
+        Rel::Ge => left >= right,
+    }
+}
+
+/// Whether a condition holds in the store. A named test is false.
+pub(crate) fn holds(width: Width, cond: &Cond, store: &[u64]) -> bool
+    requires { IsStore width store.now }
+    ensures { result ≡ holds width store.now (cond_tree cond.now) }
+{
+    match cond {
+        Cond::True => true,
+        Cond::False | Cond::Test(_) => false,
+        Cond::Compare(rel, e, f) => {
+            compares(*rel, value(width, e, store), value(width, f, store))
+        }
+        Cond::Not(b) => !holds(width, b, store),
+        Cond::And(b, c) => holds(width, b, store) && holds(width, c, store),
+        Cond::Or(b, c) => holds(width, b, store) || holds(width, c, store),
+    }
+}

@@ -1,0 +1,5 @@
+pub mod TryTexts
+pub mod Try
+pub mod TryWith
+pub mod Questions
+pub mod Working

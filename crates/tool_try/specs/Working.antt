@@ -1,0 +1,4 @@
+pub mod TakenFiles
+pub mod TrialStores
+pub mod Questions
+pub mod TryReplies
