@@ -1,7 +1,7 @@
 # Completions of kat for bash.
 _kat() {
     local word=${COMP_WORDS[COMP_CWORD]} command=${COMP_WORDS[1]}
-    local commands="decide check explain replay batch show outline chain optimise run oneloop gkat bench"
+    local commands="decide check explain replay try batch show outline chain optimise run oneloop gkat bench"
     COMPREPLY=()
     if [ "$COMP_CWORD" -eq 1 ]; then
         COMPREPLY=($(compgen -W "$commands --help --version --program --build" -- "$word"))
@@ -20,7 +20,7 @@ _kat() {
         ;;
     bench:* | *:[5-9]) ;;
     --*) ;;
-    *:2 | check:3 | explain:3 | replay:3 | outline:3 | chain:3)
+    *:2 | check:3 | explain:3 | replay:3 | try:4 | outline:3 | chain:3)
         compopt -o filenames 2>/dev/null
         COMPREPLY=($(compgen -f -- "$word"))
         ;;

@@ -24,6 +24,7 @@ FILE, WORD, NUMBER = "file", "word", "number"
 CALLS = {
     "decide": (FILE,), "decide_json": (FILE,), "batch": (FILE,), "show": (FILE,), "gkat": (FILE,), "outline": (FILE,),
     "check": (FILE, FILE), "replay": (FILE, FILE), "explain": (FILE, FILE), "chain": (FILE, FILE), "outline_check": (FILE, FILE),
+    "try": (FILE, NUMBER), "try_with": (FILE, NUMBER, FILE),
     "run": (FILE, WORD, WORD, NUMBER), "oneloop": (FILE, WORD), "optimise": (FILE, WORD, NUMBER),
 }
 NO_MEMORY, NO_ROOM = 6, 9
