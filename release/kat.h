@@ -30,7 +30,7 @@ extern "C" {
 
 enum kat_status {
     KAT_EQUAL = 0,      /* the goal holds, evidence of it is accepted, or the command succeeded */
-    KAT_DIFFERENT = 1,  /* the goal does not hold, evidence of that is accepted, or a run did not end */
+    KAT_DIFFERENT = 1,  /* the goal does not hold or is false from a store, evidence of that is accepted, or a run did not end */
     KAT_REFUSED = 2,    /* a text is refused: the output says why, "refused: WORD" and the place */
     KAT_REJECTED = 3,   /* evidence, a proof or notes do not show what they claim: the output says why */
     KAT_NO_MEMORY = 6,
@@ -58,6 +58,14 @@ uint8_t kat_replay(const uint8_t *text, size_t length, const uint8_t *evidence, 
 /* Explains evidence in the words of the problem file: 0 if it shows what it claims. */
 uint8_t kat_explain(const uint8_t *text, size_t length, const uint8_t *evidence, size_t evidence_length,
                     uint8_t *out, size_t room, size_t *needed);
+
+/* Looks for a store from which the goal of a problem file, of two programs or a triple of one, is false, with runs of at most
+ * TURNS loop bodies: 1 with the store and the ends of its runs, 0 if none of some 20,000 stores is one. */
+uint8_t kat_try(const uint8_t *text, size_t length, uint64_t turns, uint8_t *out, size_t room, size_t *needed);
+
+/* The same, but the stores that follow the string of evidence are tried first. */
+uint8_t kat_try_with(const uint8_t *text, size_t length, uint64_t turns, const uint8_t *evidence, size_t evidence_length,
+                     uint8_t *out, size_t room, size_t *needed);
 
 /* Checks a proof that turns one side of the goal into the other by axioms: 0 if it is one. */
 uint8_t kat_chain(const uint8_t *text, size_t length, const uint8_t *proof, size_t proof_length,
