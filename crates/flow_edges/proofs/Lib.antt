@@ -1,3 +1,2 @@
 pub mod EdgesOfTables
-pub mod MappedRows
 mod SameActions

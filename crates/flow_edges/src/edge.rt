@@ -3,7 +3,7 @@ ghost use Rattle.std.specs.Prelude.{◌≡◌, IfOk};
 ghost use Rattle.flow_edges.specs.EdgeViews.{flow_edge};
 
 use crate::action::FlowAction;
-use crate::cond::copy_conds;
+use flow_symbolic::copy_conds;
 use flow_ways::FlowCond;
 use kat_model::NoMemory;
 use std::alloc::Global;

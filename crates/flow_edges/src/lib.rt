@@ -3,7 +3,6 @@
 #![tactic(auto)]
 
 mod action;
-mod cond;
 mod edge;
 mod edges;
 

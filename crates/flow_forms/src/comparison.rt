@@ -11,11 +11,21 @@ use unique_rows::TableRow;
 
 /// A comparison: that a form of a width is 0, that the first form of a width is less than the second as unsigned
 /// numbers, or that two opaque values are the same.
-#[derive(Drop)]
 pub enum FlowComparison {
     Zero(Width, FlowForm),
     Less(Width, FlowForm, FlowForm),
     Same(FlowForm, FlowForm),
+}
+
+// Explicit, so that it is proved once and not at each end of each function that owns a comparison.
+impl Drop for FlowComparison {
+    fn drop(self) {
+        match self {
+            FlowComparison::Zero(_width, _form) => {}
+            FlowComparison::Less(_width, _left, _right) => {}
+            FlowComparison::Same(_left, _right) => {}
+        }
+    }
 }
 
 /// The normal form of a condition that compares two values: a truth value, a comparison, or the negation of a

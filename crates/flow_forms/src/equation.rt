@@ -38,8 +38,8 @@ fn copy_equation(alloc: Global, equation: &Equation) -> Result<Equation, NoMemor
     Ok(Equation { width, form })
 }
 
-// Returns the form or its negative, whichever is less.
-fn canonical(alloc: Global, width: Width, form: FlowForm) -> Result<FlowForm, NoMemory>
+/// Returns the form or its negative, whichever is less. Fails only when out of memory; the form is dropped then.
+pub fn canonical(alloc: Global, width: Width, form: FlowForm) -> Result<FlowForm, NoMemory>
     ensures { IfOk result (λ f. form_tree f ≡ canonical_form (modulus width) (form_tree form)) }
 {
     let other = negative(alloc, width, form.copy(alloc)?)?;

@@ -1,4 +1,4 @@
--- The problem of a question asks of its graphs.
+-- The problem of a question is about its graphs.
 use Rattle.std.proofs.Common.{◌≡◌, ℕ, Bool, true, false, List, [], ◌++◌, length, map, flat_map, slice_get, nat_lt, Some, Ok, Err, if◌then◌else◌, refl, sym, subst}
 use Rattle.std.specs.List.{enumerate_from}
 use Rattle.kat_model.specs.Members.{Has, IsSubset}

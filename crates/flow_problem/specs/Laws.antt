@@ -7,11 +7,11 @@ use Rattle.flow_problem.specs.Points.{FlowProblem, AsksOf}
 use Rattle.flow_problem.specs.FlowProblems.{FlowQuestion, PairMarks, HasMarks, problem_by}
 use Rattle.flow_problem.specs.PlacedProblems.{IsFlowPair, IsFlowProblem}
 
--- where both sides of a problem that asks of two graphs are the same, the graphs always return the same
+-- where both sides of a problem about two graphs are the same, the graphs always return the same
 abbrev pub SameAgree : Type 0
 SameAgree = (pair : Pair) (p : FlowProblem) → AsksOf pair p → Same p.problem → AgreeAlways pair
 
--- the problem of a question asks of its graphs
+-- the problem of a question is about its graphs
 abbrev pub ProblemsAsk : Type 0
 ProblemsAsk =
     (q : FlowQuestion) (marks : PairMarks) (p : FlowProblem) → HasMarks q.pair marks → problem_by q marks ≡ Ok p → AsksOf q.pair p

@@ -1,14 +1,14 @@
 //! Laws of flow problems. Each function does nothing: its contract is the law.
 ghost use Rattle.flow_problem.specs.Laws.{SameAgree, ProblemsAsk, MarkedAgree, FlowAgrees};
 
-/// A problem asks of two graphs if its hypotheses hold of all states under all interpretations and its sides lead from
+/// A problem is about two graphs if its hypotheses hold of all states under all interpretations and its sides lead from
 /// each state to the ends of the runs of the graphs. If its sides denote one relation in each table that satisfies the
 /// hypotheses, both graphs return the same under every interpretation, from every state.
 pub fn same_sides_agree()
     ensures { SameAgree }
 {}
 
-/// The problem of two graphs asks of them: each hypothesis, derived from an assignment or a fact between tests, relates
+/// The problem of two graphs is about them: each hypothesis, derived from an assignment or a fact between tests, relates
 /// no states under any interpretation, and the terms that elimination gives lead from each state to the ends of the runs.
 pub fn problems_ask()
     ensures { ProblemsAsk }

@@ -98,9 +98,9 @@ fn set_forms_from(target: usize, rest: &[usize], values: FormList, forms: &mut [
     }
 }
 
-/// Appends a form.
+/// Appends a form. Fails only when out of memory.
 #[tactic(auto, using(crate::proofs::CourseLists::map_pushed))]
-pub(crate) fn push_form(list: &mut Vec<FlowForm>, form: FlowForm) -> Result<(), NoMemory>
+pub fn push_form(list: &mut Vec<FlowForm>, form: FlowForm) -> Result<(), NoMemory>
     ensures { OnOk result (map form_tree list.new.items ≡ map form_tree list.old.items ++ form_tree form ∷ []) }
 {
     list.push(form)?;

@@ -14,6 +14,8 @@ mod ways_found;
 
 pub use action::action_of;
 pub use fault::WayFault;
+pub use form_list::push_form;
 pub use limits::MAX_WAYS;
-pub use way::{SortedForm, Way, WayEnd};
+pub use own::{own_form, own_forms};
+pub use way::{SortedForm, Way, WayEnd, copy_conds};
 pub use ways_found::ways;

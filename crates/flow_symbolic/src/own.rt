@@ -11,7 +11,7 @@ use kat_model::NoMemory;
 use std::alloc::Global;
 
 /// Returns the form of a variable that stands for itself. Fails only when out of memory.
-pub(crate) fn own_form(alloc: Global, sort: Sort, number: usize) -> Result<FlowForm, NoMemory>
+pub fn own_form(alloc: Global, sort: Sort, number: usize) -> Result<FlowForm, NoMemory>
     ensures { IfOk result (λ f. form_tree f ≡ form_of_cell sort (variable number)) }
 {
     match sort {
@@ -55,7 +55,7 @@ fn push_own_from(
 }
 
 /// Returns the forms of variables that stand for themselves. Fails only when out of memory.
-pub(crate) fn own_forms(alloc: Global, sorts: &[Sort]) -> Result<Vec<FlowForm>, NoMemory>
+pub fn own_forms(alloc: Global, sorts: &[Sort]) -> Result<Vec<FlowForm>, NoMemory>
     ensures { IfOk result (λ list. map form_tree list.items ≡ own_forms_from 0 sorts.now) }
 {
     let _count = sorts.len();

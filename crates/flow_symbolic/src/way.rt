@@ -21,10 +21,19 @@ use kat_model::NoMemory;
 use std::alloc::Global;
 
 /// A form and its sort.
-#[derive(Drop)]
 pub struct SortedForm {
     pub sort: Sort,
     pub form: FlowForm,
+}
+
+// Explicit, so that it is proved once and not at each end of each function that owns one.
+impl Drop for SortedForm {
+    fn drop(self) {
+        let SortedForm {
+            sort: _,
+            form: _form,
+        } = self;
+    }
 }
 
 /// The end of a way: a place, by its block, with the forms of the variables, or results.
@@ -39,34 +48,6 @@ pub enum WayEnd {
 pub struct Way {
     pub tests: Vec<FlowCond>,
     pub end: WayEnd,
-}
-
-/// Returns a copy of a condition. Fails only when out of memory.
-pub(crate) fn copy_cond(alloc: Global, cond: &FlowCond) -> Result<FlowCond, NoMemory>
-    ensures { IfOk result (λ c. cond_tree c ≡ cond_tree cond.now) }
-{
-    match cond {
-        FlowCond::Constantly(holds) => Ok(FlowCond::Constantly(*holds)),
-        FlowCond::Atom(comparison) => Ok(FlowCond::Atom(comparison.copy(alloc)?)),
-        FlowCond::Negation(cond) => {
-            let cond = copy_cond(alloc, cond)?;
-            Ok(FlowCond::Negation(Box::new(alloc, cond)?))
-        }
-        FlowCond::Both(left, right) => {
-            let left = copy_cond(alloc, left)?;
-            let right = copy_cond(alloc, right)?;
-            let left = Box::new(alloc, left)?;
-            let right = Box::new(alloc, right)?;
-            Ok(FlowCond::Both(left, right))
-        }
-        FlowCond::Either(left, right) => {
-            let left = copy_cond(alloc, left)?;
-            let right = copy_cond(alloc, right)?;
-            let left = Box::new(alloc, left)?;
-            let right = Box::new(alloc, right)?;
-            Ok(FlowCond::Either(left, right))
-        }
-    }
 }
 
 // Appends copies of conditions.
@@ -91,12 +72,13 @@ fn push_conds_from(
 ) -> Result<(), NoMemory>
     ensures { OnOk result (map cond_tree list.new.items ≡ map cond_tree list.old.items ++ cond_tree cond.now ∷ map cond_tree rest.now) }
 {
-    let copy = copy_cond(alloc, cond)?;
+    let copy = cond.copy(alloc)?;
     push_cond(list, copy)?;
     push_conds(alloc, rest, list)
 }
 
-fn copy_conds(alloc: Global, conds: &[FlowCond]) -> Result<Vec<FlowCond>, NoMemory>
+/// Returns copies of conditions. Fails only when out of memory.
+pub fn copy_conds(alloc: Global, conds: &[FlowCond]) -> Result<Vec<FlowCond>, NoMemory>
     ensures { IfOk result (λ list. map cond_tree list.items ≡ map cond_tree conds.now) }
 {
     let mut list = Vec::new(alloc);

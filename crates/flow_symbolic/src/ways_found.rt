@@ -14,9 +14,9 @@ use crate::course::{
 use crate::fault::WayFault;
 use crate::found::Found;
 use crate::own::own_forms;
-use crate::way::{Way, copy_cond, copy_forms, count_aborted, end_at_place, end_with_results};
+use crate::way::{Way, copy_forms, count_aborted, end_at_place, end_with_results};
 use flow_model::{Block, Jump, Sort};
-use flow_ways::{FlowCond, opposite_cond};
+use flow_ways::FlowCond;
 use kat_model::NoMemory;
 use std::alloc::Global;
 
@@ -123,8 +123,8 @@ fn ways_of_branch(
     ensures refused { IfErr result (HasReason (branch_outcome (course_tree course.old) (cond_tree cond) (target_outcome setting.now.blocks.now setting.now.sorts.now (λ l. slice_index_or setting.now.places.now l false) depth block) (target_outcome setting.now.blocks.now setting.now.sorts.now (λ l. slice_index_or setting.now.places.now l false) depth other)) found.old.count) }
     ensures grown { OnOk result (IsGrown (course_tree course.old) (course_tree course.new)) }
 {
-    let copy = copy_cond(setting.alloc, &cond)?;
-    let opposite = opposite_cond(setting.alloc, copy)?;
+    let copy = cond.copy(setting.alloc)?;
+    let opposite = copy.opposite(setting.alloc)?;
     ways_aside(setting, depth, cond, block, course, found)?;
     ways_under(setting, depth, opposite, other, course, found)
 }

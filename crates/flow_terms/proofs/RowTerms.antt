@@ -10,7 +10,7 @@ use Rattle.flow_terms.specs.Rows.{TermRow, first_step, later_steps, steps_around
 same_way : (a b c d e f g h : Term) → a ≡ e → b ≡ f → c ≡ g → d ≡ h → plus a (times b (times (repeated c) d)) ≡ plus e (times f (times (repeated g) h))
 same_way a b c d e f g h p q r s = rw (p, q, r, s) refl
 
-eliminated_same : (k : ℕ) (f g : ℕ → ℕ → Term) (u v : ℕ → Term) → ((i j : ℕ) → i ≤ k → j ≤ k → f i j ≡ g i j) → ((i : ℕ) → i ≤ k → u i ≡ v i) → eliminated k f u ≡ eliminated k g v
+pub eliminated_same : (k : ℕ) (f g : ℕ → ℕ → Term) (u v : ℕ → Term) → ((i j : ℕ) → i ≤ k → j ≤ k → f i j ≡ g i j) → ((i : ℕ) → i ≤ k → u i ≡ v i) → eliminated k f u ≡ eliminated k g v
 eliminated_same zero f g u v p q = ap₂ (λ a b. times (repeated a) b) (p 0 0 (omega arith) (omega arith)) (q 0 (omega arith))
 eliminated_same (suc k) f g u v p q =
     eliminated_same k (steps_without f (suc k)) (steps_without g (suc k)) (ends_without f u (suc k)) (ends_without g v (suc k))

@@ -8,7 +8,7 @@ ghost use Rattle.flow_ways.specs.Conditions.{of_literal as cond_of_literal, comp
 ghost use Rattle.flow_ways.specs.CondTrees.{cond_tree};
 ghost use Rattle.flow_ways.specs.CondForms.{comparison_is_small as is_small_comparison, literal_is_small as is_small_literal, compared_fit, signed_fit, cond_node_fits, cond_nodes_fit, top_cond, below, part_form, stack_conds};
 
-use crate::condition::{FlowCond, both_conds, either_cond, of_literal, opposite_cond};
+use crate::condition::{FlowCond, both_conds, either_cond, of_literal};
 use flow_forms::{
     FlowComparison, FlowForm, FlowLiteral, FormFault, compared, compared_signed, expression_form,
     is_small, opposite, same_literal,
@@ -155,7 +155,7 @@ fn negated(alloc: Global, stack: CondStack) -> Result<CondStack, NoMemory>
     ensures { IfOk result (λ s. stack_conds s ≡ opposite_of (top_cond (stack_conds stack)) ∷ below (stack_conds stack)) }
 {
     let top = pop(stack);
-    let cond = opposite_cond(alloc, top.cond)?;
+    let cond = top.cond.opposite(alloc)?;
     push(alloc, cond, top.rest)
 }
 

@@ -1,7 +1,7 @@
 //! Conditions of forms, with what is known left out.
 ghost use Rattle.std.specs.Prelude.{◌≡◌, ◌∷◌, IfOk, map};
 ghost use Rattle.flow_forms.specs.Comparisons.{comparison_tree, literal_tree, is_same_comparison};
-ghost use Rattle.flow_ways.specs.Conditions.{negation, both, either, of_literal as cond_of_literal, opposite_cond as opposite_of, is_true as is_true_cond, is_false as is_false_cond, both_conds as both_of, either_cond as either_of, value_known as known_value, known_or as cond_known_or, simplified as simplified_cond};
+ghost use Rattle.flow_ways.specs.Conditions.{negation, both, either, of_literal as cond_of_literal, opposite_cond, is_true as is_true_cond, is_false as is_false_cond, both_conds as both_of, either_cond as either_of, value_known as known_value, known_or as cond_known_or, simplified as simplified_cond};
 ghost use Rattle.flow_ways.specs.CondTrees.{cond_tree, known_fact};
 
 use flow_forms::{FlowComparison, FlowLiteral, same_comparison};
@@ -9,13 +9,62 @@ use kat_model::NoMemory;
 use std::alloc::Global;
 
 /// A condition: a truth value, a comparison, or a negation, conjunction or disjunction.
-#[derive(Drop)]
 pub enum FlowCond {
     Constantly(bool),
     Atom(FlowComparison),
     Negation(Box<FlowCond>),
     Both(Box<FlowCond>, Box<FlowCond>),
     Either(Box<FlowCond>, Box<FlowCond>),
+}
+
+// Explicit, so that it is proved once and not at each end of each function that owns a condition.
+impl Drop for FlowCond {
+    fn drop(self) {
+        match self {
+            FlowCond::Constantly(_holds) => {}
+            FlowCond::Atom(_comparison) => {}
+            FlowCond::Negation(_cond) => {}
+            FlowCond::Both(_left, _right) => {}
+            FlowCond::Either(_left, _right) => {}
+        }
+    }
+}
+
+impl FlowCond {
+    /// Returns a copy of the condition. Fails only when out of memory.
+    pub fn copy(&self, alloc: Global) -> Result<FlowCond, NoMemory>
+        ensures { IfOk result (λ c. cond_tree c ≡ cond_tree self.now) }
+    {
+        match self {
+            FlowCond::Constantly(holds) => Ok(FlowCond::Constantly(*holds)),
+            FlowCond::Atom(comparison) => Ok(FlowCond::Atom(comparison.copy(alloc)?)),
+            FlowCond::Negation(cond) => {
+                let cond = cond.copy(alloc)?;
+                new_negation(alloc, cond)
+            }
+            FlowCond::Both(left, right) => {
+                let left = left.copy(alloc)?;
+                let right = right.copy(alloc)?;
+                new_both(alloc, left, right)
+            }
+            FlowCond::Either(left, right) => {
+                let left = left.copy(alloc)?;
+                let right = right.copy(alloc)?;
+                new_either(alloc, left, right)
+            }
+        }
+    }
+
+    /// Returns the opposite condition. Fails only when out of memory.
+    pub fn opposite(self, alloc: Global) -> Result<FlowCond, NoMemory>
+        ensures { IfOk result (λ c. cond_tree c ≡ opposite_cond (cond_tree self)) }
+    {
+        match self {
+            FlowCond::Constantly(holds) => Ok(FlowCond::Constantly(!holds)),
+            FlowCond::Negation(cond) => Ok(Box::into_inner(cond)),
+            other => new_negation(alloc, other),
+        }
+    }
 }
 
 /// A comparison and whether it holds.
@@ -55,17 +104,6 @@ pub fn of_literal(alloc: Global, literal: FlowLiteral) -> Result<FlowCond, NoMem
         FlowLiteral::Decided(holds) => Ok(FlowCond::Constantly(holds)),
         FlowLiteral::Holds(comparison) => Ok(FlowCond::Atom(comparison)),
         FlowLiteral::Fails(comparison) => new_negation(alloc, FlowCond::Atom(comparison)),
-    }
-}
-
-/// Returns the opposite condition. Fails only when out of memory.
-pub fn opposite_cond(alloc: Global, cond: FlowCond) -> Result<FlowCond, NoMemory>
-    ensures { IfOk result (λ c. cond_tree c ≡ opposite_of (cond_tree cond)) }
-{
-    match cond {
-        FlowCond::Constantly(holds) => Ok(FlowCond::Constantly(!holds)),
-        FlowCond::Negation(cond) => Ok(Box::into_inner(cond)),
-        other => new_negation(alloc, other),
     }
 }
 
@@ -178,7 +216,7 @@ pub fn simplified(alloc: Global, facts: &[Known], cond: &FlowCond) -> Result<Flo
         }
         FlowCond::Negation(cond) => {
             let cond = simplified(alloc, facts, cond)?;
-            opposite_cond(alloc, cond)
+            cond.opposite(alloc)
         }
         FlowCond::Both(left, right) => {
             let left = simplified(alloc, facts, left)?;

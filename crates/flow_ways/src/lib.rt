@@ -7,7 +7,7 @@ mod laws;
 
 pub use cond_form::condition_form;
 pub use condition::{
-    FlowCond, Known, both_conds, either_cond, is_false, is_true, of_literal, opposite_cond,
-    simplified, value_known,
+    FlowCond, Known, both_conds, either_cond, is_false, is_true, of_literal, simplified,
+    value_known,
 };
 pub use laws::{actions_are_runs, runs_go_by_live_variables, ways_are_runs};

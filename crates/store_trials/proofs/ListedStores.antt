@@ -6,7 +6,7 @@ use Rattle.std.proofs.lemmas.List.FromFn.{map-range_with_len_more}
 use Rattle.kat_model.specs.Stores.{Store}
 use Rattle.store_trials.specs.StoreLists.{nth_store, store_count}
 
--- a loop that counts up leaves one round less
+-- a loop that counts up has one turn fewer to go
 pub one_less : (n k : ℕ) → k < n → n - k ≡ suc (n - (k + 1))
 one_less n k lt = omega arith
 
@@ -27,14 +27,14 @@ module _ (ns : List ℕ) (vars k : ℕ) where
   digits_done rest out start past so_far =
       sym (append-nil out) ∙ ap (λ (v : ℕ). out ++ nth_store ns v rest) (sym (none_left vars k past)) ∙ so_far
 
--- one variable more
+-- another variable
 pub count_more : (numbers k count next : ℕ) → count ≡ store_count numbers k → next ≡ min 10000 (min (numbers * count) (2 ^ 64 - 1)) → next ≡ store_count numbers (k + 1)
 count_more numbers k count next so_far is =
     let product : ℕ = numbers * count in
     let cut : min 10000 (min product (2 ^ 64 - 1)) ≡ min 10000 product = omega arith in
     is ∙ cut ∙ ap (λ (c : ℕ). min 10000 (numbers * c)) so_far ∙ ap (store_count numbers) (sym (add-one k))
 
--- one store more
+-- another store
 pub store_more : (ns : List ℕ) (vars i : ℕ) (old new : List Store) (s : Store) → new ≡ old ++ s ∷ [] → s ≡ nth_store ns vars i
     → old ≡ map (nth_store ns vars) (range_with_len 0 i) → new ≡ map (nth_store ns vars) (range_with_len 0 (i + 1))
 store_more ns vars i old new s pushed is so_far =
@@ -43,6 +43,6 @@ store_more ns vars i old new s pushed is so_far =
     ∙ ap (λ (l : List Store). l ++ nth_store ns vars i ∷ []) so_far
     ∙ sym (map-range_with_len_more (nth_store ns vars) 0 i i (omega arith))
 
--- all stores, where so many are counted
+-- all stores, where their number is counted
 pub stores_done : (ns : List ℕ) (vars i count : ℕ) (out : List Store) → i ≤ count → count ≤ i → out ≡ map (nth_store ns vars) (range_with_len 0 i) → out ≡ map (nth_store ns vars) (range_with_len 0 count)
 stores_done ns vars i count out few many so_far = let same : i ≡ count = omega arith in so_far ∙ ap (λ (n : ℕ). map (nth_store ns vars) (range_with_len 0 n)) same

@@ -18,7 +18,7 @@ numbers_then (assign x e) rest = with_nil (expr_numbers e) (prog_numbers rest)
 numbers_then (branch b p q) rest = with_nil (cond_numbers b ++ prog_numbers p ++ prog_numbers q) (prog_numbers rest)
 numbers_then (loop b p) rest = with_nil (cond_numbers b ++ prog_numbers p) (prog_numbers rest)
 
--- a statement more of a list
+-- another statement of a list
 pub numbers_more : (ss : List Stmt) (k : ℕ) (s : Stmt) (old new start : List ℕ) → k < length ss → s ≡ get_or ss k s → new ≡ old ++ prog_numbers (with_stmt (stmt_tree s) empty)
     → old ++ prog_numbers (list_tree (drop k ss)) ≡ start → new ++ prog_numbers (list_tree (drop (k + 1) ss)) ≡ start
 numbers_more ss k s old new start lt is added so_far =

@@ -1,5 +1,4 @@
--- The numbers of which stores are made are of the width, and the stores of the list have as many of them as there are
--- variables.
+-- The numbers of the stores of the list are of the width, and each store has one for each variable.
 use Rattle.std.proofs.Common.{◌≡◌, ◌↔◌, ◌<◌, ◌≤◌, ℕ, zero, suc, ◌+◌, ◌*◌, ◌-◌, ◌%◌, ◌/◌, List, [], ◌∷◌, ◌++◌, length, get_or, ⊎_elim, slice_index_or, refl, sym, ap, ◌∙◌, subst, Bool, true, false, cond, arith}
 use Rattle.std.specs.Prelude.{flat_map, nat_eq, All, Contains}
 use Rattle.std.specs.List.{range_with_len}
@@ -25,7 +24,7 @@ modulus_above W32 = omega arith
 modulus_above W64 = omega arith
 
 module _ (w : Width) where
-  -- a number of the width, and a store of so many variables of the width
+  -- a number of the width, and a store of this number of variables of the width
   abbrev pub IsNumber : ℕ → Type 0
   IsNumber n = n < modulus w
 

@@ -20,7 +20,7 @@ module _ (m : ℕ) (s : Store) where
   unlike_lengths (row ∷ rows) (b ∷ bs) other =
       ap (λ (c : Bool). is_value b (row_holds m s row) && c) (unlike_lengths rows bs (λ e. other (ap suc e))) ∙ and_false (is_value b (row_holds m s row))
 
-  -- one test more, by the rest of both lists
+  -- another test, by the rest of both lists
   module _ (all rows : List TestRow) (row : TestRow) (atom bs : Atom) (b result value : Bool) (is_row : all ≡ row ∷ rows) (is_value_here : atom ≡ b ∷ bs) (tested : value ≡ is_value b (row_holds m s row)) (so_far : has_values m s all atom ≡ result) where
     opened : (value && has_values m s rows bs) ≡ result
     opened =

@@ -35,7 +35,7 @@ impl Model for RunEnd {
 pub enum Trial {
     /// The runs from this store show that the goal is false. It is the first such store; these are the ends of its runs.
     Fails(Store, Items<RunEnd>),
-    /// The runs from no store show that, and so many runs were cut short.
+    /// There is no such store. This number of runs was cut short.
     NoneFails(u64),
 }
 

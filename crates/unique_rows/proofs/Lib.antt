@@ -1,2 +1,3 @@
 pub mod RowMembers
 pub mod CappedTables
+pub mod MappedRows
