@@ -1,0 +1,5 @@
+pub mod CellForms
+pub mod Numbered
+pub mod KnownFacts
+pub mod SplitLists
+pub mod SplitCounts

@@ -1,0 +1,2 @@
+mod TableRows
+pub mod GraphRows

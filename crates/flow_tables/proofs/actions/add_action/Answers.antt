@@ -1,0 +1,14 @@
+use Rattle.kat_model.specs.declared.limits.TheConstants.{MAX_ACTIONS}
+use Rattle.flow_problem.specs.Edges.{is_same_action}
+use Rattle.flow_edges.specs.EdgeViews.{flow_action}
+use Rattle.unique_rows.proofs.MappedRows.{row_kept, row_added}
+use Rattle.flow_tables.proofs.actions.add_action.Goals as goal
+
+pub returns-then-is_left_out : goal.returns-then-is_left_out
+returns-then-is_left_out c =
+    row_kept flow_action is_same_action MAX_ACTIONS c.args.rows.now.items c.args.action.now c.deref.result.now c.is_left_out.result c.deref.ensures.value c.is_left_out.ensures c.if-is_left_out.true
+
+pub returns : goal.returns
+returns c =
+    row_added flow_action is_same_action MAX_ACTIONS c.args.rows.now.items c.args.action.now c.deref.result.now c.push.new.self.items c.in_ok-row.row c.is_left_out.result c.deref.ensures.value c.is_left_out.ensures
+    c.if-is_left_out.false c.in_ok-push.ensures.items c.in_ok-row.ensures

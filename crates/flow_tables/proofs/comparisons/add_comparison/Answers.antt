@@ -1,0 +1,13 @@
+use Rattle.kat_model.specs.declared.limits.TheConstants.{MAX_TESTS}
+use Rattle.flow_forms.specs.Comparisons.{comparison_tree, is_same_comparison}
+use Rattle.unique_rows.proofs.MappedRows.{row_kept, row_added}
+use Rattle.flow_tables.proofs.comparisons.add_comparison.Goals as goal
+
+pub returns-then-is_left_out : goal.returns-then-is_left_out
+returns-then-is_left_out c =
+    row_kept comparison_tree is_same_comparison MAX_TESTS c.args.rows.now.items c.args.comparison.now c.deref.result.now c.is_left_out.result c.deref.ensures.value c.is_left_out.ensures c.if-is_left_out.true
+
+pub returns : goal.returns
+returns c =
+    row_added comparison_tree is_same_comparison MAX_TESTS c.args.rows.now.items c.args.comparison.now c.deref.result.now c.push.new.self.items c.in_ok-row.row c.is_left_out.result c.deref.ensures.value c.is_left_out.ensures
+    c.if-is_left_out.false c.in_ok-push.ensures.items c.in_ok-row.ensures
