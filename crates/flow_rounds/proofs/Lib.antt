@@ -1,0 +1,2 @@
+pub mod AssignedForms
+pub mod GrownTables
