@@ -1,0 +1,4 @@
+pub mod NamedNumbers
+pub mod CommentLines
+pub mod WrittenTexts
+mod FlowTextExamples

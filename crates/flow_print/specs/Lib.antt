@@ -1,0 +1,5 @@
+pub mod NameTables
+pub mod FormTexts
+pub mod ActionTexts
+pub mod ReasonTexts
+pub mod FlowTexts

@@ -1,0 +1,20 @@
+//! The text of a flow problem: a problem file with comments that give the comparison of each test, the assignment of each
+//! action, and the reason for each hypothesis.
+#![tactic(auto)]
+
+mod actions;
+mod comparisons;
+mod forms;
+mod laws;
+mod limits;
+mod names;
+mod numbers;
+mod reasons;
+mod rows;
+mod text;
+mod writing;
+
+pub use laws::flow_texts_read_back;
+pub use limits::MAX_SHOWN_NODES;
+pub use names::FlowNames;
+pub use text::flow_text;

@@ -1,0 +1,9 @@
+pub mod TermRanges
+pub mod FactRanges
+pub mod WholeRanges
+pub mod Refusals
+pub mod PlacedRows
+pub mod SplitRows
+pub mod Stages
+pub mod SideTerms
+pub mod Wholes
