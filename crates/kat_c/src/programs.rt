@@ -1,5 +1,5 @@
-//! `show`, `run`, `oneloop`, `gkat` and `optimise`. Names of programs and stores are bytes here: those that are not UTF-8
-//! are refused, as words that do not fit a file.
+//! `show`, `run`, `oneloop`, `gkat`, `flow` and `optimise`. Names of programs and stores are bytes here: those that are
+//! not UTF-8 are refused, as words that do not fit a file.
 ghost use Rattle.std.specs.Prelude.{◌≡◌, IfOk, IsUtf8};
 ghost use Rattle.file_parts.specs.Files.{FileParts};
 ghost use Rattle.problem_file.specs.Reads.{Reads};
@@ -7,13 +7,16 @@ ghost use Rattle.tool_programs.specs.Running.{RunHeadline, RunReply};
 ghost use Rattle.tool_programs.specs.OneLoop.{OneLoopHeadline, OneLoopReply};
 ghost use Rattle.tool_programs.specs.Show.{ShowHeadline, ShowReply};
 ghost use Rattle.tool_programs.specs.Gkat.{GkatHeadline, GkatReply};
+ghost use Rattle.tool_flow.specs.Flow.{FlowHeadline, FlowReply};
 ghost use Rattle.tool_optimise.specs.Optimise.{OptimiseHeadline, OptimiseReply};
 ghost use Rattle.kat_c.specs.CallEnds.{call_end, GivesReply, RefusesWords};
 
 use crate::giving::give;
 use kat_model::NoMemory;
 use kat_report::words_line;
-use kat_tool::{Reply, gkat_bytes, one_loop_bytes, optimise_bytes, run_bytes, show_bytes};
+use kat_tool::{
+    Reply, flow_bytes, gkat_bytes, one_loop_bytes, optimise_bytes, run_bytes, show_bytes,
+};
 use std::alloc::Global;
 use std::str;
 use tool_inputs::line;
@@ -123,6 +126,15 @@ pub extern "C" fn kat_gkat(alloc: Global, text: &[u8], out: &mut [u8], needed: &
     ensures reply { GivesReply (GkatReply text.now) (call_end out.old out.new needed.new result) }
 {
     give(gkat_bytes(alloc, text), out, needed)
+}
+
+/// Gives the caller the reply of `kat_tool::flow_bytes`.
+#[unsafe(no_mangle)]
+pub extern "C" fn kat_flow(alloc: Global, text: &[u8], out: &mut [u8], needed: &mut usize) -> u8
+    ensures headline { GivesReply (FlowHeadline text.now) (call_end out.old out.new needed.new result) }
+    ensures reply { GivesReply (FlowReply text.now) (call_end out.old out.new needed.new result) }
+{
+    give(flow_bytes(alloc, text), out, needed)
 }
 
 /// Gives the caller the reply of `kat_tool::optimise_bytes`, or a refusal if the name is not UTF-8.

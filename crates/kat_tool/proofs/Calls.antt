@@ -8,7 +8,7 @@ use Rattle.kat_model.specs.Members.{Has}
 use Rattle.kat_model.specs.Problems.{ProblemParts}
 use Rattle.bisim_worklist.proofs.AnswerCerts.{answer_accepted}
 use Rattle.outline_rules.specs.Tasks.{TaskParts}
-use Rattle.tool_commands.specs.Commands.{Command, decide, decide_json, show, gkat, batch, check, replay, explain, try_goal, try_with, outline, outline_check, chain, run, oneloop, bench, optimise, command_of, files_of}
+use Rattle.tool_commands.specs.Commands.{Command, decide, decide_json, show, gkat, flow, batch, check, replay, explain, try_goal, try_with, outline, outline_check, chain, run, oneloop, bench, optimise, command_of, files_of}
 use Rattle.tool_inputs.specs.Contents.{MayContain}
 use Rattle.tool_inputs.specs.FileProblem.{Asks, HasProblem}
 use Rattle.tool_inputs.specs.Steps.{ShelfUse, ReplySpec, HasFailedOn}
@@ -30,6 +30,7 @@ use Rattle.tool_try.specs.TryWith.{TryWithReply}
 use Rattle.tool_outline.specs.Triples.{HasTask, PosesSomeTask}
 use Rattle.tool_outline.specs.Outline.{IsNoted, OutlinesText, OutlineReply}
 use Rattle.tool_outline.specs.OutlineCheck.{OutlineCheckReply}
+use Rattle.tool_flow.specs.Flow.{FlowReply}
 use Rattle.tool_programs.specs.Show.{ShowReply}
 use Rattle.tool_programs.specs.Gkat.{GkatReply}
 use Rattle.tool_programs.specs.Running.{DoesNotFit, RunReply}
@@ -52,6 +53,7 @@ use Rattle.tool_explain.specs.Working.ExplainReplies.{explain_one}
 use Rattle.tool_try.specs.Working.TryReplies.{try_one, try_with_one}
 use Rattle.tool_outline.specs.Working.OutlineReplies.{outline_one}
 use Rattle.tool_outline.specs.Working.NotesReplies.{outline_check_one}
+use Rattle.tool_flow.specs.Working.FlowReplies.{flow_one}
 use Rattle.tool_programs.specs.Working.ShowReplies.{show_one}
 use Rattle.tool_programs.specs.Working.GkatReplies.{gkat_one}
 use Rattle.tool_programs.specs.Working.RunReplies.{run_one}
@@ -80,6 +82,7 @@ command_one s (decide file) = plain_file s file DecideReply decide_one
 command_one s (decide_json file) = plain_file s file DecideJsonReply decide_json_one
 command_one s (show file) = plain_file s file ShowReply show_one
 command_one s (gkat file) = plain_file s file GkatReply gkat_one
+command_one s (flow file) = plain_file s file FlowReply flow_one
 command_one s (batch file) = plain_file s file BatchReply batch_one
 command_one s (check file other) = of_two_files s file other HasProblem CheckReply check_one
 command_one s (replay file other) = of_two_files s file other HasProblem ReplayReply replay_one

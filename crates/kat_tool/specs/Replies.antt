@@ -1,6 +1,6 @@
 -- The replies of the top call to words.
 use Rattle.std.specs.Prelude.{◌≡◌, ◌⊎◌, ℕ, List, None, Some}
-use Rattle.tool_commands.specs.Commands.{Command, decide, decide_json, show, gkat, batch, check, replay, explain, try_goal, try_with, outline, outline_check, chain, run, oneloop, bench, optimise, command_of}
+use Rattle.tool_commands.specs.Commands.{Command, decide, decide_json, show, gkat, flow, batch, check, replay, explain, try_goal, try_with, outline, outline_check, chain, run, oneloop, bench, optimise, command_of}
 use Rattle.tool_inputs.specs.Contents.{MayContain}
 use Rattle.tool_inputs.specs.FileProblem.{HasProblem}
 use Rattle.tool_inputs.specs.Steps.{ShelfUse, ReplySpec}
@@ -19,6 +19,7 @@ use Rattle.tool_try.specs.TryWith.{TryWithReply}
 use Rattle.tool_outline.specs.Triples.{PosesSomeTask}
 use Rattle.tool_outline.specs.Outline.{OutlineReply}
 use Rattle.tool_outline.specs.OutlineCheck.{OutlineCheckReply}
+use Rattle.tool_flow.specs.Flow.{FlowReply}
 use Rattle.tool_programs.specs.Show.{ShowReply}
 use Rattle.tool_programs.specs.Gkat.{GkatReply}
 use Rattle.tool_programs.specs.Running.{DoesNotFit, RunReply}
@@ -32,6 +33,7 @@ RepliesTo s (decide file) = OfFile s file DecideReply
 RepliesTo s (decide_json file) = OfFile s file DecideJsonReply
 RepliesTo s (show file) = OfFile s file ShowReply
 RepliesTo s (gkat file) = OfFile s file GkatReply
+RepliesTo s (flow file) = OfFile s file FlowReply
 RepliesTo s (batch file) = OfFile s file BatchReply
 RepliesTo s (check file evidence) = OfTwoFiles s file evidence HasProblem CheckReply
 RepliesTo s (replay file evidence) = OfTwoFiles s file evidence HasProblem ReplayReply

@@ -23,6 +23,8 @@ pub use tool_decide::{batch_bytes, decide_bytes, decide_json_bytes};
 use tool_decide::{BatchCommand, DecideCommand, DecideJsonCommand, bench_reply};
 use tool_explain::ExplainCommand;
 pub use tool_explain::explain_bytes;
+use tool_flow::FlowCommand;
+pub use tool_flow::flow_bytes;
 pub use tool_inputs::Reply;
 use tool_inputs::{EarlyEnd, into_reply, line, reply_to_file, reply_to_files, reply_to_text_file};
 use tool_optimise::OptimiseCommand;
@@ -48,6 +50,7 @@ fn command_reply<S: Shelf>(
         Command::DecideJson(file) => reply_to_text_file(alloc, &DecideJsonCommand, file, shelf),
         Command::Show(file) => reply_to_file(alloc, &ShowCommand, file, shelf),
         Command::Gkat(file) => reply_to_text_file(alloc, &GkatCommand, file, shelf),
+        Command::Flow(file) => reply_to_text_file(alloc, &FlowCommand, file, shelf),
         Command::Batch(file) => reply_to_text_file(alloc, &BatchCommand, file, shelf),
         Command::Check(file, other) => reply_to_files(alloc, &CheckCommand, file, other, shelf),
         Command::Replay(file, other) => reply_to_files(alloc, &ReplayCommand, file, other, shelf),

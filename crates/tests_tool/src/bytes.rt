@@ -2,8 +2,9 @@
 use crate::fixtures::{DENESTING, DENESTING_EVIDENCE, STAR_TWICE};
 use kat_model::NoMemory;
 use kat_tool::{
-    Reply, chain_bytes, check_bytes, decide_bytes, explain_bytes, optimise_bytes, outline_bytes,
-    outline_check_bytes, replay_bytes, run_bytes, show_bytes, try_bytes, try_with_bytes,
+    Reply, chain_bytes, check_bytes, decide_bytes, explain_bytes, flow_bytes, optimise_bytes,
+    outline_bytes, outline_check_bytes, replay_bytes, run_bytes, show_bytes, try_bytes,
+    try_with_bytes,
 };
 use std::alloc::Global;
 use std::test::Fail;
@@ -16,6 +17,7 @@ enum Call {
     Try,
     TryWith,
     Show,
+    Flow,
     Run,
     Optimise,
     Outline,
@@ -33,6 +35,7 @@ fn reply_of(alloc: Global, call: &Call, text: &str, second: &str) -> Result<Repl
         Call::Try => try_bytes(alloc, text.as_bytes(), 0),
         Call::TryWith => try_with_bytes(alloc, text.as_bytes(), second.as_bytes(), 0),
         Call::Show => show_bytes(alloc, text.as_bytes()),
+        Call::Flow => flow_bytes(alloc, text.as_bytes()),
         Call::Run => run_bytes(alloc, text.as_bytes(), "P", second, 0),
         Call::Optimise => optimise_bytes(alloc, text.as_bytes(), "L", 1000),
         Call::Outline => outline_bytes(alloc, text.as_bytes()),
@@ -60,6 +63,12 @@ const ADDED_ENDS: &str = "x=0\ndone x=1\ndone x=2\n";
 
 const SHOWN: &str =
     "# t0 is x == 0\n# t1 is x + 1 == 0\ntest t0, t1;\n# a0 is x := 18446744073709551615\n# a1 is x := x + 1\naction a0, a1;\n# assign a0 t0\nhyp ([false].(a0.[!t0])) = 0;\nhyp ([!false].(a0.t0)) = 0;\n# assign a0 t1\nhyp ([true].(a0.[!t1])) = 0;\nhyp ([!true].(a0.t1)) = 0;\n# assign a1 t0\nhyp (t1.(a1.[!t0])) = 0;\nhyp ([!t1].(a1.t0)) = 0;\n# F1 t0 t1\nhyp (t0.t1) = 0;\ngoal equal ([true].((a0.a1).[!t0])), 0;\n";
+
+const TWO_ADDITIONS: &str =
+    "var u64 x; graph f { block b { x := x + 1; x := x + 1; return x; } } graph g { block b { return x + 2; } } equal f, g;";
+
+const UNCUT_LOOP: &str =
+    "var u8 x; graph f { block a { goto b; } block b { if x == 0 goto c else b; } cut block c { return x; } } equal f, f;";
 
 const MIXED: &str =
     "test b; action a; var x, y; prog P { } prog R { a; } prog T { assert b; } goal equal P, P;";
@@ -164,6 +173,15 @@ const ROWS: &[Row] = &[
         "rejected: NotAString\n",
     ),
     (Call::Show, WRAP_AROUND, "", 0, SHOWN),
+    (
+        Call::Flow,
+        TWO_ADDITIONS,
+        "",
+        0,
+        "# a0 is return x + 2\naction a0;\ngoal equal a0, a0;\n",
+    ),
+    (Call::Flow, UNCUT_LOOP, "", 2, "refused: UncutLoop\n"),
+    (Call::Flow, "var u8 x;", "", 2, "refused: NoGoal\n"),
     (Call::Run, MIXED, "y=4,x=3", 0, "done x=3 y=4\n"),
     (Call::Run, MIXED, "x=3,x=4", 7, UNFIT),
     (Call::Run, MIXED, "", 7, UNFIT),

@@ -33,6 +33,11 @@ const ROWS: &[(&str, &str, (u8, &str))] = &[
         ),
     ),
     (
+        "flow f",
+        "var u64 x; graph g { block b { x := x + 1; x := x + 1; return x; } } equal g, g;",
+        (0, "# a0 is return x + 2\naction a0;\ngoal equal a0, a0;\n"),
+    ),
+    (
         "bench 2",
         "",
         (0, "problems 2 equal 1 different 1 moves 0\n"),

@@ -3,7 +3,7 @@ use Rattle.std.specs.Prelude.{ℕ, ◌^◌, List, [], ◌∷◌, Option, None, S
 use Rattle.std.specs.Option.{option_map}
 use Rattle.std.specs.Str.{bytes_eq}
 use Rattle.tool_commands.specs.declared.words.Command.{Command as Chosen}
-use Rattle.tool_commands.specs.declared.words.Command.TheVariants.{Decide, DecideJson, Show, Batch, Check, Replay, Explain, Try, TryWith, Chain, Run, OneLoop, Bench, Optimise, Gkat, Outline, OutlineCheck}
+use Rattle.tool_commands.specs.declared.words.Command.TheVariants.{Decide, DecideJson, Show, Batch, Check, Replay, Explain, Try, TryWith, Chain, Run, OneLoop, Bench, Optimise, Gkat, Flow, Outline, OutlineCheck}
 use Rattle.tool_commands.specs.declared.words.TheConstants.{DEFAULT_STEPS}
 use Rattle.tool_commands.specs.Numbers.{number_below, count_of}
 
@@ -15,6 +15,7 @@ pub data Command : Type 0 where
   decide_json : (file : List ℕ) → Command
   show : (file : List ℕ) → Command
   gkat : (file : List ℕ) → Command
+  flow : (file : List ℕ) → Command
   batch : (file : List ℕ) → Command
   check : (file evidence : List ℕ) → Command
   replay : (file evidence : List ℕ) → Command
@@ -35,6 +36,7 @@ command_seen (Decide file) = decide file.now
 command_seen (DecideJson file) = decide_json file.now
 command_seen (Show file) = show file.now
 command_seen (Gkat file) = gkat file.now
+command_seen (Flow file) = flow file.now
 command_seen (Batch file) = batch file.now
 command_seen (Check file evidence) = check file.now evidence.now
 command_seen (Replay file evidence) = replay file.now evidence.now
@@ -62,6 +64,7 @@ with_file name file =
     if bytes_eq name (codes "decide") then Some (decide file)
     else if bytes_eq name (codes "show") then Some (show file)
     else if bytes_eq name (codes "gkat") then Some (gkat file)
+    else if bytes_eq name (codes "flow") then Some (flow file)
     else if bytes_eq name (codes "batch") then Some (batch file)
     else if bytes_eq name (codes "outline") then Some (outline file)
     else if bytes_eq name (codes "bench") then option_map (λ n. bench n) (count_of file)
@@ -107,6 +110,7 @@ files_of (decide file) = file ∷ []
 files_of (decide_json file) = file ∷ []
 files_of (show file) = file ∷ []
 files_of (gkat file) = file ∷ []
+files_of (flow file) = file ∷ []
 files_of (batch file) = file ∷ []
 files_of (check file evidence) = file ∷ evidence ∷ []
 files_of (replay file evidence) = file ∷ evidence ∷ []

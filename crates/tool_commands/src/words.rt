@@ -37,6 +37,8 @@ pub enum Command<'a> {
     Show(&'a str),
     /// `gkat` FILE
     Gkat(&'a str),
+    /// `flow` FILE
+    Flow(&'a str),
     /// `batch` FILE
     Batch(&'a str),
     /// `check` FILE EVIDENCE
@@ -183,6 +185,7 @@ fn with_file<'a>(name: &str, file: &'a str) -> Option<Command<'a>>
         "decide" => Some(Command::Decide(file)),
         "show" => Some(Command::Show(file)),
         "gkat" => Some(Command::Gkat(file)),
+        "flow" => Some(Command::Flow(file)),
         "batch" => Some(Command::Batch(file)),
         "outline" => Some(Command::Outline(file)),
         "bench" => match count_of(file) {

@@ -1,0 +1,3 @@
+pub mod Nestings
+pub mod FoundProblems
+pub mod Printability

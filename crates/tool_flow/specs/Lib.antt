@@ -1,0 +1,4 @@
+pub mod FlowFaults
+pub mod Questions
+pub mod Flow
+pub mod Working

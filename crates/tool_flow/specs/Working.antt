@@ -1,0 +1,4 @@
+pub mod Nesting
+pub mod Reasons
+pub mod Found
+pub mod FlowReplies
