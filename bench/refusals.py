@@ -74,6 +74,7 @@ CALLS = {
     "one-loop": (["oneloop", "f", "gcd"], {"f": example("runs/euclid.kat")}),
     "optimised": (["optimise", "f", "locked"], {"f": example("programs/held-lock.kat")}),
     "guarded": (["gkat", "f"], {"f": example("guarded/nested-loops.gkat")}),
+    "flow": (["flow", "f"], {"f": example("flow/loop-condition.flow")}),
     "refused": (["decide", "f"], {"f": "goal equal b, b;\n"}),
     "no-words": (["decide"], {}),
 }

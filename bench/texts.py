@@ -1,6 +1,7 @@
 #!/usr/bin/env python3
 """Measures what long texts cost: problems under `kat decide`, programs under `kat run` and `kat show`, guarded programs
-under `kat gkat`, evidence under `kat check` and `kat replay`, proofs under `kat chain`, and notes under `kat outline`.
+under `kat gkat`, flow graphs under `kat flow`, evidence under `kat check` and `kat replay`, proofs under `kat chain`, and
+notes under `kat outline`.
 
     python3 bench/texts.py [--kat PROGRAM] [--runs N] [CASE ..]
 
@@ -94,6 +95,53 @@ def choices(n):
 def factors(n):
     """n actions in two products."""
     return guarded(".".join(["pppppqqqq"] * (n // 2)))
+
+
+# Flow graphs, each with a copy of itself
+
+def flow_pair(declared, blocks):
+    """A text of a graph with these blocks, and of a copy of it."""
+    lines = "\n".join(blocks)
+    return f"sort mem;\nfun mem f(mem, u64);\nfun u8 g(mem, u64);\nvar mem m;\n{declared}" + "".join(
+        f"graph {name} {{\n{lines}\n}}\n" for name in ("before", "after")) + "equal before, after;\n"
+
+
+def loops(n):
+    """n blocks in ten loops, one after the other. Every tenth block of a loop calls a function on memory."""
+    turn, blocks = (n - 1) // 10, []
+    for k in range(n - 1):
+        call = "m := f(m, x + i); " if k % 10 == 0 else ""
+        last = k % turn == turn - 1
+        jump = f"if g(m, i) == {k // turn} goto b{k - turn + 1} else b{k + 1};" if last else f"goto b{k + 1};"
+        blocks.append(f"block b{k} {{ {call}i := i + {k}; {jump} }}")
+    return flow_pair("var u64 i, x;\n", [*blocks, f"block b{n - 1} {{ return i, m; }}"])
+
+
+def ways(n):
+    """A switch for each prime factor of n, one after the other, with that number of cases: n ways."""
+    factors, rest = [], n
+    while rest > 1:
+        factors.append(next(it for it in range(2, rest + 1) if rest % it == 0))
+        rest //= factors[-1]
+    blocks = []
+    for k, cases in enumerate(factors):
+        for case in range(cases - 1):
+            blocks += [f"block b{k}_{case} {{ if g(m, {k}) == {case} goto c{k}_{case} else b{k}_{case + 1}; }}",
+                       f"block c{k}_{case} {{ i := i + {case}; goto b{k + 1}_0; }}"]
+        blocks.append(f"block b{k}_{cases - 1} {{ goto b{k + 1}_0; }}")
+    return flow_pair("var u64 i;\n", [*blocks, f"block b{len(factors)}_0 {{ m := f(m, 0); return m; }}"])
+
+
+def assignments(n):
+    """n assignments of a variable of 29 letters in one block; the copy has them too."""
+    name = "v" * 29
+    return flow_pair(f"var u64 {name};\n", [f"block entry {{ {f'{name} := {name} + 1; ' * (n // 2)}return {name}; }}"])
+
+
+def groups(n):
+    """n sums of 2,000 names, each in 180 parentheses."""
+    inner = "(" * 180 + " + ".join(["xx"] * 2_000) + ")" * 180
+    return flow_pair("var u64 xx;\n", [f"block entry {{ {f'xx := {inner}; ' * (n // 2)}return xx; }}"])
 
 
 # Evidence, with the problem that it belongs to
@@ -236,6 +284,10 @@ CASES = {
     "full": ("show", full, 48),
     "choices": ("gkat", choices, 66_132),
     "factors": ("gkat", factors, 100_000),
+    "loops": ("flow", loops, 1_000),
+    "ways": ("flow", ways, 1_000),
+    "assignments": ("flow", assignments, 15_400),
+    "groups": ("flow", groups, 90),
     "chain": ("check", chain, 800_000),
     "chain-read": ("replay", chain, 800_000),
     "mixed-read": ("replay", mixed, 250_000),
@@ -256,7 +308,7 @@ CASES = {
 }
 
 # The words behind the problem's
-MORE = {"decide": [], "show": [], "gkat": [], "run": ["P", "zero", "0"], "check": ["evidence"], "replay": ["evidence"],
+MORE = {"decide": [], "show": [], "gkat": [], "flow": [], "run": ["P", "zero", "0"], "check": ["evidence"], "replay": ["evidence"],
         "chain": ["evidence"], "outline": ["evidence"]}
 
 

@@ -1,7 +1,7 @@
 #!/usr/bin/env python3
 """Writes docs/statement.md: the clauses that carry the claim, with every definition behind them.
 
-    docs/statement.py            writes the page, which has the first four parts
+    docs/statement.py            writes the page, which has the first five parts
     docs/statement.py --part N   prints part N of PARTS, without the definitions of earlier parts
     docs/statement.py --check    ends with 1 if the page is not what the sources give, if README.md does not have the
                                  count of the first part, or if that part is longer than a few pages
@@ -18,7 +18,7 @@ from pathlib import Path
 
 TOP = Path(__file__).resolve().parent.parent
 PAGE = TOP / "docs/statement.md"
-ON_PAGE = 4
+ON_PAGE = 5
 MOST_LINES = 350
 
 
@@ -44,7 +44,7 @@ PARTS = [
          "are part 4: the meaning of the statuses does not need them.",
          clauses=[("tool_decide/src/decide.rt", "decide_bytes", ["plain"])], later=("IsAccepted", "Spells", "SameInModels", "IsSmall")),
     Part("What `decide` answers of programs", "The bytes are those of the plainest text of two programs, or of a triple of "
-         "one, so no grammar is needed here either. The problem of an abstraction (`abstract_of`) is in part 5: the statement "
+         "one, so no grammar is needed here either. The problem of an abstraction (`abstract_of`) is in part 6: the statement "
          "on stores does not need it.",
          clauses=[("tool_decide/src/decide.rt", "decide_bytes", ["programs", "triples"])], later=("abstract_of",)),
     Part("Evidence", "The certificates that are accepted, and the bytes that spell evidence.",
@@ -52,6 +52,12 @@ PARTS = [
     Part("Models and the size of strings", "Relational models whose states are finitely or infinitely many natural numbers, and how many moves "
          "a shortest string has at most.",
          names=[("kat_laws", "Models", "SameInModels"), ("kat_laws", "SmallStrings", "IsSmall")]),
+    Part("Flow graphs", "What `flow` answers, and that two flow graphs always return the same where both sides of the printed "
+         "question are one. The text of flow graphs and the problem that is printed are in part 12, what a problem file asks is in "
+         "part 6: what an answer says about the graphs does not need them.",
+         clauses=[("tool_flow/src/flow.rt", "flow_bytes", ["headline"])],
+         later=("Asks", "IsFlowText", "FirstFault", "IsFaultOf", "HasFlowProblem", "HasNoFlowProblem", "problem_text", "variable_names",
+                "function_names", "ItemSyntax")),
     Part("Every text", "What any text asks, by the grammar of problem files, what its goal says of stores, and what `check` "
          "and `explain` answer.",
          clauses=[("tool_decide/src/decide.rt", "decide_bytes", ["headline", "stores", "readings", "reply"]), ("tool_check/src/check.rt", "check_bytes", ["headline", "reply"]),
@@ -67,6 +73,9 @@ PARTS = [
          clauses=[("tool_programs/src/oneloop.rt", "one_loop_bytes", ["headline"])]),
     Part("The optimiser", "What `optimise` answers of a text that says a file.",
          clauses=[("tool_optimise/src/optimise.rt", "optimise_bytes", ["headline"])]),
+    Part("Flow files", "The text of two flow graphs, its faults, and the problem that `flow` prints of them, or why there is none.",
+         names=[("flow_text", "Texts", "IsFlowText"), ("flow_text", "Texts", "FirstFault"), ("tool_flow", "Questions", "HasFlowProblem"),
+                ("tool_flow", "Questions", "HasNoFlowProblem"), ("tool_flow", "Questions", "problem_text")]),
     Part("The whole program", "The clause of `run` and those of the traits over which it runs: refusals with their "
          "places, first reasons, printed lines and faults of the outside.",
          clauses=[("kat_tool/src/lib.rt", "run", [])], traits=["kat_io/src/outside.rt"]),

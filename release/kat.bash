@@ -1,7 +1,7 @@
 # Completions of kat for bash.
 _kat() {
     local word=${COMP_WORDS[COMP_CWORD]} command=${COMP_WORDS[1]}
-    local commands="decide check explain replay try batch show outline chain optimise run oneloop gkat bench"
+    local commands="decide check explain replay try batch show outline chain optimise run oneloop gkat flow bench"
     COMPREPLY=()
     if [ "$COMP_CWORD" -eq 1 ]; then
         COMPREPLY=($(compgen -W "$commands --help --version --program --build" -- "$word"))

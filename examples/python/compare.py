@@ -59,6 +59,8 @@ def others(prover):
     yield "outline_check", prover.outline_check(read(problem.with_suffix(".kat")), read(notes))[1] == read(notes.with_suffix(".check"))
     guarded = next(it for it in sorted(EXAMPLES.glob("guarded/*.kat")))
     yield "gkat", prover.gkat(read(guarded.with_suffix(".gkat"))) == (0, read(guarded))
+    flow = next(it for it in sorted(EXAMPLES.glob("flow/*.kat")))
+    yield "flow", prover.flow(read(flow.with_suffix(".flow"))) == (0, read(flow))
     euclid = EXAMPLES / "runs/euclid.kat"
     yield "run", prover.run(read(euclid), "gcd", "a=12,b=18", 100) == (0, b"done a=6 b=6\n")
     yield "run of no UTF-8", prover.run(read(euclid), b"\xff", "a=12,b=18", 100) == (7, b"refused: words\n")

@@ -22,7 +22,7 @@ POINTER, LENGTH = ctypes.c_char_p, ctypes.c_size_t
 # What each call takes: texts, which the command reads from files, words and numbers.
 FILE, WORD, NUMBER = "file", "word", "number"
 CALLS = {
-    "decide": (FILE,), "decide_json": (FILE,), "batch": (FILE,), "show": (FILE,), "gkat": (FILE,), "outline": (FILE,),
+    "decide": (FILE,), "decide_json": (FILE,), "batch": (FILE,), "show": (FILE,), "gkat": (FILE,), "flow": (FILE,), "outline": (FILE,),
     "check": (FILE, FILE), "replay": (FILE, FILE), "explain": (FILE, FILE), "chain": (FILE, FILE), "outline_check": (FILE, FILE),
     "try": (FILE, NUMBER), "try_with": (FILE, NUMBER, FILE),
     "run": (FILE, WORD, WORD, NUMBER), "oneloop": (FILE, WORD), "optimise": (FILE, WORD, NUMBER),
