@@ -1,0 +1,84 @@
+"""The functions that a pass changed, and the flow texts that are tried for each."""
+
+import argparse
+import re
+import sys
+from pathlib import Path
+from types import SimpleNamespace
+
+from graph import Builder
+from ir import Module, Unread, read_function
+from names import share
+from shape import copied, cut, pruned
+
+# A choice is the cuts of both sides, and whether the file says `split` or the loops of the first side are copied.
+FIRST = ["heads heads", "joins joins", "bodies heads", "tests tests"]
+OTHERS = "heads heads twice;heads heads once;heads heads split;exits exits;heads turns;tests exits;ends ends;bodies bodies;" \
+         "joins heads;heads joins;exits joins"
+CHOICES = FIRST + OTHERS.split(";") + [
+    f"{way} {more}" for more in ("twice", "twice split", "once", "once split", "split") for way in FIRST]
+sys.setrecursionlimit(10_000)
+
+
+def options(doc, **after):
+    """A reader of the words of a command, with what both commands have."""
+    parser = argparse.ArgumentParser(description=doc)
+    parser.add_argument("before", type=Path)
+    parser.add_argument("after", type=Path, **after)
+    parser.add_argument("--strict", action="store_true", help="assert what the flags nuw, nsw, exact and inbounds promise")
+    parser.add_argument("--loads", choices=["strict"], help="assert before each load that its address is valid")
+    return parser
+
+
+def modules(before, after):
+    """Both modules of two texts; the declarations of the first hold for both."""
+    first = Module(before)
+    return first, Module(after, first)
+
+
+def changed(before, after):
+    """The names of the functions that both modules define with different texts."""
+    return [name for name, text in after.texts.items() if before.texts.get(name, text) != text]
+
+
+def block_text(name, block, results):
+    parts = [f"assert {stmt['']};" if "" in stmt else f"{', '.join(stmt)} := {', '.join(stmt.values())};" for stmt in block.stmts]
+    word, terms, targets = block.jump
+    rest = f"{terms[0]} goto {' else '.join(targets)}" if word == "if" else ", ".join(terms[:results] + targets)
+    return f"  {'cut ' * block.cut}block {name} {{ {' '.join([*parts, word, rest]).rstrip()}; }}\n"
+
+
+def flow_text(graphs, scope, split):
+    """The text that asks whether both graphs always return the same. Memory is a result where a graph sets it."""
+    results = None if any("m" in stmt for blocks in graphs for block in blocks.values() for stmt in block.stmts) else -1
+    texts = ["".join(block_text(name, block, results) for name, block in blocks.items()) for blocks in graphs]
+    words = set(re.findall(r"\w+", "".join(texts)))
+    heads = ["sort mem;\n"] * ("m" in words)
+    heads += [f"fun {sort} {name}({', '.join(args)});\n" for name, (sort, args) in scope.functions.items() if name in words]
+    for sort in dict.fromkeys(scope.sorts.values()):
+        names = [name for name in scope.sorts if scope.sorts[name] == sort and name in words]
+        heads += [f"var {sort} {', '.join(names)};\n"] if names else []
+    heads += [f"graph {word} {{\n{text}}}\n" for word, text in zip(("before", "after"), texts)]
+    return "".join(heads) + "split;\n" * split + "equal before, after;\n"
+
+
+def tries(before, after, name, strict=False, loads=None):
+    """Pairs of a choice and its flow text, each text once, for a function of two modules."""
+    if name not in before.texts or name not in after.texts:
+        raise Unread(f"no function {name} in both files")
+    first, second = read_function(before.texts[name]), read_function(after.texts[name])
+    if first.type != second.type or [type for _, type in first.params] != [type for _, type in second.params]:
+        raise Unread("both functions do not have the same parameters and results")
+    scope, seen = SimpleNamespace(sorts={"m": "mem"}, functions={}), set()
+    left = Builder(before, first, scope, (), strict, loads)
+    right = Builder(after, second, scope, left.params, strict, loads)
+    graphs = [pruned(left.build()), pruned(right.build())]
+    share(graphs, left.params, scope)
+    first, second = map(pruned, graphs)
+    for choice in CHOICES:
+        left, right, *more = choice.split()
+        side = copied(first, "twice" in more) if {"once", "twice"} & set(more) else first
+        text = flow_text([cut(side, left), cut(second, right)], scope, "split" in more)
+        if text not in seen:
+            seen.add(text)
+            yield choice, text

@@ -1,0 +1,202 @@
+"""Tests of the reader of LLVM IR: what is printed is a flow text that runs as the IR does, and what is refused."""
+
+import random
+import re
+import sys
+import unittest
+from pathlib import Path
+from types import SimpleNamespace
+
+HERE = Path(__file__).resolve().parent
+sys.path[:0] = [str(HERE), str(HERE.parent)]
+
+import flow_reader  # noqa: E402
+import pairs  # noqa: E402
+from graph import Builder  # noqa: E402
+from ir import Module, Unread, read_function  # noqa: E402
+from ir_runner import Meaning, Run  # noqa: E402
+
+
+def compare(test, before, after, name, text, seeds):
+    """Runs IR and flow text of both sides from random states; returns how often both ended, and how often they differ."""
+    file, differ, ended = flow_reader.Reader(text).file(), 0, 0
+    functions = read_function(before.texts[name]), read_function(after.texts[name])
+    params = Builder(before, functions[0], SimpleNamespace(sorts={}, functions={})).params
+    for seed in seeds:
+        rng = random.Random(f"{name} {seed}")
+        state = {var: rng.choice([0, 1, 2, 3, 5, 48, 57, 2 ** 31, rng.getrandbits(64)]) %
+                 2 ** flow_reader.WIDTHS.get(sort, 64) for var, sort in file.vars.items()}
+        args = [state.get(param, 7) % 2 ** (64 if type[0] == "ptr" else type[1])
+                for param, (_, type) in zip(params, functions[0].params)]
+        state.setdefault("m", 3)
+        state |= dict(zip(params, args))
+        results, meaning = [], Meaning(seed)
+        for module, function, side in zip((before, after), functions, ("before", "after")):
+            try:
+                expected = Run(module, function, args, state["m"], meaning).run(120)
+            except LookupError:
+                continue
+            found = flow_reader.run(file, side, state, meaning, 1000)
+            if expected == "more" or found == "more":
+                continue
+            if expected is not None:
+                count = len(expected[0])
+                expected = expected[0] + [expected[1]] * (found is not None and len(found) > count)
+            test.assertEqual(expected, found, f"{name} {side} seed {seed}\n{text}")
+            results.append(found)
+        ended += len(results) == 2
+        differ += len(results) == 2 and results[0] != results[1]
+    return ended, differ
+
+
+def small(body, head="define i32 @f(i32 %x, i32 %y)"):
+    return Module(f"declare i32 @g(i32)\ndeclare i32 @h(i32) #0\n{head} {{\n{body}\n}}\n"
+                  "attributes #0 = { nounwind willreturn readnone }\n")
+
+
+# A function with many instructions.
+KINDS = """%pair = type { i8, [3 x i32], double }
+@table = external global [4 x i32]
+declare i1 @h(i32, i1)
+define i1 @f(i32 %x, i32 %y, %pair* %p, i1 %b, double %d) {
+entry:
+  %s = alloca %pair, align 8
+  %c = icmp slt i32 %x, %y
+  %n = xor i1 %c, true
+  %o = or i1 %n, %b
+  %e = icmp eq i1 %o, %c
+  %w = sext i1 %e to i32
+  %q = select i1 %o, i32 %w, i32 %y
+  %less = fcmp olt double %d, 1.000000e+00
+  %sum = fadd fast double %d, -2.500000e-01
+  %int = fptosi double %sum to i64
+  %at = getelementptr inbounds %pair, %pair* %s, i64 0, i32 1, i32 %x
+  store i32 %q, i32* %at, align 4
+  %field = getelementptr %pair, %pair* %p, i32 %y, i32 2
+  store double %sum, double* %field
+  %num = ptrtoint i32* %at to i64
+  %diff = sub nuw i64 %int, %num
+  %low = trunc i64 %diff to i8
+  %bit = trunc i8 %low to i1
+  br i1 %less, label %left, label %right
+left:
+  switch i8 %low, label %end [
+    i8 1, label %right
+    i8 -3, label %end
+    i8 47, label %off
+  ]
+right:
+  %r = phi i1 [ %bit, %entry ], [ %e, %left ]
+  %k = call i1 @h(i32 %w, i1 %r)
+  %t = load i32, i32* getelementptr inbounds ([4 x i32], [4 x i32]* @table, i64 0, i64 2)
+  %u = ashr i32 %t, 3
+  %both = and i1 %k, %r
+  %pick = select i1 %both, i1 %n, i1 %b
+  %v = icmp uge i32 %u, %x
+  %last = xor i1 %pick, %v
+  br label %end
+end:
+  %z = phi i1 [ true, %left ], [ true, %left ], [ %last, %right ]
+  %a = phi i32 [ %x, %left ], [ %x, %left ], [ %u, %right ]
+  %i = uitofp i1 %z to double
+  %j = fcmp une double %i, %sum
+  %l = and i1 %j, %z
+  %m = icmp sgt i32 %a, -4
+  %res = or i1 %l, %m
+  ret i1 %res
+off:
+  unreachable
+}
+"""
+
+
+class Texts(unittest.TestCase):
+    def test_all_kinds(self):
+        """A function with many instructions runs as its text does, with each choice of cuts and each option."""
+        before, after = pairs.modules(KINDS, KINDS)
+        for options in {}, {"strict": True}, {"loads": "strict"}:
+            texts = [text for _, text in pairs.tries(before, after, "f", **options)]
+            for text in texts if not options else []:
+                self.assertGreater(compare(self, before, after, "f", text, range(20))[0], 0)
+            flow_reader.Reader(texts[0]).file()
+
+    def text(self, before, after=None, head="define i32 @f(i32 %x, i32 %y)", **options):
+        before = small(before, head)
+        text = next(pairs.tries(before, small(after, head) if after else before, "f", **options))[1]
+        flow_reader.Reader(text).file()
+        return text
+
+    def test_values(self):
+        self.assertIn("return x + (y * 8);", self.text("%a = shl nsw i32 %y, 3\n%b = add i32 %x, %a\nret i32 %b"))
+        self.assertIn("return u32(u8(x));", self.text("%a = and i32 %x, 255\nret i32 %a"))
+        self.assertIn("return lshr_32(x, 2);", self.text("%a = udiv i32 %x, 4\nret i32 %a"))
+        self.assertIn("if slt(x, y) goto", self.text("%c = icmp slt i32 %x, %y\n%a = zext i1 %c to i32\nret i32 %a"))
+        self.assertIn("if u64(x) < 9 goto", self.text("%w = zext i32 %x to i64\n%c = icmp slt i64 %w, 9\n%a = zext i1 %c to i32\n"
+                                                      "ret i32 %a"))
+        self.assertIn("a, m := g_value(x, m), g_memory(x, m); return a, m;", self.text("%a = call i32 @g(i32 %x)\nret i32 %a"))
+        self.assertIn("return h_value(x);", self.text("%a = call i32 @h(i32 %x)\nret i32 %a"))
+        self.assertIn("return g\u02ccx\u02c820\u02c8_address();", self.text('ret i8* @"g.x "', head="define i8* @f()"))
+
+    def test_bits(self):
+        """A bit is a condition, and 0 or 1 where it is a number."""
+        head = "define i1 @f(i32 %x, i8 %y)"
+        self.assertIn("{ c_bit := 1; goto", self.text("%c = icmp ne i32 %x, 0\nret i1 %c", head=head))
+        self.assertIn("return y, m;", self.text("%c = icmp ne i8 %y, 0\nstore i1 %c, i1* null\nret i1 %c", head=head))
+
+    def test_calls(self):
+        """What a call does to memory is what its declaration says."""
+        for words, effect in (("nounwind willreturn readnone", "none"), ("nounwind willreturn memory(none)", "none"),
+                              ("nounwind willreturn memory(read, argmem: none)", "reads"), ("nounwind readnone", "writes"),
+                              ("nounwind willreturn memory(argmem: readwrite)", "writes"),
+                              ("willreturn readonly nounwind", "reads")):
+            self.assertEqual(effect, Module(f"declare void @f(i8* readnone) #1\nattributes #1 = {{ {words} }}\n").effect("f"))
+        self.assertEqual("writes", Module("declare void @f(i8* readnone)").effect("f"))
+
+    def test_an_undefined_value_is_one_value(self):
+        text = self.text("%a = freeze i32 undef\n%b = call i32 @g(i32 %a)\n%c = sub i32 %b, %a\nret i32 %c")
+        self.assertEqual(1, len(set(re.findall(r"undef_\w+", text))))
+        text = self.text("%b = call i32 @g(i32 undef)\n%c = sub i32 %b, undef\nret i32 %c")
+        self.assertEqual(2, len(set(re.findall(r"undef_\w+", text))))
+
+    def test_names_are_shared_where_they_cannot_meet(self):
+        body = "%a = call i32 @g(i32 %x)\n%a.i = call i32 @g(i32 {})\n%b = add i32 %a.i, {}\nret i32 %b"
+        self.assertNotIn("a_", self.text(body.format("%a", "1")))
+        self.assertIn("return a_ + a, m;", self.text(body.format("%a", "%a")))
+
+    def test_jumps(self):
+        text = self.text("switch i32 %x, label %d [\n    i32 1, label %e\n    i32 -1, label %u\n  ]\n"
+                         "d:\n%p = phi i32 [ %y, %0 ]\nret i32 %p\ne:\nret i32 0\nu:\nunreachable")
+        for part in ("{ if x == 1 goto e else v0_else; }", "block v0_else { if x == 4294967295 goto u else d; }", "{ return y; }",
+                     "block u { abort; }"):
+            self.assertIn(part, text)
+
+    def test_swapped_phis(self):
+        body = ("br label %h\nh:\n%a = phi i32 [ %x, %0 ], [ %b, %l ]\n%b = phi i32 [ %y, %0 ], [ %a, %l ]\n"
+                "%c = icmp ult i32 %a, %b\nbr i1 %c, label %l, label %e\nl:\nbr label %h\ne:\nret i32 %a")
+        self.assertIn("a, b := b, a; goto h;", self.text(body))
+
+    def test_addresses(self):
+        head = "%s = type { i8, i32, [4 x i16] }\ndefine i16 @f(%s* %p, i32 %i)"
+        body = "%a = getelementptr %s, %s* %p, i64 2, i32 2, i32 %i\n%v = load i16, i16* %a\nret i16 %v"
+        self.assertIn("load_16(m, ((p + 32) + 8) + (s64(i) * 2))", self.text(body, head=head))
+        self.assertIn("load_16(m, ((p + 32) + 8) + (s64(i) * 2))", self.text(body.replace("%s*", "ptr").replace("i16*", "ptr"),
+                                                                   head=head.replace("%s*", "ptr")))
+
+    def test_strict(self):
+        self.assertIn("assert add_nuw_32(x, 1, x + 1) != 0;", self.text("%a = add nuw i32 %x, 1\nret i32 %a", strict=True))
+        load = "%a = load i32, i32* %p\nret i32 %a"
+        self.assertIn("assert valid_32(m, p) != 0; a := load_32(m, p);",
+                      self.text(load, head="define i32 @f(i32* %p)", loads=True))
+
+    def test_refusals(self):
+        for line, reason in (("%a = load volatile i32, i32* %p", "type volatile"), ("fence seq_cst", "fence"),
+                             ("%a = add i128 3, 4\n%b = trunc i128 %a to i32\nstore i32 %b, i32* %p", "type i128"),
+                             ("%a = add <2 x i32> zeroinitializer, zeroinitializer", "vector"),
+                             ("%a = invoke i32 @g() to label %x unwind label %y", "invoke")):
+            with self.assertRaises(Unread) as found:
+                self.text(f"{line}\nret i32 0", head="define i32 @f(i32* %p)")
+            self.assertIn(str(found.exception), [f"{reason}: {part}" for part in line.splitlines()])
+
+
+if __name__ == "__main__":
+    unittest.main()
