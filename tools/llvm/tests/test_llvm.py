@@ -1,5 +1,6 @@
 """Tests of the reader of LLVM IR: what is printed is a flow text that runs as the IR does, and what is refused."""
 
+import json
 import random
 import re
 import sys
@@ -15,6 +16,9 @@ import pairs  # noqa: E402
 from graph import Builder  # noqa: E402
 from ir import Module, Unread, read_function  # noqa: E402
 from ir_runner import Meaning, Run  # noqa: E402
+
+EXAMPLES = HERE.parent / "examples"
+PASSES = json.loads((EXAMPLES / "passes.json").read_text())["passes"]
 
 
 def compare(test, before, after, name, text, seeds):
@@ -49,12 +53,46 @@ def compare(test, before, after, name, text, seeds):
     return ended, differ
 
 
+def modules(before, after):
+    return pairs.modules(*((EXAMPLES / f"{name}.ll").read_text() for name in (before, after)))
+
+
 def small(body, head="define i32 @f(i32 %x, i32 %y)"):
     return Module(f"declare i32 @g(i32)\ndeclare i32 @h(i32) #0\n{head} {{\n{body}\n}}\n"
                   "attributes #0 = { nounwind willreturn readnone }\n")
 
 
-# A function with many instructions.
+class Examples(unittest.TestCase):
+    def test_runs(self):
+        """Each text of an example reads as a flow text and runs as the IR does, and right passes change no result."""
+        total = 0
+        for name, group, *_ in PASSES:
+            before, after = modules(group, name)
+            for function in pairs.changed(before, after):
+                _, text = next(pairs.tries(before, after, function))
+                ended, differ = compare(self, before, after, function, text, range(4))
+                self.assertEqual(0, differ, f"{name} {function}\n{text}")
+                total += ended
+        self.assertGreater(total, 300)
+
+    def test_choices(self):
+        """Every choice of cuts and copies runs as the first one."""
+        for name, group, function in (("loop-unroll", "rotated", "raise"), ("loop-rotate", "plain", "find_pair"),
+                                      ("gvn", "plain", "copy_until"), ("loop-peel", "rotated", "locked_steps")):
+            before, after = modules(group, name)
+            for _, text in pairs.tries(before, after, function):
+                compare(self, before, after, function, text, range(2))
+
+    def test_faults(self):
+        """Each planted fault is one: some run differs."""
+        before, after = modules("plain", "faults")
+        for function in pairs.changed(before, after):
+            _, text = next(pairs.tries(before, after, function))
+            found = any(compare(self, before, after, function, text, [seed])[1] for seed in range(300))
+            self.assertTrue(found, function)
+
+
+# A function with instructions that the examples do not have.
 KINDS = """%pair = type { i8, [3 x i32], double }
 @table = external global [4 x i32]
 declare i1 @h(i32, i1)
