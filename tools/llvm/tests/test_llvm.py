@@ -3,7 +3,9 @@
 import json
 import random
 import re
+import subprocess
 import sys
+import tempfile
 import unittest
 from pathlib import Path
 from types import SimpleNamespace
@@ -234,6 +236,23 @@ class Texts(unittest.TestCase):
             with self.assertRaises(Unread) as found:
                 self.text(f"{line}\nret i32 0", head="define i32 @f(i32* %p)")
             self.assertIn(str(found.exception), [f"{reason}: {part}" for part in line.splitlines()])
+
+    def test_validate(self):
+        """The command `validate` with a stub for `kat`: the table and the statuses."""
+        with tempfile.TemporaryDirectory() as folder:
+            same, other, unread = (Path(folder) / name for name in ("same.ll", "other.ll", "unread.ll"))
+            text = "define i32 @f(i32 %x, i32 %y) {{\n%a = {}\nret i32 %a\n}}\n"
+            same.write_text(text.format("add nsw i32 %x, %y"))
+            other.write_text(text.format("add i32 %x, %y"))
+            unread.write_text(text.format("add i7 3, 4"))
+            wrong = Path(folder) / "wrong.ll"
+            wrong.write_text(text.format("sub i32 %x, %y"))
+            for after, status, answer in ((same, 0, ""), (other, 0, "equal"), (wrong, 1, "different"), (unread, 2, "not read")):
+                ended = subprocess.run([HERE.parent / "validate", "--kat", HERE / "kat_stub", same, after],
+                                       stdout=subprocess.PIPE, text=True)
+                self.assertEqual(status, ended.returncode, ended.stdout)
+                self.assertIn(answer, ended.stdout)
+                self.assertEqual(after == wrong, "    0 x < y" in ended.stdout)
 
 
 if __name__ == "__main__":
