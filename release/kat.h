@@ -84,6 +84,9 @@ uint8_t kat_show(const uint8_t *text, size_t length, uint8_t *out, size_t room, 
 /* Translates a text of guarded programs into a problem file. */
 uint8_t kat_gkat(const uint8_t *text, size_t length, uint8_t *out, size_t room, size_t *needed);
 
+/* Prints the question whether two flow graphs always return the same as a problem file. */
+uint8_t kat_flow(const uint8_t *text, size_t length, uint8_t *out, size_t room, size_t *needed);
+
 /* Runs a program of a problem file from a store, as "a=12,b=18", for at most TURNS loop bodies: 0 if it ends. */
 uint8_t kat_run(const uint8_t *text, size_t length, const uint8_t *prog, size_t prog_length,
                 const uint8_t *store, size_t store_length, uint64_t turns, uint8_t *out, size_t room, size_t *needed);
