@@ -1,7 +1,7 @@
 //! A certificate during reading.
 ghost use Rattle.std.specs.Prelude.{◌≡◌, ◌&&◌, ◌++◌, false, Some};
 ghost use Rattle.term_nodes.specs.Nodes.{test_parts, term_parts, tests_of_term};
-ghost use Rattle.term_nodes.specs.NumberSets.{are_below, are_ascending};
+ghost use Rattle.term_nodes.specs.NumberSets.{are_below};
 ghost use Rattle.certificate.specs.Certs.{CertParts};
 ghost use Rattle.certificate.specs.Texts.{maybe_one};
 ghost use Rattle.certificate.specs.Faults.{no_entries, has_tests, is_section_allowed, is_wide, names_earlier, entry_format};
@@ -17,6 +17,7 @@ use crate::nodes::{Pair, Style, TermNode, TestNode};
 use line_format::LineDraft;
 use std::alloc::Global;
 use std::collections::BTreeSet;
+use term_nodes::is_ascending;
 
 // The entries so far. The sets contain the nodes as well, for a fast search of equal nodes.
 #[derive(Drop)]
@@ -61,12 +62,6 @@ fn has_tests(style: Style) -> bool
         Style::Plain | Style::UpTo => false,
         Style::Under => true,
     }
-}
-
-fn is_ascending(numbers: &[usize]) -> bool
-    ensures { result ≡ are_ascending numbers.now }
-{
-    numbers.is_sorted_by(|a, b| *a < *b)
 }
 
 fn test_names_earlier(node: TestNode, count: usize) -> bool

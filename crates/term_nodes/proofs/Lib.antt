@@ -5,3 +5,4 @@ pub mod TermTrees
 pub mod TreeParts
 pub mod Growing
 pub mod Insertions
+mod Neighbours

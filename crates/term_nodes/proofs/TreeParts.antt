@@ -1,5 +1,5 @@
 -- If a tree has a number, its parts have numbers.
-use Rattle.std.proofs.Common.{◌≡◌, ◌<◌, ℕ, Contains, refl, sym, subst, ◌∙◌, arith, length, Result, IsOk}
+use Rattle.std.proofs.Common.{◌<◌, ℕ, refl, sym, subst, ◌∙◌, arith, length}
 use Rattle.kat_model.specs.Trees.{TestTree, Term}
 use Rattle.term_nodes.specs.declared.TestNode.{TestNode}
 use Rattle.term_nodes.specs.declared.TestNode.TheVariants.{False, True, Prim, Not, And, Or}
@@ -9,8 +9,8 @@ use Rattle.term_nodes.specs.Nodes.{IsTestOver, IsOver}
 use Rattle.term_nodes.specs.NodeLists.{NodeParts, IsTest, IsTerm, AreNodes}
 use Rattle.term_nodes.specs.NodeTrees.{test_tree_in, tree_in, HasTestTree, HasTree}
 use Rattle.term_nodes.specs.TreeParts.{HasTestParts, HasParts}
-use Rattle.term_nodes.proofs.TestTrees.{test_node_of, test_tree_at-node, test_node_stands}
-use Rattle.term_nodes.proofs.TermTrees.{node_of, tree_at-node, node_stands}
+use Rattle.term_nodes.proofs.TestTrees.{test_node_of, test_tree_at-node}
+use Rattle.term_nodes.proofs.TermTrees.{node_of, tree_at-node}
 
 test_node_has_parts : (nodes : NodeParts) (n : ℕ) (node : TestNode ℕ) → ((i : ℕ) → i < n → IsTest nodes i) → IsTestOver n node → HasTestParts nodes (test_tree_in nodes node)
 test_node_has_parts nodes n False within over = tt

@@ -1,7 +1,11 @@
 //! Terms and tests as numbered nodes: each node names the earlier nodes that are its parts. The store of a prover, a
 //! certificate and the tables of its checker are lists of nodes. The crate has the definitions and lemmas that these
-//! share, and no code of a prover or of a checker.
+//! share, and the check that the numbers of a set ascend.
 #![tactic(auto)]
+
+mod sets;
+
+pub use sets::is_ascending;
 
 /// A test node, over the numbers `T` of its parts.
 #[derive(Clone, Copy, Debug, PartialEq, Eq, PartialOrd, Ord, Hash)]

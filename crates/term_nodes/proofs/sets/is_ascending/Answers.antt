@@ -1,7 +1,7 @@
 use Rattle.std.proofs.Common.{nat_lt, rules}
 use Rattle.std.proofs.lemmas.Fn.{always_returns_same}
-use Rattle.certificate.proofs.Ascending.{ascending_answer}
-use Rattle.certificate.proofs.draft.is_ascending.Goals as goal
+use Rattle.term_nodes.proofs.Neighbours.{ascending_answer}
+use Rattle.term_nodes.proofs.sets.is_ascending.Goals as goal
 
 pub returns : goal.returns
 returns c =
