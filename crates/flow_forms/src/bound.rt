@@ -197,9 +197,9 @@ fn less_than(
 ) -> Result<FlowLiteral, NoMemory>
     ensures { IfOk result (λ l. literal_tree l ≡ form_less_than width (form_tree left) (form_tree right)) }
 {
-    match right {
-        FlowForm::Constant(d) => below_number(alloc, width, left, width.residue(d)),
-        other => Ok(varying_less(width, left, other)),
+    match &right {
+        FlowForm::Constant(d) => below_number(alloc, width, left, width.residue(*d)),
+        _ => Ok(varying_less(width, left, right)),
     }
 }
 
@@ -213,9 +213,9 @@ pub fn less_literal(
 ) -> Result<FlowLiteral, NoMemory>
     ensures { IfOk result (λ l. literal_tree l ≡ less_form_literal width (form_tree left) (form_tree right)) }
 {
-    match left {
-        FlowForm::Constant(c) => above_number(alloc, width, width.residue(c), right),
-        other => less_than(alloc, width, other, right),
+    match &left {
+        FlowForm::Constant(c) => above_number(alloc, width, width.residue(*c), right),
+        _ => less_than(alloc, width, left, right),
     }
 }
 

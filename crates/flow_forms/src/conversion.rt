@@ -1,13 +1,12 @@
 //! Conversions of forms from one width to another.
-ghost use Rattle.std.specs.Prelude.{◌≡◌, ◌+◌, ◌-◌, ◌^◌, ◌<◌, false, IfOk, if◌then◌else◌};
-ghost use Rattle.kat_model.specs.Stores.{modulus};
-ghost use Rattle.flow_model.specs.Interpretations.{is_negative as is_negative_number, conversion as number_conversion};
+ghost use Rattle.std.specs.Prelude.{◌≡◌, false, IfOk};
 ghost use Rattle.flow_forms.specs.Forms.{converted as converted_form, form_tree, cell_form};
 ghost use Rattle.flow_forms.specs.Conversions.{is_narrower as has_fewer_bits, is_same_width as has_same_bits, shortened as shortened_form, truncated as truncated_form, is_one as has_no_cells, is_zero as is_zero_form, is_alone as is_product_alone, is_kept as keeps_form, widened_cell as widened_from_cell, widened_product as widened_from_product, widened as widened_form, sum_conversion as converted_sum, form_conversion};
 
 use crate::arithmetic::{multiple, product, sum};
 use crate::form::FlowForm;
 use crate::order::bits as bits_of;
+use flow_model::convert_number;
 use kat_model::{NoMemory, Width};
 use std::alloc::Global;
 
@@ -21,40 +20,6 @@ pub(crate) fn is_same_width(left: Width, right: Width) -> bool
     ensures { result ≡ has_same_bits left right }
 {
     bits_of(left) == bits_of(right)
-}
-
-// Returns whether a number of a width is negative as two's complement.
-fn is_negative(width: Width, number: u64) -> bool
-    ensures { result ≡ is_negative_number width number }
-{
-    match width {
-        Width::W8 => number >= 0x80,
-        Width::W16 => number >= 0x8000,
-        Width::W32 => number >= 0x8000_0000,
-        Width::W64 => number >= 0x8000_0000_0000_0000,
-    }
-}
-
-// Returns the number of 64 bits with the same value as two's complement.
-fn sign_extended(width: Width, number: u64) -> u64
-    requires { number < modulus width }
-    ensures { result ≡ (if is_negative_number width number then number + (2 ^ 64 - modulus width) else number) }
-{
-    if is_negative(width, number) {
-        return number + (u64::MAX - width.greatest());
-    }
-    number
-}
-
-/// Converts a number of the width `from` to the width `to`, as two's complement if `signed`.
-pub fn convert_number(signed: bool, from: Width, to: Width, number: u64) -> u64
-    requires { number < modulus from }
-    ensures { result ≡ number_conversion signed from to number }
-{
-    if signed {
-        return to.residue(sign_extended(from, number));
-    }
-    to.residue(number)
 }
 
 // Returns the sum that is one conversion.

@@ -7,9 +7,10 @@ ghost use Rattle.flow_forms.specs.Equations.{equation_tree, part_tree};
 
 use crate::arithmetic::{difference, negative};
 use crate::comparison::{FlowComparison, FlowLiteral};
-use crate::conversion::{convert_number, is_narrower, is_one, is_same_width, is_zero};
+use crate::conversion::{is_narrower, is_one, is_same_width, is_zero};
 use crate::form::FlowForm;
 use crate::order::{cmp_form, sign_rank};
+use flow_model::convert_number;
 use kat_model::{NoMemory, Width};
 use std::alloc::Global;
 use std::cmp::Ordering;
@@ -241,10 +242,10 @@ fn settled(alloc: Global, equation: Equation) -> Result<FlowLiteral, NoMemory>
     ensures { IfOk result (λ l. literal_tree l ≡ settled_form_equation equation.width (form_tree equation.form)) }
 {
     let Equation { width, form } = equation;
-    match form {
-        FlowForm::Constant(c) => Ok(FlowLiteral::Decided(width.residue(c) == 0)),
-        other => {
-            let form = canonical(alloc, width, other)?;
+    match &form {
+        FlowForm::Constant(c) => Ok(FlowLiteral::Decided(width.residue(*c) == 0)),
+        _ => {
+            let form = canonical(alloc, width, form)?;
             Ok(FlowLiteral::Holds(FlowComparison::Zero(width, form)))
         }
     }

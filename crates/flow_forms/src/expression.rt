@@ -13,42 +13,16 @@ use crate::arithmetic::{difference, sum};
 use crate::checked::{checked_conversion, checked_product, small};
 use crate::fault::FormFault;
 use crate::form::FlowForm;
+use crate::form::stack::Top;
 use flow_model::{ExprNode, Sort};
 use kat_model::{NoMemory, Width};
 use std::alloc::Global;
-
-// The first form of a stack with its sort, and the stack below it.
-#[derive(Drop)]
-struct Top {
-    sort: Sort,
-    form: FlowForm,
-    rest: FlowForm,
-}
 
 // The first forms of a stack, and the stack below them.
 #[derive(Drop)]
 struct Taken {
     arguments: FlowForm,
     rest: FlowForm,
-}
-
-fn popped(stack: FlowForm) -> Top
-    ensures sort { result.sort ≡ top_sort (form_tree stack) }
-    ensures form { form_tree result.form ≡ top_form (form_tree stack) }
-    ensures rest { form_tree result.rest ≡ below_top (form_tree stack) }
-{
-    match stack {
-        FlowForm::Argument(sort, form, rest) => Top {
-            sort,
-            form: Box::into_inner(form),
-            rest: Box::into_inner(rest),
-        },
-        _ => Top {
-            sort: Sort::Number(Width::W64),
-            form: FlowForm::NoArguments,
-            rest: FlowForm::NoArguments,
-        },
-    }
 }
 
 // Takes `count` forms off a stack.
@@ -63,7 +37,7 @@ fn take(alloc: Global, count: usize, stack: FlowForm) -> Result<Taken, NoMemory>
             rest: stack,
         });
     }
-    let Top { sort, form, rest } = popped(stack);
+    let Top { sort, form, rest } = stack.popped();
     let Taken { arguments, rest } = take(alloc, count - 1, rest)?;
     let arguments = FlowForm::new_argument(alloc, sort, form, arguments)?;
     Ok(Taken { arguments, rest })
@@ -119,8 +93,8 @@ fn plus(alloc: Global, width: Width, stack: FlowForm) -> Result<FlowForm, FormFa
     ensures fits { IfOk result (λ _. is_small_form (form_sum (modulus width) (top_form (form_tree stack)) (top_form (below_top (form_tree stack)))) ≡ true) }
     ensures refused { IfErr result (λ e. e ≡ FormFault.TooLarge → is_small_form (form_sum (modulus width) (top_form (form_tree stack)) (top_form (below_top (form_tree stack)))) ≡ false) }
 {
-    let first = popped(stack);
-    let second = popped(first.rest);
+    let first = stack.popped();
+    let second = first.rest.popped();
     let form = sum(alloc, width, first.form, second.form)?;
     pushed(alloc, Sort::Number(width), form, second.rest)
 }
@@ -130,8 +104,8 @@ fn minus(alloc: Global, width: Width, stack: FlowForm) -> Result<FlowForm, FormF
     ensures fits { IfOk result (λ _. is_small_form (form_difference (modulus width) (top_form (form_tree stack)) (top_form (below_top (form_tree stack)))) ≡ true) }
     ensures refused { IfErr result (λ e. e ≡ FormFault.TooLarge → is_small_form (form_difference (modulus width) (top_form (form_tree stack)) (top_form (below_top (form_tree stack)))) ≡ false) }
 {
-    let first = popped(stack);
-    let second = popped(first.rest);
+    let first = stack.popped();
+    let second = first.rest.popped();
     let form = difference(alloc, width, first.form, second.form)?;
     pushed(alloc, Sort::Number(width), form, second.rest)
 }
@@ -141,8 +115,8 @@ fn times(alloc: Global, width: Width, stack: FlowForm) -> Result<FlowForm, FormF
     ensures fits { IfOk result (λ _. product_fits width (top_form (form_tree stack)) (top_form (below_top (form_tree stack))) ≡ true) }
     ensures refused { IfErr result (λ e. e ≡ FormFault.TooLarge → product_fits width (top_form (form_tree stack)) (top_form (below_top (form_tree stack))) ≡ false) }
 {
-    let first = popped(stack);
-    let second = popped(first.rest);
+    let first = stack.popped();
+    let second = first.rest.popped();
     let form = checked_product(alloc, width, &first.form, &second.form)?;
     Ok(FlowForm::new_argument(alloc, Sort::Number(width), form, second.rest)?)
 }
@@ -158,7 +132,7 @@ fn conversion(
     ensures fits { IfOk result (λ _. conversion_fits signed from to (top_form (form_tree stack)) ≡ true) }
     ensures refused { IfErr result (λ e. e ≡ FormFault.TooLarge → conversion_fits signed from to (top_form (form_tree stack)) ≡ false) }
 {
-    let top = popped(stack);
+    let top = stack.popped();
     let form = checked_conversion(alloc, signed, from, to, &top.form)?;
     Ok(FlowForm::new_argument(alloc, Sort::Number(to), form, top.rest)?)
 }
@@ -267,6 +241,6 @@ pub fn expression_form(
     ensures fits { IfOk result (λ _. all_fit sorts.now (map form_tree forms.now) (exprs_of expr.now) ≡ true) }
     ensures refused { IfErr result (λ e. e ≡ FormFault.TooLarge → all_fit sorts.now (map form_tree forms.now) (exprs_of expr.now) ≡ false) }
 {
-    let top = popped(evaluated(alloc, sorts, forms, expr)?);
+    let top = evaluated(alloc, sorts, forms, expr)?.popped();
     Ok((top.sort, top.form))
 }

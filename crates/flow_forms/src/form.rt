@@ -3,6 +3,9 @@ ghost use Rattle.std.specs.Prelude.{◌≡◌, IfOk};
 ghost use Rattle.kat_model.specs.Problems.{counted};
 ghost use Rattle.flow_forms.specs.Forms.{term, factor, applied, converted, argument, form_tree, cell_form, form_nodes};
 
+pub(crate) mod merging;
+pub(crate) mod stack;
+
 use flow_model::Sort;
 use kat_model::{NoMemory, Width};
 use std::alloc::Global;
@@ -13,7 +16,6 @@ use std::alloc::Global;
 ///
 /// The operations of this crate put the products of a sum and the cells of a product in ascending order, and leave out
 /// terms whose coefficient becomes 0. That a value has only one form is not proved.
-#[derive(Drop)]
 pub enum FlowForm {
     /// A number: the end of a sum.
     Constant(u64),
@@ -33,6 +35,23 @@ pub enum FlowForm {
     NoArguments,
     /// An argument's sort and form, and the rest of the arguments.
     Argument(Sort, Box<FlowForm>, Box<FlowForm>),
+}
+
+// Explicit, so that it is proved once and not at each end of each function that owns a form.
+impl Drop for FlowForm {
+    fn drop(self) {
+        match self {
+            FlowForm::Constant(_number) => {}
+            FlowForm::Term(_times, _product, _rest) => {}
+            FlowForm::One => {}
+            FlowForm::Factor(_cell, _rest) => {}
+            FlowForm::Variable(_number) => {}
+            FlowForm::Applied(_function, _sort, _arguments) => {}
+            FlowForm::Converted(_signed, _from, _to, _form) => {}
+            FlowForm::NoArguments => {}
+            FlowForm::Argument(_sort, _form, _rest) => {}
+        }
+    }
 }
 
 impl FlowForm {

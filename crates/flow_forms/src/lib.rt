@@ -20,7 +20,7 @@ mod substitution;
 pub use arithmetic::{difference, multiple, negative, product, sum};
 pub use bound::{compared, compared_signed, less_literal, same_literal};
 pub use comparison::{FlowComparison, FlowLiteral, opposite, same_comparison};
-pub use conversion::{convert, convert_number};
+pub use conversion::convert;
 pub use equation::{canonical, zero_literal};
 pub use expression::expression_form;
 pub use fault::FormFault;
