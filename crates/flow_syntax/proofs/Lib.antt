@@ -1,3 +1,4 @@
+mod Words
 pub mod GrammarExamples
 pub mod Reversed
 pub mod TokensTaken

@@ -1,5 +1,5 @@
 -- What tokens spell is whole: each production keeps it.
-use Rattle.std.proofs.Common.{◌≡◌, ◌<◌, ℕ, zero, suc, List, [], ◌∷◌, ◌++◌, length, map, nat_eq, if◌then◌else◌, Some, slice_get, subst, lit<}
+use Rattle.std.proofs.Common.{◌≡◌, ◌<◌, ℕ, zero, suc, List, [], ◌∷◌, ◌++◌, length, map, nat_eq, if◌then◌else◌, Some, slice_get, subst, lit<, refl}
 use Rattle.text_tokens.specs.TokenParts.{TokenParts}
 use Rattle.text_reader.specs.declared.rule.Part.{Part}
 use Rattle.text_reader.specs.declared.rule.Part.TheVariants.{Token, Opening, Closing, Phrase}
@@ -15,7 +15,7 @@ use Rattle.flow_syntax.specs.Actions.{ValueSyntax, first, rest, second, third, f
 use Rattle.flow_syntax.specs.Productions.{Production, rules_of, rules, productions, listed_actions, act, actions, file_rules, names_rules, more_names_rules, sort_name_rules, parameters_rules, more_sorts_rules, first_block_rules, more_blocks_rules, body_rules, results_rules, condition_rules, more_conjunctions_rules, conjunction_rules, more_literals_rules, literal_rules, relation_rules, continues_rules, expression_rules, more_summands_rules, product_rules, more_factors_rules, factor_rules, call_rules, arguments_rules, more_expressions_rules}
 use Rattle.flow_syntax.specs.Spelling.{AreSpelled}
 use Rattle.flow_syntax.proofs.GrammarExamples.{rules_listed}
-use Rattle.flow_syntax.proofs.WholeSyntax.{ArePolish, AreAllPolish, IsWholeCond, AreWholeStatements, IsWholeJump, AreWholeBlocks, AreWholeItems, join_polish, operations_polish, call_polish, linked_whole, graph_whole}
+use Rattle.flow_syntax.proofs.WholeSyntax.{ArePolish, AreAllPolish, IsWholeCond, IsWholeOrNone, AreWholeStatements, IsWholeJump, AreWholeBlocks, AreWholeItems, join_polish, operations_polish, call_polish, linked_whole, more_whole, graph_whole}
 
 -- what the value of a phrase is
 data Shape : Type 0 where
@@ -24,6 +24,7 @@ data Shape : Type 0 where
   some_exprs : Shape
   some_operations : Shape
   a_cond : Shape
+  cond_or_none : Shape
   a_body : Shape
   first_blocks : Shape
   other_blocks : Shape
@@ -37,9 +38,9 @@ shape_of n =
     else if nat_eq n BODY then a_body
     else if nat_eq n RESULTS then some_exprs
     else if nat_eq n CONDITION then a_cond
-    else if nat_eq n MORE_CONJUNCTIONS then a_cond
+    else if nat_eq n MORE_CONJUNCTIONS then cond_or_none
     else if nat_eq n CONJUNCTION then a_cond
-    else if nat_eq n MORE_LITERALS then a_cond
+    else if nat_eq n MORE_LITERALS then cond_or_none
     else if nat_eq n LITERAL then a_cond
     else if nat_eq n EXPRESSION then an_expr
     else if nat_eq n MORE_SUMMANDS then some_operations
@@ -57,6 +58,7 @@ HasShape an_expr v = ArePolish 1 (expr_in v)
 HasShape some_exprs v = AreAllPolish (exprs_in v)
 HasShape some_operations v = ArePolish (length (operators_in v)) (operands_in v)
 HasShape a_cond v = IsWholeCond (cond_in v)
+HasShape cond_or_none v = IsWholeOrNone (cond_in v)
 HasShape a_body v = AreWholeStatements (statements_in v) × IsWholeJump (jump_in v)
 HasShape first_blocks v = (0 < length (blocks_in v)) × AreWholeBlocks (blocks_in v)
 HasShape other_blocks v = AreWholeBlocks (blocks_in v)
@@ -189,21 +191,21 @@ results_kept = (
 
 condition_kept : AreKept condition_rules
 condition_kept =
-    ((λ ps vs h. (linked_whole either (cond_in (first vs)) (cond_in (second vs)) tt h.0 h.1.0, h.1.1)), tt)
+    ((λ ps vs h. (linked_whole either (cond_in (first vs)) (cond_in (second vs)) tt refl h.0 h.1.0, h.1.1)), tt)
 
 more_conjunctions_kept : AreKept more_conjunctions_rules
 more_conjunctions_kept = (
-  (λ ps vs h. (linked_whole either (cond_in (second vs)) (cond_in (third vs)) tt h.0 h.1.0, h.1.1)),
+  (λ ps vs h. (more_whole either (cond_in (second vs)) (cond_in (third vs)) tt refl h.0 h.1.0, h.1.1)),
   ((λ ps vs h. (tt, h)), tt),
 )
 
 conjunction_kept : AreKept conjunction_rules
 conjunction_kept =
-    ((λ ps vs h. (linked_whole both (cond_in (first vs)) (cond_in (second vs)) tt h.0 h.1.0, h.1.1)), tt)
+    ((λ ps vs h. (linked_whole both (cond_in (first vs)) (cond_in (second vs)) tt refl h.0 h.1.0, h.1.1)), tt)
 
 more_literals_kept : AreKept more_literals_rules
 more_literals_kept = (
-  (λ ps vs h. (linked_whole both (cond_in (second vs)) (cond_in (third vs)) tt h.0 h.1.0, h.1.1)),
+  (λ ps vs h. (more_whole both (cond_in (second vs)) (cond_in (third vs)) tt refl h.0 h.1.0, h.1.1)),
   ((λ ps vs h. (tt, h)), tt),
 )
 

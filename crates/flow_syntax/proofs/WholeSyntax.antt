@@ -1,4 +1,5 @@
--- Items that are whole: each node has its operands, and each graph has a block.
+-- Items that are whole: each node has its operands, each expression and each condition is exactly one, and each graph has a
+-- block.
 use Rattle.std.proofs.Common.{◌≡◌, ◌<◌, ℕ, zero, suc, ◌+◌, List, [], ◌∷◌, ◌++◌, length, subst, arith}
 use Rattle.text_tokens.specs.TokenParts.{TokenParts}
 use Rattle.flow_syntax.specs.Syntax.{NodeSyntax, numeral, named, called, converted, operation, ExprSyntax, CondNodeSyntax, always, never, compared, compared_signed, negation, both, either, CondSyntax, StatementSyntax, assign, claim, JumpSyntax, goto, branch, return, abort, BlockSyntax, a_block, ItemSyntax, sorts, function, variables, graph, rounds, split, equal}
@@ -30,9 +31,28 @@ IsWholeNode negation = Unit {0}
 IsWholeNode both = Unit {0}
 IsWholeNode either = Unit {0}
 
+abbrev pub condition_count : CondNodeSyntax → ℕ
+condition_count always = 0
+condition_count never = 0
+condition_count (compared relation e f) = 0
+condition_count (compared_signed word e f) = 0
+condition_count negation = 1
+condition_count both = 2
+condition_count either = 2
+
+-- the nodes are those of this number of conditions, one after the other
+abbrev pub AreWholeConds : ℕ → CondSyntax → Type 0
+AreWholeConds zero [] = Unit {0}
+AreWholeConds (suc n) (x ∷ xs) = IsWholeNode x × AreWholeConds (condition_count x + n) xs
+AreWholeConds n xs = ⊥
+
 abbrev pub IsWholeCond : CondSyntax → Type 0
-IsWholeCond [] = Unit {0}
-IsWholeCond (n ∷ ns) = IsWholeNode n × IsWholeCond ns
+IsWholeCond b = AreWholeConds 1 b
+
+-- a condition, or none
+abbrev pub IsWholeOrNone : CondSyntax → Type 0
+IsWholeOrNone [] = Unit {0}
+IsWholeOrNone (n ∷ ns) = IsWholeCond (n ∷ ns)
 
 abbrev pub AreWholeStatements : List StatementSyntax → Type 0
 AreWholeStatements [] = Unit {0}
@@ -72,9 +92,13 @@ polish-append (suc m) n (x ∷ xs) ys h k =
     subst (λ i. ArePolish i (x ∷ xs ++ ys)) one (subst (λ i. ArePolish i (xs ++ ys)) more (polish-append (operand_count x + m) n xs ys h k))
 polish-append m n xs ys h k = absurd h
 
-pub whole-append : (b c : CondSyntax) → IsWholeCond b → IsWholeCond c → IsWholeCond (b ++ c)
-whole-append [] c h k = k
-whole-append (n ∷ ns) c h k = (h.0, whole-append ns c h.1 k)
+conds-append : (m n : ℕ) (xs ys : CondSyntax) → AreWholeConds m xs → AreWholeConds n ys → AreWholeConds (m + n) (xs ++ ys)
+conds-append zero n [] ys h k = let e : n ≡ 0 + n = omega arith in subst (λ i. AreWholeConds i ys) e k
+conds-append (suc m) n (x ∷ xs) ys h k =
+    let one : suc (m + n) ≡ suc m + n = omega arith in
+    let more : condition_count x + m + n ≡ condition_count x + (m + n) = omega arith in
+    subst (λ i. AreWholeConds i (x ∷ xs ++ ys)) one (h.0, subst (λ i. AreWholeConds i (xs ++ ys)) more (conds-append (condition_count x + m) n xs ys h.1 k))
+conds-append m n xs ys h k = absurd h
 
 pub blocks-append : (bs cs : List BlockSyntax) → AreWholeBlocks bs → AreWholeBlocks cs → AreWholeBlocks (bs ++ cs)
 blocks-append [] cs h k = k
@@ -110,9 +134,19 @@ pub call_polish : (t : TokenParts) (v : ValueSyntax) → AreAllPolish (exprs_in 
 call_polish t no_call h = tt
 call_polish t v h = called_polish t (exprs_in v) h
 
-pub linked_whole : (n : CondNodeSyntax) (b c : CondSyntax) → IsWholeNode n → IsWholeCond b → IsWholeCond c → IsWholeCond (linked n b c)
-linked_whole n b [] w h k = h
-linked_whole n b (x ∷ xs) w h k = (w, whole-append b (x ∷ xs) h k)
+-- a node of two conditions links them
+pub linked_whole : (n : CondNodeSyntax) (b c : CondSyntax) → IsWholeNode n → condition_count n ≡ 2 → IsWholeCond b → IsWholeOrNone c → IsWholeCond (linked n b c)
+linked_whole n b [] w two h k = h
+linked_whole n b (x ∷ xs) w two h k =
+    let both_of : 1 + 1 ≡ condition_count n + 0 = omega (arith, two) in
+    (w, subst (λ i. AreWholeConds i (b ++ (x ∷ xs))) both_of (conds-append 1 1 b (x ∷ xs) h k))
+
+whole_or_none : (b : CondSyntax) → IsWholeCond b → IsWholeOrNone b
+whole_or_none [] h = tt
+whole_or_none (n ∷ ns) h = h
+
+pub more_whole : (n : CondNodeSyntax) (b c : CondSyntax) → IsWholeNode n → condition_count n ≡ 2 → IsWholeCond b → IsWholeOrNone c → IsWholeOrNone (linked n b c)
+more_whole n b c w two h k = whole_or_none (linked n b c) (linked_whole n b c w two h k)
 
 pub graph_whole : (bs cs : List BlockSyntax) → 0 < length bs → AreWholeBlocks bs → AreWholeBlocks cs → (0 < length (bs ++ cs)) × AreWholeBlocks (bs ++ cs)
 graph_whole [] cs h k l = absurd (omega (arith, h))

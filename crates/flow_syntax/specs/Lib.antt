@@ -5,3 +5,4 @@ pub mod SyntaxViews
 pub mod Productions
 pub mod Spelling
 pub mod Sizes
+pub mod Working

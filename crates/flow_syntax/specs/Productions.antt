@@ -101,16 +101,19 @@ more_literals_rules =
     (rule_parts MORE_LITERALS (Take AND) (Phrase LITERAL ∷ Phrase MORE_LITERALS ∷ []), Conds NextAll) ∷
     (rule_parts MORE_LITERALS Otherwise ([]), Conds NoConds) ∷ []
 
+abbrev pub signed_comparison_rule : ℕ → RuleParts
+signed_comparison_rule word = rule_parts LITERAL (Take word) (Opening OPEN_ROUND ∷ Phrase EXPRESSION ∷ Token COMMA ∷ Phrase EXPRESSION ∷ Token CLOSE_ROUND ∷ Closing ∷ [])
+
 abbrev pub literal_rules : List Production
 literal_rules =
     (rule_parts LITERAL (Open BANG) (Phrase LITERAL ∷ Closing ∷ []), Conds Negate) ∷
     (rule_parts LITERAL (Take TRUE) ([]), Conds TrueCond) ∷
     (rule_parts LITERAL (Take FALSE) ([]), Conds FalseCond) ∷
     (rule_parts LITERAL (Group CONTINUES) (Phrase CONDITION ∷ Token CLOSE_ROUND ∷ Closing ∷ []), Conds EnclosedCond) ∷
-    (rule_parts LITERAL (Take SLT) (Opening OPEN_ROUND ∷ Phrase EXPRESSION ∷ Token COMMA ∷ Phrase EXPRESSION ∷ Token CLOSE_ROUND ∷ Closing ∷ []), Conds CompareSigned) ∷
-    (rule_parts LITERAL (Take SLE) (Opening OPEN_ROUND ∷ Phrase EXPRESSION ∷ Token COMMA ∷ Phrase EXPRESSION ∷ Token CLOSE_ROUND ∷ Closing ∷ []), Conds CompareSigned) ∷
-    (rule_parts LITERAL (Take SGT) (Opening OPEN_ROUND ∷ Phrase EXPRESSION ∷ Token COMMA ∷ Phrase EXPRESSION ∷ Token CLOSE_ROUND ∷ Closing ∷ []), Conds CompareSigned) ∷
-    (rule_parts LITERAL (Take SGE) (Opening OPEN_ROUND ∷ Phrase EXPRESSION ∷ Token COMMA ∷ Phrase EXPRESSION ∷ Token CLOSE_ROUND ∷ Closing ∷ []), Conds CompareSigned) ∷
+    (signed_comparison_rule SLT, Conds CompareSigned) ∷
+    (signed_comparison_rule SLE, Conds CompareSigned) ∷
+    (signed_comparison_rule SGT, Conds CompareSigned) ∷
+    (signed_comparison_rule SGE, Conds CompareSigned) ∷
     (rule_parts LITERAL Otherwise (Phrase EXPRESSION ∷ Phrase RELATION ∷ Phrase EXPRESSION ∷ []), Conds Compare) ∷ []
 
 abbrev pub relation_rules : List Production
@@ -153,18 +156,21 @@ more_factors_rules =
     (rule_parts MORE_FACTORS (Take STAR) (Phrase FACTOR ∷ Phrase MORE_FACTORS ∷ []), Exprs NextOperation) ∷
     (rule_parts MORE_FACTORS Otherwise ([]), Exprs NoOperations) ∷ []
 
+abbrev pub conversion_rule : ℕ → RuleParts
+conversion_rule word = rule_parts FACTOR (Take word) (Opening OPEN_ROUND ∷ Phrase EXPRESSION ∷ Token CLOSE_ROUND ∷ Closing ∷ [])
+
 abbrev pub factor_rules : List Production
 factor_rules =
     (rule_parts FACTOR (Take NUMBER) ([]), Exprs Numeral) ∷
     (rule_parts FACTOR (Take NAME) (Phrase CALL ∷ []), Exprs NameOrCall) ∷
-    (rule_parts FACTOR (Take U8) (Opening OPEN_ROUND ∷ Phrase EXPRESSION ∷ Token CLOSE_ROUND ∷ Closing ∷ []), Exprs Convert) ∷
-    (rule_parts FACTOR (Take U16) (Opening OPEN_ROUND ∷ Phrase EXPRESSION ∷ Token CLOSE_ROUND ∷ Closing ∷ []), Exprs Convert) ∷
-    (rule_parts FACTOR (Take U32) (Opening OPEN_ROUND ∷ Phrase EXPRESSION ∷ Token CLOSE_ROUND ∷ Closing ∷ []), Exprs Convert) ∷
-    (rule_parts FACTOR (Take U64) (Opening OPEN_ROUND ∷ Phrase EXPRESSION ∷ Token CLOSE_ROUND ∷ Closing ∷ []), Exprs Convert) ∷
-    (rule_parts FACTOR (Take S8) (Opening OPEN_ROUND ∷ Phrase EXPRESSION ∷ Token CLOSE_ROUND ∷ Closing ∷ []), Exprs Convert) ∷
-    (rule_parts FACTOR (Take S16) (Opening OPEN_ROUND ∷ Phrase EXPRESSION ∷ Token CLOSE_ROUND ∷ Closing ∷ []), Exprs Convert) ∷
-    (rule_parts FACTOR (Take S32) (Opening OPEN_ROUND ∷ Phrase EXPRESSION ∷ Token CLOSE_ROUND ∷ Closing ∷ []), Exprs Convert) ∷
-    (rule_parts FACTOR (Take S64) (Opening OPEN_ROUND ∷ Phrase EXPRESSION ∷ Token CLOSE_ROUND ∷ Closing ∷ []), Exprs Convert) ∷
+    (conversion_rule U8, Exprs Convert) ∷
+    (conversion_rule U16, Exprs Convert) ∷
+    (conversion_rule U32, Exprs Convert) ∷
+    (conversion_rule U64, Exprs Convert) ∷
+    (conversion_rule S8, Exprs Convert) ∷
+    (conversion_rule S16, Exprs Convert) ∷
+    (conversion_rule S32, Exprs Convert) ∷
+    (conversion_rule S64, Exprs Convert) ∷
     (rule_parts FACTOR (Open OPEN_ROUND) (Phrase EXPRESSION ∷ Token CLOSE_ROUND ∷ Closing ∷ []), Exprs EnclosedExpr) ∷ []
 
 abbrev pub call_rules : List Production

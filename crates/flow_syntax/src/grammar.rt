@@ -1,7 +1,7 @@
 //! The grammar as data: a function for each phrase appends its rules.
-ghost use Rattle.std.specs.Prelude.{◌≡◌, ◌++◌, map, IfOk, OnOk};
+ghost use Rattle.std.specs.Prelude.{◌≡◌, [], ◌∷◌, ◌++◌, map, IfOk, OnOk};
 ghost use Rattle.text_reader.specs.Rules.{parts_of_rules};
-ghost use Rattle.flow_syntax.specs.Productions.{rules_of, rules, weights, file_rules, names_rules, more_names_rules, sort_name_rules, parameters_rules, more_sorts_rules, first_block_rules, more_blocks_rules, body_rules, results_rules, condition_rules, more_conjunctions_rules, conjunction_rules, more_literals_rules, literal_rules, relation_rules, continues_rules, expression_rules, more_summands_rules, product_rules, more_factors_rules, factor_rules, call_rules, arguments_rules, more_expressions_rules};
+ghost use Rattle.flow_syntax.specs.Productions.{rules_of, rules, weights, file_rules, names_rules, more_names_rules, sort_name_rules, parameters_rules, more_sorts_rules, first_block_rules, more_blocks_rules, body_rules, results_rules, condition_rules, more_conjunctions_rules, conjunction_rules, more_literals_rules, signed_comparison_rule, literal_rules, relation_rules, continues_rules, expression_rules, more_summands_rules, product_rules, more_factors_rules, conversion_rule, factor_rules, call_rules, arguments_rules, more_expressions_rules};
 
 use crate::phrase::*;
 use crate::terminal::*;
@@ -377,6 +377,26 @@ fn push_more_literals(alloc: Global, list: &mut Vec<Rule>) -> Result<(), NoMemor
     Ok(())
 }
 
+// Appends the rule of a comparison as two's complements, with its word.
+fn push_signed_comparison(alloc: Global, list: &mut Vec<Rule>, word: usize) -> Result<(), NoMemory>
+    ensures { OnOk result (parts_of_rules list.new.items ≡ parts_of_rules list.old.items ++ signed_comparison_rule word ∷ []) }
+{
+    push_rule(
+        alloc,
+        list,
+        LITERAL,
+        Start::Take(word),
+        &[
+            Part::Opening(OPEN_ROUND),
+            Part::Phrase(EXPRESSION),
+            Part::Token(COMMA),
+            Part::Phrase(EXPRESSION),
+            Part::Token(CLOSE_ROUND),
+            Part::Closing,
+        ],
+    )
+}
+
 fn push_literal(alloc: Global, list: &mut Vec<Rule>) -> Result<(), NoMemory>
     ensures { OnOk result (parts_of_rules list.new.items ≡ parts_of_rules list.old.items ++ rules_of literal_rules) }
 {
@@ -400,62 +420,10 @@ fn push_literal(alloc: Global, list: &mut Vec<Rule>) -> Result<(), NoMemory>
             Part::Closing,
         ],
     )?;
-    push_rule(
-        alloc,
-        list,
-        LITERAL,
-        Start::Take(SLT),
-        &[
-            Part::Opening(OPEN_ROUND),
-            Part::Phrase(EXPRESSION),
-            Part::Token(COMMA),
-            Part::Phrase(EXPRESSION),
-            Part::Token(CLOSE_ROUND),
-            Part::Closing,
-        ],
-    )?;
-    push_rule(
-        alloc,
-        list,
-        LITERAL,
-        Start::Take(SLE),
-        &[
-            Part::Opening(OPEN_ROUND),
-            Part::Phrase(EXPRESSION),
-            Part::Token(COMMA),
-            Part::Phrase(EXPRESSION),
-            Part::Token(CLOSE_ROUND),
-            Part::Closing,
-        ],
-    )?;
-    push_rule(
-        alloc,
-        list,
-        LITERAL,
-        Start::Take(SGT),
-        &[
-            Part::Opening(OPEN_ROUND),
-            Part::Phrase(EXPRESSION),
-            Part::Token(COMMA),
-            Part::Phrase(EXPRESSION),
-            Part::Token(CLOSE_ROUND),
-            Part::Closing,
-        ],
-    )?;
-    push_rule(
-        alloc,
-        list,
-        LITERAL,
-        Start::Take(SGE),
-        &[
-            Part::Opening(OPEN_ROUND),
-            Part::Phrase(EXPRESSION),
-            Part::Token(COMMA),
-            Part::Phrase(EXPRESSION),
-            Part::Token(CLOSE_ROUND),
-            Part::Closing,
-        ],
-    )?;
+    push_signed_comparison(alloc, list, SLT)?;
+    push_signed_comparison(alloc, list, SLE)?;
+    push_signed_comparison(alloc, list, SGT)?;
+    push_signed_comparison(alloc, list, SGE)?;
     push_rule(
         alloc,
         list,
@@ -558,6 +526,24 @@ fn push_more_factors(alloc: Global, list: &mut Vec<Rule>) -> Result<(), NoMemory
     Ok(())
 }
 
+// Appends the rule of a conversion, with its word.
+fn push_conversion(alloc: Global, list: &mut Vec<Rule>, word: usize) -> Result<(), NoMemory>
+    ensures { OnOk result (parts_of_rules list.new.items ≡ parts_of_rules list.old.items ++ conversion_rule word ∷ []) }
+{
+    push_rule(
+        alloc,
+        list,
+        FACTOR,
+        Start::Take(word),
+        &[
+            Part::Opening(OPEN_ROUND),
+            Part::Phrase(EXPRESSION),
+            Part::Token(CLOSE_ROUND),
+            Part::Closing,
+        ],
+    )
+}
+
 fn push_factor(alloc: Global, list: &mut Vec<Rule>) -> Result<(), NoMemory>
     ensures { OnOk result (parts_of_rules list.new.items ≡ parts_of_rules list.old.items ++ rules_of factor_rules) }
 {
@@ -569,102 +555,14 @@ fn push_factor(alloc: Global, list: &mut Vec<Rule>) -> Result<(), NoMemory>
         Start::Take(NAME),
         &[Part::Phrase(CALL)],
     )?;
-    push_rule(
-        alloc,
-        list,
-        FACTOR,
-        Start::Take(U8),
-        &[
-            Part::Opening(OPEN_ROUND),
-            Part::Phrase(EXPRESSION),
-            Part::Token(CLOSE_ROUND),
-            Part::Closing,
-        ],
-    )?;
-    push_rule(
-        alloc,
-        list,
-        FACTOR,
-        Start::Take(U16),
-        &[
-            Part::Opening(OPEN_ROUND),
-            Part::Phrase(EXPRESSION),
-            Part::Token(CLOSE_ROUND),
-            Part::Closing,
-        ],
-    )?;
-    push_rule(
-        alloc,
-        list,
-        FACTOR,
-        Start::Take(U32),
-        &[
-            Part::Opening(OPEN_ROUND),
-            Part::Phrase(EXPRESSION),
-            Part::Token(CLOSE_ROUND),
-            Part::Closing,
-        ],
-    )?;
-    push_rule(
-        alloc,
-        list,
-        FACTOR,
-        Start::Take(U64),
-        &[
-            Part::Opening(OPEN_ROUND),
-            Part::Phrase(EXPRESSION),
-            Part::Token(CLOSE_ROUND),
-            Part::Closing,
-        ],
-    )?;
-    push_rule(
-        alloc,
-        list,
-        FACTOR,
-        Start::Take(S8),
-        &[
-            Part::Opening(OPEN_ROUND),
-            Part::Phrase(EXPRESSION),
-            Part::Token(CLOSE_ROUND),
-            Part::Closing,
-        ],
-    )?;
-    push_rule(
-        alloc,
-        list,
-        FACTOR,
-        Start::Take(S16),
-        &[
-            Part::Opening(OPEN_ROUND),
-            Part::Phrase(EXPRESSION),
-            Part::Token(CLOSE_ROUND),
-            Part::Closing,
-        ],
-    )?;
-    push_rule(
-        alloc,
-        list,
-        FACTOR,
-        Start::Take(S32),
-        &[
-            Part::Opening(OPEN_ROUND),
-            Part::Phrase(EXPRESSION),
-            Part::Token(CLOSE_ROUND),
-            Part::Closing,
-        ],
-    )?;
-    push_rule(
-        alloc,
-        list,
-        FACTOR,
-        Start::Take(S64),
-        &[
-            Part::Opening(OPEN_ROUND),
-            Part::Phrase(EXPRESSION),
-            Part::Token(CLOSE_ROUND),
-            Part::Closing,
-        ],
-    )?;
+    push_conversion(alloc, list, U8)?;
+    push_conversion(alloc, list, U16)?;
+    push_conversion(alloc, list, U32)?;
+    push_conversion(alloc, list, U64)?;
+    push_conversion(alloc, list, S8)?;
+    push_conversion(alloc, list, S16)?;
+    push_conversion(alloc, list, S32)?;
+    push_conversion(alloc, list, S64)?;
     push_rule(
         alloc,
         list,

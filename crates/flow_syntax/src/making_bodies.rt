@@ -1,7 +1,8 @@
 //! What productions make of statements, jumps and blocks.
 ghost use Rattle.std.specs.Prelude.{◌≡◌, ◌∷◌, [], OnOk};
-ghost use Rattle.flow_syntax.specs.Actions.{body, bodies_done};
-ghost use Rattle.flow_syntax.specs.SyntaxViews.{stack_syntax, jump_syntax};
+ghost use Rattle.flow_syntax.specs.Actions.{body, blocks, first, third, rest, past_four, token_in, statements_in, jump_in, blocks_in, bodies_done};
+ghost use Rattle.flow_syntax.specs.Syntax.{a_block};
+ghost use Rattle.flow_syntax.specs.SyntaxViews.{stack_syntax, statement_syntax, jump_syntax, block_syntax};
 
 use crate::action::BodyAction;
 use crate::stack::{
@@ -11,6 +12,21 @@ use crate::value::Value;
 use crate::written::{Block, Jump, Statement};
 use kat_model::NoMemory;
 use std::alloc::Global;
+
+// Puts a statement before those of the body on top of the stack.
+#[tactic(auto, using(crate::proofs::Stacked::pushes))]
+fn add_statement<'a>(
+    alloc: Global,
+    stack: &mut Vec<Value<'a>>,
+    statement: Statement<'a>,
+) -> Result<(), NoMemory>
+    ensures { OnOk result (stack_syntax stack.new.items ≡ body (statement_syntax statement.entry ∷ statements_in (first (stack_syntax stack.old.items))) (jump_in (first (stack_syntax stack.old.items))) ∷ rest (stack_syntax stack.old.items)) }
+{
+    let (mut statements, jump) = take_body(alloc, stack);
+    statements.push(statement)?;
+    push(stack, Value::Body(statements, jump))?;
+    Ok(())
+}
 
 #[tactic(auto, using(crate::proofs::Stacked::pushes))]
 fn assigning(alloc: Global, stack: &mut Vec<Value>) -> Result<(), NoMemory>
@@ -22,12 +38,9 @@ fn assigning(alloc: Global, stack: &mut Vec<Value>) -> Result<(), NoMemory>
     let value = take_expr(alloc, stack);
     let mut values = take_exprs(alloc, stack);
     skip(stack);
-    let (mut statements, jump) = take_body(alloc, stack);
     targets.push(target)?;
     values.push(value)?;
-    statements.push(Statement::Assign(targets, becomes, values))?;
-    push(stack, Value::Body(statements, jump))?;
-    Ok(())
+    add_statement(alloc, stack, Statement::Assign(targets, becomes, values))
 }
 
 #[tactic(auto, using(crate::proofs::Stacked::pushes))]
@@ -37,10 +50,7 @@ fn asserting(alloc: Global, stack: &mut Vec<Value>) -> Result<(), NoMemory>
     skip(stack);
     let cond = take_cond(alloc, stack);
     skip(stack);
-    let (mut statements, jump) = take_body(alloc, stack);
-    statements.push(Statement::Claim(cond))?;
-    push(stack, Value::Body(statements, jump))?;
-    Ok(())
+    add_statement(alloc, stack, Statement::Claim(cond))
 }
 
 #[tactic(auto, using(crate::proofs::Stacked::pushes))]
@@ -105,24 +115,61 @@ fn no_blocks(alloc: Global, stack: &mut Vec<Value>) -> Result<(), NoMemory>
     Ok(())
 }
 
+// Takes the name and the body of a block off the stack.
+#[tactic(auto, using(crate::proofs::Stacked::pushes))]
+fn take_block<'a>(alloc: Global, stack: &mut Vec<Value<'a>>, is_cut: bool) -> Block<'a>
+    ensures value { block_syntax result ≡ a_block is_cut (token_in (first (stack_syntax stack.old.items))) (statements_in (third (stack_syntax stack.old.items))) (jump_in (third (stack_syntax stack.old.items))) }
+    ensures rest { stack_syntax stack.new.items ≡ past_four (stack_syntax stack.old.items) }
+{
+    let name = take_token(stack);
+    skip(stack);
+    let (statements, jump) = take_body(alloc, stack);
+    skip(stack);
+    Block {
+        is_cut,
+        name,
+        statements,
+        jump,
+    }
+}
+
+// Puts a block before those on top of the stack.
+#[tactic(auto, using(crate::proofs::Stacked::pushes))]
+fn add_block<'a>(
+    alloc: Global,
+    stack: &mut Vec<Value<'a>>,
+    block: Block<'a>,
+) -> Result<(), NoMemory>
+    ensures { OnOk result (stack_syntax stack.new.items ≡ blocks (block_syntax block.entry ∷ blocks_in (first (stack_syntax stack.old.items))) ∷ rest (stack_syntax stack.old.items)) }
+{
+    let mut list = take_blocks(alloc, stack);
+    list.push(block)?;
+    push(stack, Value::Blocks(list))?;
+    Ok(())
+}
+
+// Puts a block on the stack.
+#[tactic(auto, using(crate::proofs::Stacked::pushes))]
+fn push_block<'a>(
+    alloc: Global,
+    stack: &mut Vec<Value<'a>>,
+    block: Block<'a>,
+) -> Result<(), NoMemory>
+    ensures { OnOk result (stack_syntax stack.new.items ≡ blocks (block_syntax block.entry ∷ []) ∷ stack_syntax stack.old.items) }
+{
+    let mut list = Vec::new(alloc);
+    list.push(block)?;
+    push(stack, Value::Blocks(list))?;
+    Ok(())
+}
+
 #[tactic(auto, using(crate::proofs::Stacked::pushes))]
 fn next_plain_block(alloc: Global, stack: &mut Vec<Value>) -> Result<(), NoMemory>
     ensures { OnOk result (stack_syntax stack.new.items ≡ bodies_done BodyAction.NextPlainBlock (stack_syntax stack.old.items)) }
 {
     skip(stack);
-    let name = take_token(stack);
-    skip(stack);
-    let (statements, jump) = take_body(alloc, stack);
-    skip(stack);
-    let mut blocks = take_blocks(alloc, stack);
-    blocks.push(Block {
-        is_cut: false,
-        name,
-        statements,
-        jump,
-    })?;
-    push(stack, Value::Blocks(blocks))?;
-    Ok(())
+    let block = take_block(alloc, stack, false);
+    add_block(alloc, stack, block)
 }
 
 #[tactic(auto, using(crate::proofs::Stacked::pushes))]
@@ -131,19 +178,8 @@ fn next_cut_block(alloc: Global, stack: &mut Vec<Value>) -> Result<(), NoMemory>
 {
     skip(stack);
     skip(stack);
-    let name = take_token(stack);
-    skip(stack);
-    let (statements, jump) = take_body(alloc, stack);
-    skip(stack);
-    let mut blocks = take_blocks(alloc, stack);
-    blocks.push(Block {
-        is_cut: true,
-        name,
-        statements,
-        jump,
-    })?;
-    push(stack, Value::Blocks(blocks))?;
-    Ok(())
+    let block = take_block(alloc, stack, true);
+    add_block(alloc, stack, block)
 }
 
 #[tactic(auto, using(crate::proofs::Stacked::pushes))]
@@ -151,19 +187,8 @@ fn plain_block(alloc: Global, stack: &mut Vec<Value>) -> Result<(), NoMemory>
     ensures { OnOk result (stack_syntax stack.new.items ≡ bodies_done BodyAction.PlainBlock (stack_syntax stack.old.items)) }
 {
     skip(stack);
-    let name = take_token(stack);
-    skip(stack);
-    let (statements, jump) = take_body(alloc, stack);
-    skip(stack);
-    let mut blocks = Vec::new(alloc);
-    blocks.push(Block {
-        is_cut: false,
-        name,
-        statements,
-        jump,
-    })?;
-    push(stack, Value::Blocks(blocks))?;
-    Ok(())
+    let block = take_block(alloc, stack, false);
+    push_block(alloc, stack, block)
 }
 
 #[tactic(auto, using(crate::proofs::Stacked::pushes))]
@@ -172,19 +197,8 @@ fn cut_block(alloc: Global, stack: &mut Vec<Value>) -> Result<(), NoMemory>
 {
     skip(stack);
     skip(stack);
-    let name = take_token(stack);
-    skip(stack);
-    let (statements, jump) = take_body(alloc, stack);
-    skip(stack);
-    let mut blocks = Vec::new(alloc);
-    blocks.push(Block {
-        is_cut: true,
-        name,
-        statements,
-        jump,
-    })?;
-    push(stack, Value::Blocks(blocks))?;
-    Ok(())
+    let block = take_block(alloc, stack, true);
+    push_block(alloc, stack, block)
 }
 
 /// Replaces the values of the parts by that of the phrase. Fails only when out of memory.

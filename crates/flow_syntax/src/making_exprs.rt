@@ -6,7 +6,7 @@ ghost use Rattle.flow_syntax.specs.SyntaxViews.{stack_syntax, tokens_syntax, nod
 
 use crate::action::ExprAction;
 use crate::stack::{
-    exprs_in, is_no_call, pop, push, skip, take_expr, take_exprs, take_operations, take_token,
+    is_no_call, pop, push, skip, take_expr, take_exprs, take_operations, take_token,
 };
 use crate::value::Value;
 use crate::written::{FirstName, Node};
@@ -156,7 +156,7 @@ fn call_nodes<'a>(
     ensures { IfOk result (λ all. expr_syntax all.items ≡ call_of (parts_of_token name.entry) (value_syntax arguments.entry)) }
 {
     let no_call = is_no_call(&arguments);
-    let exprs = exprs_in(alloc, arguments);
+    let exprs = arguments.into_exprs(alloc);
     let mut nodes = all_nodes(alloc, &exprs)?;
     nodes.push(call_node(name, no_call, exprs.len()))?;
     Ok(nodes)

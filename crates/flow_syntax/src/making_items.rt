@@ -1,7 +1,7 @@
 //! What productions make of items.
-ghost use Rattle.std.specs.Prelude.{◌≡◌, OnOk};
-ghost use Rattle.flow_syntax.specs.Actions.{items_done};
-ghost use Rattle.flow_syntax.specs.SyntaxViews.{stack_syntax};
+ghost use Rattle.std.specs.Prelude.{◌≡◌, ◌∷◌, OnOk};
+ghost use Rattle.flow_syntax.specs.Actions.{items, first, rest, items_in, items_done};
+ghost use Rattle.flow_syntax.specs.SyntaxViews.{stack_syntax, item_syntax};
 
 use crate::action::ItemAction;
 use crate::stack::{push, skip, take_blocks, take_items, take_token, take_tokens};
@@ -18,6 +18,17 @@ fn no_items(alloc: Global, stack: &mut Vec<Value>) -> Result<(), NoMemory>
     Ok(())
 }
 
+// Puts an item before those on top of the stack.
+#[tactic(auto, using(crate::proofs::Stacked::pushes))]
+fn add_item<'a>(alloc: Global, stack: &mut Vec<Value<'a>>, item: Item<'a>) -> Result<(), NoMemory>
+    ensures { OnOk result (stack_syntax stack.new.items ≡ items (item_syntax item.entry ∷ items_in (first (stack_syntax stack.old.items))) ∷ rest (stack_syntax stack.old.items)) }
+{
+    let mut list = take_items(alloc, stack);
+    list.push(item)?;
+    push(stack, Value::Items(list))?;
+    Ok(())
+}
+
 #[tactic(auto, using(crate::proofs::Stacked::pushes))]
 fn sorts_item(alloc: Global, stack: &mut Vec<Value>) -> Result<(), NoMemory>
     ensures { OnOk result (stack_syntax stack.new.items ≡ items_done ItemAction.SortsItem (stack_syntax stack.old.items)) }
@@ -25,10 +36,7 @@ fn sorts_item(alloc: Global, stack: &mut Vec<Value>) -> Result<(), NoMemory>
     let word = take_token(stack);
     let names = take_tokens(alloc, stack);
     skip(stack);
-    let mut items = take_items(alloc, stack);
-    items.push(Item::Sorts(word, names))?;
-    push(stack, Value::Items(items))?;
-    Ok(())
+    add_item(alloc, stack, Item::Sorts(word, names))
 }
 
 #[tactic(auto, using(crate::proofs::Stacked::pushes))]
@@ -41,10 +49,11 @@ fn function_item(alloc: Global, stack: &mut Vec<Value>) -> Result<(), NoMemory>
     skip(stack);
     let parameters = take_tokens(alloc, stack);
     skip(stack);
-    let mut items = take_items(alloc, stack);
-    items.push(Item::Function(word, result_sort, name, parameters))?;
-    push(stack, Value::Items(items))?;
-    Ok(())
+    add_item(
+        alloc,
+        stack,
+        Item::Function(word, result_sort, name, parameters),
+    )
 }
 
 #[tactic(auto, using(crate::proofs::Stacked::pushes))]
@@ -55,10 +64,7 @@ fn variables_item(alloc: Global, stack: &mut Vec<Value>) -> Result<(), NoMemory>
     let sort = take_token(stack);
     let names = take_tokens(alloc, stack);
     skip(stack);
-    let mut items = take_items(alloc, stack);
-    items.push(Item::Variables(word, sort, names))?;
-    push(stack, Value::Items(items))?;
-    Ok(())
+    add_item(alloc, stack, Item::Variables(word, sort, names))
 }
 
 #[tactic(auto, using(crate::proofs::Stacked::pushes, crate::proofs::Reversed::blocks_append))]
@@ -72,10 +78,7 @@ fn graph_item(alloc: Global, stack: &mut Vec<Value>) -> Result<(), NoMemory>
     let mut blocks = take_blocks(alloc, stack);
     blocks.append(&mut first)?;
     skip(stack);
-    let mut items = take_items(alloc, stack);
-    items.push(Item::Graph(word, name, blocks))?;
-    push(stack, Value::Items(items))?;
-    Ok(())
+    add_item(alloc, stack, Item::Graph(word, name, blocks))
 }
 
 #[tactic(auto, using(crate::proofs::Stacked::pushes))]
@@ -85,10 +88,7 @@ fn rounds_item(alloc: Global, stack: &mut Vec<Value>) -> Result<(), NoMemory>
     let word = take_token(stack);
     let number = take_token(stack);
     skip(stack);
-    let mut items = take_items(alloc, stack);
-    items.push(Item::Rounds(word, number))?;
-    push(stack, Value::Items(items))?;
-    Ok(())
+    add_item(alloc, stack, Item::Rounds(word, number))
 }
 
 #[tactic(auto, using(crate::proofs::Stacked::pushes))]
@@ -97,10 +97,7 @@ fn split_item(alloc: Global, stack: &mut Vec<Value>) -> Result<(), NoMemory>
 {
     let word = take_token(stack);
     skip(stack);
-    let mut items = take_items(alloc, stack);
-    items.push(Item::Split(word))?;
-    push(stack, Value::Items(items))?;
-    Ok(())
+    add_item(alloc, stack, Item::Split(word))
 }
 
 #[tactic(auto, using(crate::proofs::Stacked::pushes))]
@@ -112,10 +109,7 @@ fn equal_item(alloc: Global, stack: &mut Vec<Value>) -> Result<(), NoMemory>
     skip(stack);
     let after = take_token(stack);
     skip(stack);
-    let mut items = take_items(alloc, stack);
-    items.push(Item::Equal(word, before, after))?;
-    push(stack, Value::Items(items))?;
-    Ok(())
+    add_item(alloc, stack, Item::Equal(word, before, after))
 }
 
 /// Replaces the values of the parts by that of the phrase. Fails only when out of memory.

@@ -9,7 +9,7 @@ use crate::value::Value;
 use crate::written::{Block, CondNode, Item, Jump, Node, Statement};
 use kat_model::NoMemory;
 use std::alloc::Global;
-use text_tokens::{Kind, Token};
+use text_tokens::Token;
 
 #[tactic(auto, using(crate::proofs::Stacked::pushes))]
 pub(crate) fn push<'a>(stack: &mut Vec<Value<'a>>, value: Value<'a>) -> Result<(), NoMemory>
@@ -47,34 +47,12 @@ pub(crate) fn skip(stack: &mut Vec<Value>)
     let _ = pop(stack);
 }
 
-fn token_in<'a>(value: Value<'a>) -> Token<'a>
-    ensures { parts_of_token result ≡ token_in (value_syntax value.entry) }
-{
-    if let Value::Token(token) = value {
-        return token;
-    }
-    Token {
-        kind: Kind::Name,
-        text: "",
-        at: 0,
-    }
-}
-
 pub(crate) fn take_token<'a>(stack: &mut Vec<Value<'a>>) -> Token<'a>
     ensures value { parts_of_token result ≡ token_in (first (stack_syntax stack.old.items)) }
     ensures rest { stack_syntax stack.new.items ≡ rest (stack_syntax stack.old.items) }
 {
     let value = pop(stack);
-    token_in(value)
-}
-
-fn tokens_in<'a>(alloc: Global, value: Value<'a>) -> Vec<Token<'a>>
-    ensures { tokens_syntax result.items ≡ tokens_in (value_syntax value.entry) }
-{
-    if let Value::Tokens(tokens) = value {
-        return tokens;
-    }
-    Vec::new(alloc)
+    value.into_token()
 }
 
 pub(crate) fn take_tokens<'a>(alloc: Global, stack: &mut Vec<Value<'a>>) -> Vec<Token<'a>>
@@ -82,16 +60,7 @@ pub(crate) fn take_tokens<'a>(alloc: Global, stack: &mut Vec<Value<'a>>) -> Vec<
     ensures rest { stack_syntax stack.new.items ≡ rest (stack_syntax stack.old.items) }
 {
     let value = pop(stack);
-    tokens_in(alloc, value)
-}
-
-fn expr_in<'a>(alloc: Global, value: Value<'a>) -> Vec<Node<'a>>
-    ensures { expr_syntax result.items ≡ expr_in (value_syntax value.entry) }
-{
-    if let Value::Expr(expr) = value {
-        return expr;
-    }
-    Vec::new(alloc)
+    value.into_tokens(alloc)
 }
 
 pub(crate) fn take_expr<'a>(alloc: Global, stack: &mut Vec<Value<'a>>) -> Vec<Node<'a>>
@@ -99,16 +68,7 @@ pub(crate) fn take_expr<'a>(alloc: Global, stack: &mut Vec<Value<'a>>) -> Vec<No
     ensures rest { stack_syntax stack.new.items ≡ rest (stack_syntax stack.old.items) }
 {
     let value = pop(stack);
-    expr_in(alloc, value)
-}
-
-pub(crate) fn exprs_in<'a>(alloc: Global, value: Value<'a>) -> Vec<Vec<Node<'a>>>
-    ensures { exprs_syntax result.items ≡ exprs_in (value_syntax value.entry) }
-{
-    if let Value::Exprs(exprs) = value {
-        return exprs;
-    }
-    Vec::new(alloc)
+    value.into_expr(alloc)
 }
 
 pub(crate) fn take_exprs<'a>(alloc: Global, stack: &mut Vec<Value<'a>>) -> Vec<Vec<Node<'a>>>
@@ -116,16 +76,7 @@ pub(crate) fn take_exprs<'a>(alloc: Global, stack: &mut Vec<Value<'a>>) -> Vec<V
     ensures rest { stack_syntax stack.new.items ≡ rest (stack_syntax stack.old.items) }
 {
     let value = pop(stack);
-    exprs_in(alloc, value)
-}
-
-fn cond_in<'a>(alloc: Global, value: Value<'a>) -> Vec<CondNode<'a>>
-    ensures { cond_syntax result.items ≡ cond_in (value_syntax value.entry) }
-{
-    if let Value::Cond(cond) = value {
-        return cond;
-    }
-    Vec::new(alloc)
+    value.into_exprs(alloc)
 }
 
 pub(crate) fn take_cond<'a>(alloc: Global, stack: &mut Vec<Value<'a>>) -> Vec<CondNode<'a>>
@@ -133,16 +84,7 @@ pub(crate) fn take_cond<'a>(alloc: Global, stack: &mut Vec<Value<'a>>) -> Vec<Co
     ensures rest { stack_syntax stack.new.items ≡ rest (stack_syntax stack.old.items) }
 {
     let value = pop(stack);
-    cond_in(alloc, value)
-}
-
-fn blocks_in<'a>(alloc: Global, value: Value<'a>) -> Vec<Block<'a>>
-    ensures { blocks_syntax result.items ≡ blocks_in (value_syntax value.entry) }
-{
-    if let Value::Blocks(blocks) = value {
-        return blocks;
-    }
-    Vec::new(alloc)
+    value.into_cond(alloc)
 }
 
 pub(crate) fn take_blocks<'a>(alloc: Global, stack: &mut Vec<Value<'a>>) -> Vec<Block<'a>>
@@ -150,16 +92,7 @@ pub(crate) fn take_blocks<'a>(alloc: Global, stack: &mut Vec<Value<'a>>) -> Vec<
     ensures rest { stack_syntax stack.new.items ≡ rest (stack_syntax stack.old.items) }
 {
     let value = pop(stack);
-    blocks_in(alloc, value)
-}
-
-fn items_in<'a>(alloc: Global, value: Value<'a>) -> Vec<Item<'a>>
-    ensures { items_syntax result.items ≡ items_in (value_syntax value.entry) }
-{
-    if let Value::Items(items) = value {
-        return items;
-    }
-    Vec::new(alloc)
+    value.into_blocks(alloc)
 }
 
 pub(crate) fn take_items<'a>(alloc: Global, stack: &mut Vec<Value<'a>>) -> Vec<Item<'a>>
@@ -167,17 +100,7 @@ pub(crate) fn take_items<'a>(alloc: Global, stack: &mut Vec<Value<'a>>) -> Vec<I
     ensures rest { stack_syntax stack.new.items ≡ rest (stack_syntax stack.old.items) }
 {
     let value = pop(stack);
-    items_in(alloc, value)
-}
-
-fn operations_in<'a>(alloc: Global, value: Value<'a>) -> (Vec<Token<'a>>, Vec<Node<'a>>)
-    ensures operators { tokens_syntax result.0.items ≡ operators_in (value_syntax value.entry) }
-    ensures operands { expr_syntax result.1.items ≡ operands_in (value_syntax value.entry) }
-{
-    if let Value::Operations(operators, operands) = value {
-        return (operators, operands);
-    }
-    (Vec::new(alloc), Vec::new(alloc))
+    value.into_items(alloc)
 }
 
 pub(crate) fn take_operations<'a>(
@@ -189,17 +112,7 @@ pub(crate) fn take_operations<'a>(
     ensures rest { stack_syntax stack.new.items ≡ rest (stack_syntax stack.old.items) }
 {
     let value = pop(stack);
-    operations_in(alloc, value)
-}
-
-fn body_in<'a>(alloc: Global, value: Value<'a>) -> (Vec<Statement<'a>>, Jump<'a>)
-    ensures statements { statements_syntax result.0.items ≡ statements_in (value_syntax value.entry) }
-    ensures jump { jump_syntax result.1 ≡ jump_in (value_syntax value.entry) }
-{
-    if let Value::Body(statements, jump) = value {
-        return (statements, jump);
-    }
-    (Vec::new(alloc), Jump::Abort)
+    value.into_operations(alloc)
 }
 
 pub(crate) fn take_body<'a>(
@@ -211,5 +124,5 @@ pub(crate) fn take_body<'a>(
     ensures rest { stack_syntax stack.new.items ≡ rest (stack_syntax stack.old.items) }
 {
     let value = pop(stack);
-    body_in(alloc, value)
+    value.into_body(alloc)
 }

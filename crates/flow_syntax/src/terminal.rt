@@ -2,6 +2,7 @@
 ghost use Rattle.std.specs.Prelude.{◌≡◌};
 ghost use Rattle.text_tokens.specs.TokenParts.{parts_of_token};
 ghost use Rattle.flow_syntax.specs.Terminals.{word_terminal, symbol_terminal, number_terminal, terminal_of, spelled_number};
+ghost use Rattle.flow_syntax.specs.Working.Words.{word_of_two, comparison_word, width_of_three, word_of_three, word_of_four, word_of_five, word_of_six};
 
 use text_grammar::Terminal;
 use text_reader::{CLOSE_ROUND, NUMBER, OPEN_ROUND, WIDE_NUMBER};
@@ -106,39 +107,101 @@ pub const OR: usize = 51;
 /// `!`
 pub const BANG: usize = 52;
 
+fn word_of_two(text: &str) -> usize
+    ensures { result ≡ word_of_two text.now }
+{
+    match text {
+        "if" => IF,
+        "u8" => U8,
+        "s8" => S8,
+        _ => NAME,
+    }
+}
+
+fn comparison_word(text: &str) -> usize
+    ensures { result ≡ comparison_word text.now }
+{
+    match text {
+        "slt" => SLT,
+        "sle" => SLE,
+        "sgt" => SGT,
+        "sge" => SGE,
+        _ => NAME,
+    }
+}
+
+fn width_of_three(text: &str) -> usize
+    ensures { result ≡ width_of_three text.now }
+{
+    match text {
+        "u16" => U16,
+        "u32" => U32,
+        "u64" => U64,
+        "s16" => S16,
+        "s32" => S32,
+        "s64" => S64,
+        _ => comparison_word(text),
+    }
+}
+
+fn word_of_three(text: &str) -> usize
+    ensures { result ≡ word_of_three text.now }
+{
+    match text {
+        "fun" => FUN,
+        "var" => VAR,
+        "cut" => CUT,
+        _ => width_of_three(text),
+    }
+}
+
+fn word_of_four(text: &str) -> usize
+    ensures { result ≡ word_of_four text.now }
+{
+    match text {
+        "sort" => SORT,
+        "goto" => GOTO,
+        "else" => ELSE,
+        "true" => TRUE,
+        _ => NAME,
+    }
+}
+
+fn word_of_five(text: &str) -> usize
+    ensures { result ≡ word_of_five text.now }
+{
+    match text {
+        "graph" => GRAPH,
+        "block" => BLOCK,
+        "abort" => ABORT,
+        "equal" => EQUAL,
+        "split" => SPLIT,
+        "false" => FALSE,
+        _ => NAME,
+    }
+}
+
+fn word_of_six(text: &str) -> usize
+    ensures { result ≡ word_of_six text.now }
+{
+    match text {
+        "return" => RETURN,
+        "assert" => ASSERT,
+        "rounds" => ROUNDS,
+        _ => NAME,
+    }
+}
+
+// Compares the text only with the keywords of its length.
 fn word_terminal(text: &str) -> usize
     ensures { result ≡ word_terminal text.now }
 {
-    match text.as_bytes() {
-        b"sort" => SORT,
-        b"fun" => FUN,
-        b"var" => VAR,
-        b"graph" => GRAPH,
-        b"block" => BLOCK,
-        b"cut" => CUT,
-        b"goto" => GOTO,
-        b"if" => IF,
-        b"else" => ELSE,
-        b"return" => RETURN,
-        b"abort" => ABORT,
-        b"assert" => ASSERT,
-        b"equal" => EQUAL,
-        b"rounds" => ROUNDS,
-        b"split" => SPLIT,
-        b"true" => TRUE,
-        b"false" => FALSE,
-        b"u8" => U8,
-        b"u16" => U16,
-        b"u32" => U32,
-        b"u64" => U64,
-        b"s8" => S8,
-        b"s16" => S16,
-        b"s32" => S32,
-        b"s64" => S64,
-        b"slt" => SLT,
-        b"sle" => SLE,
-        b"sgt" => SGT,
-        b"sge" => SGE,
+    match text.len() {
+        2 => word_of_two(text),
+        3 => word_of_three(text),
+        4 => word_of_four(text),
+        5 => word_of_five(text),
+        6 => word_of_six(text),
         _ => NAME,
     }
 }

@@ -26,7 +26,6 @@ pub enum Node<'a> {
 }
 
 /// A node of a condition, which is in Polish notation too. A comparison has both expressions.
-#[derive(Drop)]
 pub enum CondNode<'a> {
     Always,
     Never,
@@ -37,19 +36,52 @@ pub enum CondNode<'a> {
     Either,
 }
 
-#[derive(Drop)]
+// Explicit drops, so that each is proved once and not at each end of each function that owns one of these.
+impl Drop for CondNode<'_> {
+    fn drop(self) {
+        match self {
+            CondNode::Always => {}
+            CondNode::Never => {}
+            CondNode::Compared(_rel, _left, _right) => {}
+            CondNode::ComparedSigned(_rel, _left, _right) => {}
+            CondNode::Negation => {}
+            CondNode::Both => {}
+            CondNode::Either => {}
+        }
+    }
+}
+
 pub enum Statement<'a> {
     /// The variables that are set, the token `:=`, and the values.
     Assign(Vec<Token<'a>>, Token<'a>, Vec<Vec<Node<'a>>>),
     Claim(Vec<CondNode<'a>>),
 }
 
-#[derive(Drop)]
+impl Drop for Statement<'_> {
+    fn drop(self) {
+        match self {
+            Statement::Assign(_targets, _set, _values) => {}
+            Statement::Claim(_cond) => {}
+        }
+    }
+}
+
 pub enum Jump<'a> {
     Goto(Token<'a>),
     Branch(Vec<CondNode<'a>>, Token<'a>, Token<'a>),
     Return(Token<'a>, Vec<Vec<Node<'a>>>),
     Abort,
+}
+
+impl Drop for Jump<'_> {
+    fn drop(self) {
+        match self {
+            Jump::Goto(_target) => {}
+            Jump::Branch(_cond, _target, _other) => {}
+            Jump::Return(_word, _values) => {}
+            Jump::Abort => {}
+        }
+    }
 }
 
 #[derive(Drop)]

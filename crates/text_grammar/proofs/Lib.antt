@@ -1,5 +1,5 @@
 mod Seen
-mod Words
+pub mod Words
 pub mod Numerals
 pub mod Parentheses
 pub mod Tokens

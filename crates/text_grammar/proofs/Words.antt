@@ -10,7 +10,7 @@ not_true : (b : Bool) → (b ≡ true → ⊥) → b ≡ false
 not_true true h = absurd (h refl)
 not_true false h = refl
 
-unlike : (n : ℕ) (text word : List ℕ) → length text ≢ n → length word ≡ n → bytes_eq text word ≡ false
+pub unlike : (n : ℕ) (text word : List ℕ) → length text ≢ n → length word ≡ n → bytes_eq text word ≡ false
 unlike n text word differs long = not_true (bytes_eq text word) (λ same. differs (ap length ((bytes_eq-Decides text word).0 same) ∙ long))
 
 pub word_of_four_is : (text : List ℕ) → length text ≡ 4 → keyword_terminal text ≡ word_of_four text

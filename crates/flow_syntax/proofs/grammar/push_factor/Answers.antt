@@ -3,5 +3,5 @@ use Rattle.flow_syntax.proofs.grammar.push_factor.Goals as goal
 
 pub returns : goal.returns
 returns c =
-    rw (c.in_ok-push_rule-11.ensures, c.in_ok-push_rule-10.ensures, c.in_ok-push_rule-9.ensures, c.in_ok-push_rule-8.ensures, c.in_ok-push_rule-7.ensures, c.in_ok-push_rule-6.ensures, c.in_ok-push_rule-5.ensures, c.in_ok-push_rule-4.ensures, c.in_ok-push_rule-3.ensures, c.in_ok-push_rule-2.ensures, c.in_ok-push_rule.ensures)
+    rw (c.in_ok-push_rule-3.ensures, c.in_ok-push_conversion-8.ensures, c.in_ok-push_conversion-7.ensures, c.in_ok-push_conversion-6.ensures, c.in_ok-push_conversion-5.ensures, c.in_ok-push_conversion-4.ensures, c.in_ok-push_conversion-3.ensures, c.in_ok-push_conversion-2.ensures, c.in_ok-push_conversion.ensures, c.in_ok-push_rule-2.ensures, c.in_ok-push_rule.ensures)
     (simp append_assoc)

@@ -1,36 +1,21 @@
--- The text is the word whose bytes were matched. `search` proves this itself for words of up to four bytes.
-use Rattle.std.proofs.Common.{◌≡◌, ℕ, List, length, sym, ap, ◌∙◌, arith, rules}
-use Rattle.std.proofs.lemmas.Slice.Eq.{HasBytesAt, text_from_reads}
-use Rattle.std.specs.Prelude.{codes}
-use Rattle.flow_syntax.specs.Terminals.{word_terminal}
+use Rattle.std.proofs.Common.{sym, ◌∙◌, arith}
+use Rattle.flow_syntax.proofs.Words.{word_of_two_is, word_of_three_is, word_of_four_is, word_of_five_is, word_of_six_is, no_word}
 use Rattle.flow_syntax.proofs.terminal.word_terminal.Goals as goal
 
-terminal_by_bytes : (text bytes word : List ℕ) → bytes ≡ text → length bytes ≡ length word → HasBytesAt bytes 0 word → word_terminal word ≡ word_terminal text
-terminal_by_bytes text bytes word same long reads = ap word_terminal (sym (text_from_reads bytes word long reads) ∙ same)
+pub returns-in-2 : goal.returns-in-2
+returns-in-2 c = c.word_of_two.ensures ∙ sym (word_of_two_is c.args.text.now (omega arith))
 
-pub returns-in-graph : goal.returns-in-graph
-returns-in-graph c = terminal_by_bytes _ _ (codes "graph") c.as_bytes.ensures.value (omega arith) (search rules)
+pub returns-in-3 : goal.returns-in-3
+returns-in-3 c = c.word_of_three.ensures ∙ sym (word_of_three_is c.args.text.now (omega arith))
 
-pub returns-in-block : goal.returns-in-block
-returns-in-block c = terminal_by_bytes _ _ (codes "block") c.as_bytes.ensures.value (omega arith) (search rules)
+pub returns-in-4 : goal.returns-in-4
+returns-in-4 c = c.word_of_four.ensures ∙ sym (word_of_four_is c.args.text.now (omega arith))
 
-pub returns-in-return : goal.returns-in-return
-returns-in-return c = terminal_by_bytes _ _ (codes "return") c.as_bytes.ensures.value (omega arith) (search rules)
+pub returns-in-5 : goal.returns-in-5
+returns-in-5 c = c.word_of_five.ensures ∙ sym (word_of_five_is c.args.text.now (omega arith))
 
-pub returns-in-abort : goal.returns-in-abort
-returns-in-abort c = terminal_by_bytes _ _ (codes "abort") c.as_bytes.ensures.value (omega arith) (search rules)
+pub returns-in-6 : goal.returns-in-6
+returns-in-6 c = c.word_of_six.ensures ∙ sym (word_of_six_is c.args.text.now (omega arith))
 
-pub returns-in-assert : goal.returns-in-assert
-returns-in-assert c = terminal_by_bytes _ _ (codes "assert") c.as_bytes.ensures.value (omega arith) (search rules)
-
-pub returns-in-equal : goal.returns-in-equal
-returns-in-equal c = terminal_by_bytes _ _ (codes "equal") c.as_bytes.ensures.value (omega arith) (search rules)
-
-pub returns-in-rounds : goal.returns-in-rounds
-returns-in-rounds c = terminal_by_bytes _ _ (codes "rounds") c.as_bytes.ensures.value (omega arith) (search rules)
-
-pub returns-in-split : goal.returns-in-split
-returns-in-split c = terminal_by_bytes _ _ (codes "split") c.as_bytes.ensures.value (omega arith) (search rules)
-
-pub returns-in-false : goal.returns-in-false
-returns-in-false c = terminal_by_bytes _ _ (codes "false") c.as_bytes.ensures.value (omega arith) (search rules)
+pub returns-in_default : goal.returns-in_default
+returns-in_default c = sym (no_word c.args.text.now (omega arith) (omega arith) (omega arith) (omega arith) (omega arith))

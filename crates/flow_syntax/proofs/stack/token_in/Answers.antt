@@ -1,8 +1,0 @@
-use Rattle.flow_syntax.proofs.Taken.{token_held, no_token_held}
-use Rattle.flow_syntax.proofs.stack.token_in.Goals as goal
-
-pub returns-in-Token : goal.returns-in-Token
-returns-in-Token c = token_held c.args.value c.in-Token.token c.in-Token.is
-
-pub returns : goal.returns
-returns c = no_token_held c.args.value c.in_default.not-Token
