@@ -40,10 +40,10 @@ whole_more : (gs : List GraphSyntax) (g : GraphSyntax) → AreWhole gs → IsWho
 whole_more [] g h k = (k, tt)
 whole_more (x ∷ xs) g h k = (h.0, whole_more xs g h.1 k)
 
-abbrev IsGood : List Sort → Graph → Type 0
+abbrev pub IsGood : List Sort → Graph → Type 0
 IsGood vars g = (0 < length g) × IsSortedGraph vars g
 
-abbrev AreGood : List Sort → List Graph → Type 0
+abbrev pub AreGood : List Sort → List Graph → Type 0
 AreGood vars [] = Unit {0}
 AreGood vars (g ∷ gs) = IsGood vars g × AreGood vars gs
 
@@ -218,22 +218,31 @@ known_first = (tt, λ q m e. absurd (no_name q m e), tt)
 
 -- ---- files
 
-goal_good : (vs fs : List (List ℕ)) (k : Known) (goal : Option (ℕ × ℕ)) → IsKnown k → IsGoal (length k.graphs) goal → Holds (λ f. IsFlowPair (pair_of f)) (with_goal vs fs k goal)
+abbrev IsGoodFile : FlowFileParts → Type 0
+IsGoodFile f = AreGood f.sorts f.graphs × IsFlowPair (pair_of f)
+
+goal_good : (vs fs : List (List ℕ)) (k : Known) (goal : Option (ℕ × ℕ)) → IsKnown k → IsGoal (length k.graphs) goal → Holds IsGoodFile (with_goal vs fs k goal)
 goal_good vs fs k None h g = tt
 goal_good vs fs k (Some goal) h g =
-    then_holds (GraphsOf k.scope.variables (length k.graphs)) (λ f. IsFlowPair (pair_of f)) (graphs_after k.scope goal (shared_sorts k.scope goal k.graphs) [] k.graphs) _
+    then_holds (GraphsOf k.scope.variables (length k.graphs)) IsGoodFile (graphs_after k.scope goal (shared_sorts k.scope goal k.graphs) [] k.graphs) _
     (graphs_good k.scope goal (shared_sorts k.scope goal k.graphs) (length k.graphs) k.graphs [] (omega arith) h.0 tt)
     (λ gs a.
     let before = good_at k.scope.variables gs goal.0 a.0 (subst (λ n. goal.0 < n) (sym a.1) g.0) in
     let after = good_at k.scope.variables gs goal.1 a.0 (subst (λ n. goal.1 < n) (sym a.1) g.1) in
-    record { before_blocks = before.0; after_blocks = after.0; before_sorted = before.1; after_sorted = after.1 })
+    (a.0, record { before_blocks = before.0; after_blocks = after.0; before_sorted = before.1; after_sorted = after.1 }))
 
-file_good : (is : List ItemSyntax) → AreWholeItems is → Holds (λ f. IsFlowPair (pair_of f)) (file_of is)
+file_good : (is : List ItemSyntax) → AreWholeItems is → Holds IsGoodFile (file_of is)
 file_good is w =
-    then_holds IsKnown (λ f. IsFlowPair (pair_of f)) (items_known nothing_known is) (λ k. with_goal (variable_names is) (function_names is) k k.goal) (items_kept nothing_known is w known_first)
+    then_holds IsKnown IsGoodFile (items_known nothing_known is) (λ k. with_goal (variable_names is) (function_names is) k k.goal) (items_kept nothing_known is w known_first)
     (λ k h. goal_good (variable_names is) (function_names is) k k.goal h h.2)
 
--- the graphs of a flow file are sorted, and both of the goal have a block
+text_good : (text : List ℕ) (f : FlowFileParts) → IsFlowText text f → IsGoodFile f
+text_good text f h = value_holds IsGoodFile (file_of h.spelled) f (file_good h.spelled (spelled_whole h.spells.tokens (length text) h.spelled h.spells.spelled)) h.file
+
+-- the graphs of a flow file are sorted, and each has a block
+pub flow_graphs_good : (text : List ℕ) (f : FlowFileParts) → IsFlowText text f → AreGood f.sorts f.graphs
+flow_graphs_good text f h = (text_good text f h).0
+
+-- likewise both of the goal
 pub flow_pairs_sorted : (text : List ℕ) (f : FlowFileParts) → IsFlowText text f → IsFlowPair (pair_of f)
-flow_pairs_sorted text f h =
-    value_holds (λ x. IsFlowPair (pair_of x)) (file_of h.spelled) f (file_good h.spelled (spelled_whole h.spells.tokens (length text) h.spelled h.spells.spelled)) h.file
+flow_pairs_sorted text f h = (text_good text f h).1

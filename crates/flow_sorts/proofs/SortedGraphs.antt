@@ -1,5 +1,5 @@
 -- Conditions, statements, jumps and blocks of whole items are sorted where they have no fault.
-use Rattle.std.proofs.Common.{◌≡◌, ℕ, ◌+◌, List, [], ◌∷◌, ◌++◌, length, length-append, false, nat_eq, Option, Some, None, Ok, slice_get, refl, sym, ◌∙◌, ap, subst, arith, append_assoc}
+use Rattle.std.proofs.Common.{◌≡◌, ℕ, zero, suc, ◌+◌, List, [], ◌∷◌, ◌++◌, length, length-append, false, nat_eq, Option, Some, None, Ok, slice_get, refl, sym, ◌∙◌, ap, subst, arith, append_assoc}
 use Rattle.std.proofs.lemmas.Bool.Decides.{nat_tests}
 use Rattle.std.proofs.lemmas.List.{append-nil, length-map}
 use Rattle.kat_model.specs.declared.expression.Rel.{Rel}
@@ -11,16 +11,17 @@ use Rattle.flow_model.specs.declared.sort.Sort.TheVariants.{Number, Opaque}
 use Rattle.flow_model.specs.Expressions.{ExprTree}
 use Rattle.flow_model.specs.Conditions as condition
 use Rattle.flow_model.specs.Conditions.{CondTree}
-use Rattle.flow_model.specs.Polish.{first_cond, other_conds, CondPart, a_condition, a_negation, a_conjunction, a_disjunction, conds_of}
+use Rattle.flow_model.specs.Polish.{first_cond, other_conds, CondPart, a_condition, a_negation, a_conjunction, a_disjunction, with_part, conds_of}
 use Rattle.flow_model.specs.Graphs as model
 use Rattle.flow_model.specs.Graphs.{StatementTree, Block, Graph}
 use Rattle.flow_forms.specs.Expressions.{sort_of, IsSorted}
 use Rattle.flow_ways.specs.Conditions.{MayCompare, IsSortedCond}
 use Rattle.flow_ways.specs.Sorted.{AreSorted, AreAssigned, AreSortedStatements, IsSortedJump, IsSortedBlock, IsSortedGraph}
 use Rattle.flow_syntax.specs.Syntax.{ExprSyntax, CondNodeSyntax, always, never, compared, compared_signed, negation, both, either, CondSyntax, StatementSyntax, assign, claim, JumpSyntax, goto, branch, return, abort, BlockSyntax, a_block}
-use Rattle.flow_syntax.proofs.WholeSyntax.{ArePolish, AreAllPolish, IsWholeNode, IsWholeCond, AreWholeStatements, IsWholeJump, AreWholeBlocks}
+use Rattle.flow_syntax.proofs.WholeSyntax.{ArePolish, AreAllPolish, IsWholeNode, condition_count, AreWholeConds, IsWholeCond, AreWholeStatements, IsWholeJump, AreWholeBlocks}
 use Rattle.flow_text.specs.declared.meaning.Meaning.{Meaning}
 use Rattle.flow_text.specs.declared.meaning.Meaning.TheVariants.{Variable}
+use Rattle.flow_text.specs.Trees.{only_cond}
 use Rattle.flow_text.specs.Scopes.{ScopeParts, meaning_in}
 use Rattle.flow_text.specs.Resolving.{sort_of_sides, rel_named, signed_rel_named, relation_on, width_of_sort, comparison_of, signed_comparison_of, expression_of, part_of, parts_after, condition_of}
 use Rattle.flow_text.specs.Checking.{is_set, target_of, target_meant, next_target, targets_after, expressions_after, expressions_of, firsts, seconds, assigned, statements_after, found, block_names, block_or_fault, returned, jump_of, may_have_block, with_mark, block_of, next_block, blocks_after, graph_of}
@@ -29,23 +30,47 @@ use Rattle.flow_sorts.proofs.SortedNodes.{IsAt, expression_good}
 
 -- ---- conditions
 
-abbrev IsPart : List Sort → CondPart → Type 0
+abbrev pub IsPart : List Sort → CondPart → Type 0
 IsPart sorts (a_condition b) = IsSortedCond sorts b
 IsPart sorts a_negation = Unit {0}
 IsPart sorts a_conjunction = Unit {0}
 IsPart sorts a_disjunction = Unit {0}
 
-abbrev AreParts : List Sort → List CondPart → Type 0
+abbrev pub AreParts : List Sort → List CondPart → Type 0
 AreParts sorts [] = Unit {0}
 AreParts sorts (p ∷ ps) = IsPart sorts p × AreParts sorts ps
 
-abbrev AreConds : List Sort → List CondTree → Type 0
+abbrev pub AreConds : List Sort → List CondTree → Type 0
 AreConds sorts [] = Unit {0}
 AreConds sorts (b ∷ bs) = IsSortedCond sorts b × AreConds sorts bs
 
-parts_more : (sorts : List Sort) (ps : List CondPart) (p : CondPart) → AreParts sorts ps → IsPart sorts p → AreParts sorts (ps ++ p ∷ [])
-parts_more sorts [] p h k = (k, tt)
-parts_more sorts (q ∷ qs) p h k = (h.0, parts_more sorts qs p h.1 k)
+-- a part that takes `n` conditions, and makes one of them
+abbrev Takes : ℕ → CondPart → Type 0
+Takes n p = (m : ℕ) (bs : List CondTree) → length bs ≡ n + m → length (with_part p bs) ≡ suc m
+
+abbrev IsPartOf : List Sort → ℕ → CondPart → Type 0
+IsPartOf sorts n p = IsPart sorts p × Takes n p
+
+-- the parts before, and those of `n` conditions
+abbrev ArePartsOf : List Sort → List CondPart → ℕ → List CondPart → Type 0
+ArePartsOf sorts before n out = (new : List CondPart) × (out ≡ before ++ new) × AreParts sorts new × (length (conds_of new) ≡ n)
+
+condition_takes : (b : CondTree) → Takes 0 (a_condition b)
+condition_takes b m bs e = omega (arith, e)
+
+negation_takes : Takes 1 a_negation
+negation_takes m [] e = absurd (omega (arith, e))
+negation_takes m (b ∷ bs) e = omega (arith, e)
+
+conjunction_takes : Takes 2 a_conjunction
+conjunction_takes m [] e = absurd (omega (arith, e))
+conjunction_takes m (b ∷ []) e = absurd (omega (arith, e))
+conjunction_takes m (b ∷ c ∷ bs) e = omega (arith, e)
+
+disjunction_takes : Takes 2 a_disjunction
+disjunction_takes m [] e = absurd (omega (arith, e))
+disjunction_takes m (b ∷ []) e = absurd (omega (arith, e))
+disjunction_takes m (b ∷ c ∷ bs) e = omega (arith, e)
 
 first_sorted : (sorts : List Sort) (bs : List CondTree) → AreConds sorts bs → IsSortedCond sorts (first_cond bs)
 first_sorted sorts [] h = tt
@@ -66,6 +91,11 @@ conds_sorted sorts (a_conjunction ∷ ps) h =
     let k = conds_sorted sorts ps h.1 in (two_sorted sorts (conds_of ps) k, others_sorted sorts (other_conds (conds_of ps)) (others_sorted sorts (conds_of ps) k))
 conds_sorted sorts (a_disjunction ∷ ps) h =
     let k = conds_sorted sorts ps h.1 in (two_sorted sorts (conds_of ps) k, others_sorted sorts (other_conds (conds_of ps)) (others_sorted sorts (conds_of ps) k))
+
+only_sorted : (sorts : List Sort) (bs : List CondTree) → length bs ≡ 1 → AreConds sorts bs → IsSortedCond sorts (only_cond bs)
+only_sorted sorts [] e h = absurd (omega (arith, e))
+only_sorted sorts (b ∷ []) e h = h.0
+only_sorted sorts (b ∷ c ∷ bs) e h = absurd (omega (arith, e))
 
 relation_good : (sort : Sort) (t : TokenParts) (rel : Rel) → Holds (MayCompare sort) (relation_on sort t rel)
 relation_good (Number w) t rel = tt
@@ -129,37 +159,43 @@ graph_more sorts [] b h k = (k, tt)
 graph_more sorts (c ∷ cs) b h k = (h.0, graph_more sorts cs b h.1 k)
 
 module _ (s : ScopeParts) (sorts : List Sort) (declared : (k : ℕ) (sort : Sort) → slice_get s.variables k ≡ Some sort → slice_get sorts k ≡ Some sort) where
-  comparison_good : (sort : Sort) (relation : TokenParts) (e f : ExprSyntax) → ArePolish 1 e → ArePolish 1 f → Holds (IsPart sorts) (comparison_of s sort relation e f)
+  comparison_good : (sort : Sort) (relation : TokenParts) (e f : ExprSyntax) → ArePolish 1 e → ArePolish 1 f → Holds (IsPartOf sorts 0) (comparison_of s sort relation e f)
   comparison_good sort relation e f h k =
-      then_holds (IsAt sorts sort) (IsPart sorts) (expression_of s sort e) _ (expression_good s sorts declared sort e h) (λ x a.
-      then_holds (MayCompare sort) (IsPart sorts) (relation_on sort relation (rel_named (bytes_of relation))) _ (relation_good sort relation (rel_named (bytes_of relation))) (λ rel may.
-      then_holds (IsAt sorts sort) (IsPart sorts) (expression_of s sort f) (λ y. Ok (a_condition (condition.compared rel x y))) (expression_good s sorts declared sort f k) (λ y b.
-      (a.0, b.0, b.1 ∙ sym a.1, subst (λ i. MayCompare i rel) (sym a.1) may))))
+      then_holds (IsAt sorts sort) (IsPartOf sorts 0) (expression_of s sort e) _ (expression_good s sorts declared sort e h) (λ x a.
+      then_holds (MayCompare sort) (IsPartOf sorts 0) (relation_on sort relation (rel_named (bytes_of relation))) _ (relation_good sort relation (rel_named (bytes_of relation))) (λ rel may.
+      then_holds (IsAt sorts sort) (IsPartOf sorts 0) (expression_of s sort f) (λ y. Ok (a_condition (condition.compared rel x y))) (expression_good s sorts declared sort f k) (λ y b.
+      ((a.0, b.0, b.1 ∙ sym a.1, subst (λ i. MayCompare i rel) (sym a.1) may), condition_takes (condition.compared rel x y)))))
 
-  signed_good : (sort : Sort) (word : TokenParts) (e f : ExprSyntax) → ArePolish 1 e → ArePolish 1 f → Holds (IsPart sorts) (signed_comparison_of s sort word e f)
+  signed_good : (sort : Sort) (word : TokenParts) (e f : ExprSyntax) → ArePolish 1 e → ArePolish 1 f → Holds (IsPartOf sorts 0) (signed_comparison_of s sort word e f)
   signed_good sort word e f h k =
-      then_holds (λ w. Unit {0}) (IsPart sorts) (width_of_sort sort word) _ (any_holds (width_of_sort sort word)) (λ w u.
-      then_holds (IsAt sorts (Number w)) (IsPart sorts) (expression_of s (Number w) e) _ (expression_good s sorts declared (Number w) e h) (λ x a.
-      then_holds (IsAt sorts (Number w)) (IsPart sorts) (expression_of s (Number w) f) (λ y. Ok (a_condition (condition.compared_signed (signed_rel_named (bytes_of word)) w x y))) (expression_good s sorts declared (Number w) f k) (λ y b.
-      (a.0, b.0, a.1, b.1))))
+      then_holds (λ w. Unit {0}) (IsPartOf sorts 0) (width_of_sort sort word) _ (any_holds (width_of_sort sort word)) (λ w u.
+      then_holds (IsAt sorts (Number w)) (IsPartOf sorts 0) (expression_of s (Number w) e) _ (expression_good s sorts declared (Number w) e h) (λ x a.
+      then_holds (IsAt sorts (Number w)) (IsPartOf sorts 0) (expression_of s (Number w) f) (λ y. Ok (a_condition (condition.compared_signed (signed_rel_named (bytes_of word)) w x y))) (expression_good s sorts declared (Number w) f k) (λ y b.
+      ((a.0, b.0, a.1, b.1), condition_takes (condition.compared_signed (signed_rel_named (bytes_of word)) w x y)))))
 
-  part_good : (n : CondNodeSyntax) → IsWholeNode n → Holds (IsPart sorts) (part_of s n)
-  part_good always h = tt
-  part_good never h = tt
+  part_good : (n : CondNodeSyntax) → IsWholeNode n → Holds (IsPartOf sorts (condition_count n)) (part_of s n)
+  part_good always h = (tt, condition_takes condition.always)
+  part_good never h = (tt, condition_takes condition.never)
   part_good (compared relation e f) h = comparison_good (sort_of_sides s e f) relation e f h.0 h.1
   part_good (compared_signed word e f) h = signed_good (sort_of_sides s e f) word e f h.0 h.1
-  part_good negation h = tt
-  part_good both h = tt
-  part_good either h = tt
+  part_good negation h = (tt, negation_takes)
+  part_good both h = (tt, conjunction_takes)
+  part_good either h = (tt, disjunction_takes)
 
-  parts_good : (ns : CondSyntax) (before : List CondPart) → IsWholeCond ns → AreParts sorts before → Holds (AreParts sorts) (parts_after s before ns)
-  parts_good [] before h k = k
-  parts_good (n ∷ ns) before h k =
-      then_holds (IsPart sorts) (AreParts sorts) (part_of s n) (λ x. parts_after s (before ++ x ∷ []) ns) (part_good n h.0) (λ x a. parts_good ns (before ++ x ∷ []) h.1 (parts_more sorts before x k a))
+  parts_good : (ns : CondSyntax) (n : ℕ) (before : List CondPart) → AreWholeConds n ns → Holds (ArePartsOf sorts before n) (parts_after s before ns)
+  parts_good [] zero before h = ([], sym (append-nil before), tt, refl)
+  parts_good [] (suc n) before h = absurd h
+  parts_good (x ∷ ns) zero before h = absurd h
+  parts_good (x ∷ ns) (suc n) before h =
+      then_holds (IsPartOf sorts (condition_count x)) (ArePartsOf sorts before (suc n)) (part_of s x) (λ p. parts_after s (before ++ p ∷ []) ns) (part_good x h.0) (λ p a.
+      weakened (ArePartsOf sorts (before ++ p ∷ []) (condition_count x + n)) (ArePartsOf sorts before (suc n)) (parts_after s (before ++ p ∷ []) ns)
+      (parts_good ns (condition_count x + n) (before ++ p ∷ []) h.1)
+      (λ out made. (p ∷ made.0, made.1 ∙ append_assoc before (p ∷ []) made.0, (a.0, made.2), a.1 n (conds_of made.0) made.3)))
 
   condition_good : (b : CondSyntax) → IsWholeCond b → Holds (IsSortedCond sorts) (condition_of s b)
   condition_good b h =
-      then_holds (AreParts sorts) (IsSortedCond sorts) (parts_after s [] b) (λ ps. Ok (first_cond (conds_of ps))) (parts_good b [] h tt) (λ ps a. first_sorted sorts (conds_of ps) (conds_sorted sorts ps a))
+      then_holds (ArePartsOf sorts [] 1) (IsSortedCond sorts) (parts_after s [] b) (λ ps. Ok (only_cond (conds_of ps))) (parts_good b 1 [] h)
+      (λ ps a. subst (λ qs. IsSortedCond sorts (only_cond (conds_of qs))) (sym a.1) (only_sorted sorts (conds_of a.0) a.3 (conds_sorted sorts a.0 a.2)))
 
   -- ---- assignments
 

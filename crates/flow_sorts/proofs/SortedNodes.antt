@@ -15,13 +15,14 @@ use Rattle.flow_model.specs.declared.sort.Sort.TheVariants.{Number, Opaque}
 use Rattle.flow_model.specs.declared.graph.ExprNode.{ExprNode}
 use Rattle.flow_model.specs.declared.graph.ExprNode.TheVariants as node
 use Rattle.flow_model.specs.Expressions.{ExprTree}
-use Rattle.flow_model.specs.Polish.{first_expr, arguments_of, with_node, exprs_of, expr_of}
+use Rattle.flow_model.specs.Polish.{arguments_of, with_node, exprs_of}
 use Rattle.flow_forms.specs.Expressions.{or_number, sort_of, IsSorted}
 use Rattle.flow_syntax.specs.Syntax.{NodeSyntax, numeral, named, called, converted, operation, ExprSyntax}
 use Rattle.flow_syntax.specs.Terminals.{spelled_number}
 use Rattle.flow_syntax.proofs.WholeSyntax.{operand_count, ArePolish}
 use Rattle.flow_text.specs.declared.meaning.Meaning.{Meaning}
 use Rattle.flow_text.specs.declared.meaning.Meaning.TheVariants.{Function, Variable}
+use Rattle.flow_text.specs.Trees.{only_expr, expr_of}
 use Rattle.flow_text.specs.Scopes.{FunctionParts, function_parts, ScopeParts, meaning_in, width_named, same_sort}
 use Rattle.flow_text.specs.Resolving.{Wanted, operand, second_operand, sort_or_u64, sort_of_first, number_of_width, number_in, with_sort_wanted, variable_in, application_of, function_in, conversion_in, operator_on, operator_in, with_parameters, with_operand, node_in, next_node, nodes_after, resolved, expression_of}
 use Rattle.flow_sorts.proofs.Holding.{Holds, then_holds, if_holds, weakened}
@@ -213,9 +214,10 @@ module _ (s : ScopeParts) (sorts : List Sort) (declared : (k : ℕ) (sort : Sort
       (nodes_good ns x.1 (before ++ x.0 ∷ []) (subst (λ i. ArePolish i ns) (sym follows.0) h))
       (λ out made. (x.0 ∷ made.0, made.1 ∙ append_assoc before (x.0 ∷ []) made.0, follows.1 (exprs_of made.0) made.2)))
 
-  one_filled : (sort : Sort) (es : List ExprTree) → Fill sorts (operand sort ∷ []) es → IsAt sorts sort (first_expr es)
+  one_filled : (sort : Sort) (es : List ExprTree) → Fill sorts (operand sort ∷ []) es → IsAt sorts sort (only_expr es)
   one_filled sort [] h = absurd h
-  one_filled sort (e ∷ es) h = (h.0, h.1)
+  one_filled sort (e ∷ []) h = (h.0, h.1)
+  one_filled sort (e ∷ f ∷ es) h = absurd h.2
 
   pub expression_good : (sort : Sort) (e : ExprSyntax) → ArePolish 1 e → Holds (IsAt sorts sort) (expression_of s sort e)
   expression_good sort e h =

@@ -12,8 +12,8 @@ use Rattle.flow_model.specs.declared.graph.ExprNode.{ExprNode}
 use Rattle.flow_model.specs.declared.graph.Statement.{Statement as Checked}
 use Rattle.flow_model.specs.Expressions.{ExprTree}
 use Rattle.flow_model.specs.Graphs.{StatementTree}
-use Rattle.flow_model.specs.Polish as polish
-use Rattle.flow_model.specs.Polish.{expr_of, values_of}
+use Rattle.flow_text.specs.Trees as trees
+use Rattle.flow_text.specs.Trees.{expr_of, values_of}
 use Rattle.flow_syntax.specs.declared.written.Node.{Node}
 use Rattle.flow_syntax.specs.declared.written.Statement.{Statement}
 use Rattle.flow_text.specs.Scopes.{ScopeParts}
@@ -87,10 +87,10 @@ pub ruleset expressions = (expression_made, expression_refused, no_expression)
 statement_first : (s : ScopeParts) (made : List StatementTree) (before : List Statement) (x : Statement) → statements_after s made (statements_syntax (before ++ x ∷ [])) ≡ (statement_of s (statement_syntax x) >>= λ y. statements_after s (made ++ y ∷ []) (statements_syntax before))
 statement_first s made before x = ap (statements_after s made) (statements_push before x)
 
-pub statement_made : (s : ScopeParts) (made : List Checked) (before : List Statement) (x : Statement) (y : Checked) → statement_of s (statement_syntax x) ≡ Ok (polish.statement_of y) → statements_after s (map polish.statement_of made) (statements_syntax (before ++ x ∷ [])) ≡ statements_after s (map polish.statement_of (made ++ y ∷ [])) (statements_syntax before)
+pub statement_made : (s : ScopeParts) (made : List Checked) (before : List Statement) (x : Statement) (y : Checked) → statement_of s (statement_syntax x) ≡ Ok (trees.statement_of y) → statements_after s (map trees.statement_of made) (statements_syntax (before ++ x ∷ [])) ≡ statements_after s (map trees.statement_of (made ++ y ∷ [])) (statements_syntax before)
 statement_made s made before x y e =
-    statement_first s (map polish.statement_of made) before x ∙ ap (λ (m : Result StatementTree TextFault). m >>= λ z. statements_after s (map polish.statement_of made ++ z ∷ []) (statements_syntax before)) e
-    ∙ ap (λ vs. statements_after s vs (statements_syntax before)) (sym (map-append polish.statement_of made (y ∷ [])))
+    statement_first s (map trees.statement_of made) before x ∙ ap (λ (m : Result StatementTree TextFault). m >>= λ z. statements_after s (map trees.statement_of made ++ z ∷ []) (statements_syntax before)) e
+    ∙ ap (λ vs. statements_after s vs (statements_syntax before)) (sym (map-append trees.statement_of made (y ∷ [])))
 
 pub statement_refused : (s : ScopeParts) (made : List StatementTree) (before : List Statement) (x : Statement) (fault : TextFault) → statement_of s (statement_syntax x) ≡ Err fault → statements_after s made (statements_syntax (before ++ x ∷ [])) ≡ Err fault
 statement_refused s made before x fault e = statement_first s made before x ∙ ap (λ (m : Result StatementTree TextFault). m >>= λ z. statements_after s (made ++ z ∷ []) (statements_syntax before)) e

@@ -4,7 +4,8 @@ use Rattle.std.proofs.lemmas.List.{map-append}
 use Rattle.text_tokens.specs.declared.fault.TextFault.{TextFault}
 use Rattle.text_grammar.specs.Parsed.{◌>>=◌}
 use Rattle.flow_model.specs.declared.graph.CondNode.{CondNode as Checked}
-use Rattle.flow_model.specs.Polish.{CondPart, cond_part}
+use Rattle.flow_model.specs.Polish.{CondPart}
+use Rattle.flow_text.specs.Trees.{cond_part}
 use Rattle.flow_syntax.specs.declared.written.CondNode.{CondNode}
 use Rattle.flow_text.specs.Scopes.{ScopeParts}
 use Rattle.flow_syntax.specs.SyntaxViews.{cond_node_syntax, cond_syntax}

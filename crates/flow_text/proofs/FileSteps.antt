@@ -8,7 +8,7 @@ use Rattle.text_grammar.specs.Parsed.{◌>>=◌, Makes}
 use Rattle.flow_model.specs.declared.sort.Sort.{Sort}
 use Rattle.flow_model.specs.declared.graph.Block.{Block}
 use Rattle.flow_model.specs.Graphs.{Graph}
-use Rattle.flow_model.specs.Polish.{graph_of}
+use Rattle.flow_text.specs.Trees.{graph_of}
 use Rattle.flow_syntax.specs.Syntax.{ItemSyntax}
 use Rattle.flow_text.specs.declared.known.WrittenGraph.{WrittenGraph}
 use Rattle.flow_text.specs.Scopes.{ScopeParts}

@@ -7,7 +7,7 @@ use Rattle.flow_model.specs.declared.sort.Sort.{Sort}
 use Rattle.flow_model.specs.declared.graph.Block.{Block as Checked}
 use Rattle.flow_model.specs.Graphs.{Graph}
 use Rattle.flow_model.specs.Graphs as model
-use Rattle.flow_model.specs.Polish.{block_of, graph_of}
+use Rattle.flow_text.specs.Trees.{block_of, graph_of}
 use Rattle.flow_syntax.specs.declared.written.Block.{Block}
 use Rattle.flow_text.specs.Scopes.{ScopeParts}
 use Rattle.flow_syntax.specs.SyntaxViews.{block_syntax, blocks_syntax}

@@ -3,7 +3,7 @@ use Rattle.std.specs.Prelude.{List, map, Vec, string_bytes}
 use Rattle.std.specs.declared.alloc.Global.{Global}
 use Rattle.flow_model.specs.declared.graph.Block.{Block}
 use Rattle.flow_model.specs.Graphs.{Graph}
-use Rattle.flow_model.specs.Polish.{graph_of}
+use Rattle.flow_text.specs.Trees.{graph_of}
 use Rattle.flow_text.specs.declared.reading.FlowFile.{FlowFile}
 use Rattle.flow_text.specs.Checking.{FlowFileParts}
 

@@ -1,6 +1,7 @@
 pub mod Scopes
 pub mod ScopeViews
 pub mod DeclaredNames
+pub mod Trees
 pub mod Resolving
 pub mod Checking
 pub mod KnownViews

@@ -17,12 +17,13 @@ use Rattle.flow_model.specs.declared.graph.ExprNode.TheVariants as node
 use Rattle.flow_model.specs.Expressions.{ExprTree}
 use Rattle.flow_model.specs.Conditions as condition
 use Rattle.flow_model.specs.Conditions.{CondTree}
-use Rattle.flow_model.specs.Polish.{expr_of, CondPart, a_condition, a_negation, a_conjunction, a_disjunction, conds_of, first_cond}
+use Rattle.flow_model.specs.Polish.{CondPart, a_condition, a_negation, a_conjunction, a_disjunction, conds_of}
 use Rattle.flow_text.specs.declared.meaning.Meaning.{Meaning}
 use Rattle.flow_text.specs.declared.meaning.Meaning.TheVariants.{Function, Variable}
 use Rattle.flow_syntax.specs.Terminals.{spelled_number}
 use Rattle.flow_syntax.specs.Syntax.{FirstSyntax, no_name, a_name, a_conversion, NodeSyntax, numeral, named, called, converted, operation, ExprSyntax, CondNodeSyntax, always, never, compared, compared_signed, negation, both, either, CondSyntax}
 use Rattle.flow_syntax.specs.Actions.{first_of, first_name}
+use Rattle.flow_text.specs.Trees.{expr_of, only_cond}
 use Rattle.flow_text.specs.Scopes.{FunctionParts, function_parts, ScopeParts, meaning_in, width_named, same_sort, sort_fault, unknown}
 
 -- ---- sorts
@@ -203,4 +204,4 @@ parts_after s before [] = Ok before
 parts_after s before (n ∷ ns) = part_of s n >>= λ x. parts_after s (before ++ x ∷ []) ns
 
 abbrev pub condition_of : ScopeParts → CondSyntax → Result CondTree TextFault
-condition_of s b = parts_after s [] b >>= λ ps. Ok (first_cond (conds_of ps))
+condition_of s b = parts_after s [] b >>= λ ps. Ok (only_cond (conds_of ps))

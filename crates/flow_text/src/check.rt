@@ -2,7 +2,7 @@
 ghost use Rattle.std.specs.Prelude.{◌≡◌, [], map, IfOk};
 ghost use Rattle.text_tokens.specs.TokenParts.{parts_of_token};
 ghost use Rattle.text_grammar.specs.Parsed.{Makes};
-ghost use Rattle.flow_model.specs.Polish.{statement_of, values_of};
+ghost use Rattle.flow_text.specs.Trees.{statement_of, values_of};
 ghost use Rattle.flow_text.specs.Checking.{is_set, target_of, next_target, targets_after, expressions_of, firsts, seconds, assigned, statements_after};
 ghost use Rattle.flow_text.specs.Checking as checking;
 ghost use Rattle.flow_syntax.specs.Syntax as spelled;

@@ -4,7 +4,7 @@ ghost use Rattle.std.specs.BTreeMap.{get_by_text};
 ghost use Rattle.std.specs.Option.{option_map};
 ghost use Rattle.text_tokens.specs.TokenParts.{parts_of_token};
 ghost use Rattle.text_grammar.specs.Parsed.{Makes};
-ghost use Rattle.flow_model.specs.Polish.{jump_of, block_of, graph_of};
+ghost use Rattle.flow_text.specs.Trees.{jump_of, block_of, graph_of};
 ghost use Rattle.flow_text.specs.Checking.{found, block_names, block_or_fault, may_have_block, returned, gone_to, branched, next_block, blocks_after};
 ghost use Rattle.flow_text.specs.Checking as checking;
 ghost use Rattle.flow_text.specs.ScopeViews.{sight_parts};

@@ -21,13 +21,25 @@ use std::alloc::Global;
 use text_tokens::{TextFault, Token};
 
 /// A graph with the numbers of sorts, functions, variables and graphs that are declared before it.
-#[derive(Drop)]
 pub(crate) struct WrittenGraph<'a> {
     pub(crate) sorts: usize,
     pub(crate) functions: usize,
     pub(crate) variables: usize,
     pub(crate) graphs: usize,
     pub(crate) blocks: Vec<Block<'a>>,
+}
+
+// Explicit, so that it is proved once and not at each end of each function that owns a graph.
+impl Drop for WrittenGraph<'_> {
+    fn drop(self) {
+        let WrittenGraph {
+            sorts: _,
+            functions: _,
+            variables: _,
+            graphs: _,
+            blocks: _blocks,
+        } = self;
+    }
 }
 
 /// What is known of the items so far.

@@ -8,10 +8,19 @@ use kat_model::NoMemory;
 use std::alloc::Global;
 use std::collections::BTreeMap;
 
-#[derive(Drop)]
 pub(crate) struct Names {
     alloc: Global,
     pub(crate) meanings: BTreeMap<String, Meaning>,
+}
+
+// Explicit, so that it is proved once and not at each end of each function that owns a table.
+impl Drop for Names {
+    fn drop(self) {
+        let Names {
+            alloc: _,
+            meanings: _meanings,
+        } = self;
+    }
 }
 
 impl Names {

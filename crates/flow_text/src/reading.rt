@@ -3,7 +3,7 @@ ghost use Rattle.std.specs.Prelude.{◌≡◌, ◌≤◌, [], length, map, None,
 ghost use Rattle.text_tokens.specs.declared.fault.TextFault.TheVariants.{NoMemory as NoRoom};
 ghost use Rattle.text_tokens.specs.declared.lexer.TheConstants.{MAX_LEN as MOST};
 ghost use Rattle.text_grammar.specs.Parsed.{Makes};
-ghost use Rattle.flow_model.specs.Polish.{graph_of};
+ghost use Rattle.flow_text.specs.Trees.{graph_of};
 ghost use Rattle.flow_text.specs.Checking.{FlowFileParts, shared_sorts, known_sorts, with_graph_results, sorts_returned, whole_graph, next_graph, graphs_after, with_goal, rounds_or_one, file_of};
 ghost use Rattle.flow_text.specs.ScopeViews.{scope_parts};
 ghost use Rattle.flow_text.specs.KnownViews.{graph_syntax, known_parts};
@@ -203,10 +203,11 @@ fn read_text(alloc: Global, text: &str) -> Result<FlowFile, TextFault>
     file(alloc, items)
 }
 
-/// Returns the contents of a flow file. Otherwise fails with the first fault, in this order: `TooLong` for more than
-/// `MAX_LEN` bytes; `NotUtf8`; `BadToken`; the first in text order of `Syntax`, of `TooDeep` if more than `MAX_OPEN`
-/// constructs are open, and of `NumberTooWide` for 2^64 or more; the first fault of the first item that has one;
-/// `NoGoal` if no item is an `equal`; and last the first fault of a result of a `return`.
+/// Returns the contents of a flow file. The nodes of each of its expressions and conditions are exactly one tree. Otherwise
+/// fails with the first fault, in this order: `TooLong` for more than `MAX_LEN` bytes; `NotUtf8`; `BadToken`; the first in
+/// text order of `Syntax`, of `TooDeep` if more than `MAX_OPEN` constructs are open, and of `NumberTooWide` for 2^64 or
+/// more; the first fault of the first item that has one; `NoGoal` if no item is an `equal`; and last the first fault of a
+/// result of a `return`.
 pub fn read(alloc: Global, bytes: &[u8]) -> Result<FlowFile, TextFault>
     // The bytes spell the file; a failure is `NoMemory` or the first fault of the bytes.
     ensures answers { Answers bytes.now result }

@@ -2,7 +2,7 @@
 ghost use Rattle.std.specs.Prelude.{◌≡◌, [], map};
 ghost use Rattle.text_tokens.specs.TokenParts.{parts_of_token};
 ghost use Rattle.text_grammar.specs.Parsed.{Makes};
-ghost use Rattle.flow_model.specs.Polish.{cond_part, cond_of};
+ghost use Rattle.flow_text.specs.Trees.{cond_part, cond_of};
 ghost use Rattle.flow_text.specs.Resolving.{rel_named, sort_of_sides, signed_rel_named, relation_on, width_of_sort, comparison_of, signed_comparison_of, part_of, parts_after, condition_of};
 ghost use Rattle.flow_text.specs.ScopeViews.{sight_parts};
 ghost use Rattle.flow_syntax.specs.SyntaxViews.{cond_node_syntax, cond_syntax, expr_syntax};

@@ -1,6 +1,6 @@
 //! Expressions of a sort.
 ghost use Rattle.text_grammar.specs.Parsed.{Makes};
-ghost use Rattle.flow_model.specs.Polish.{expr_of};
+ghost use Rattle.flow_text.specs.Trees.{expr_of};
 ghost use Rattle.flow_text.specs.Resolving.{expression_of};
 ghost use Rattle.flow_text.specs.ScopeViews.{sight_parts};
 ghost use Rattle.flow_syntax.specs.SyntaxViews.{expr_syntax};

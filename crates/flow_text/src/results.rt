@@ -17,10 +17,19 @@ use kat_model::NoMemory;
 use std::alloc::Global;
 
 /// The sorts of results, as far as they are known: `None` before the first `return`.
-#[derive(Drop)]
 pub(crate) struct Results {
     alloc: Global,
     pub(crate) sorts: Option<Vec<Option<Sort>>>,
+}
+
+// Explicit, so that it is proved once and not at each end of each function that owns the sorts.
+impl Drop for Results {
+    fn drop(self) {
+        let Results {
+            alloc: _,
+            sorts: _sorts,
+        } = self;
+    }
 }
 
 /// Returns what a graph may name.

@@ -42,15 +42,15 @@ pub(crate) fn sight_of_all<'s>(scope: &'s Scope) -> Sight<'s>
 pub(crate) fn width_named(text: &str) -> Option<(bool, Width)>
     ensures { result ≡ width_named text.now }
 {
-    match text.as_bytes() {
-        b"u8" => Some((false, Width::W8)),
-        b"u16" => Some((false, Width::W16)),
-        b"u32" => Some((false, Width::W32)),
-        b"u64" => Some((false, Width::W64)),
-        b"s8" => Some((true, Width::W8)),
-        b"s16" => Some((true, Width::W16)),
-        b"s32" => Some((true, Width::W32)),
-        b"s64" => Some((true, Width::W64)),
+    match text {
+        "u8" => Some((false, Width::W8)),
+        "u16" => Some((false, Width::W16)),
+        "u32" => Some((false, Width::W32)),
+        "u64" => Some((false, Width::W64)),
+        "s8" => Some((true, Width::W8)),
+        "s16" => Some((true, Width::W16)),
+        "s32" => Some((true, Width::W32)),
+        "s64" => Some((true, Width::W64)),
         _ => None,
     }
 }

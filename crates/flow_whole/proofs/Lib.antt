@@ -1,3 +1,2 @@
-pub mod TreeCounts
 pub mod TreeFits
 pub mod OneOutcome

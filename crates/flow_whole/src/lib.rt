@@ -3,7 +3,5 @@
 #![tactic(auto)]
 
 mod laws;
-mod whole;
 
 pub use laws::whole_graphs_have_one_outcome;
-pub use whole::are_whole;

@@ -1,13 +1,16 @@
 -- What is found of the graphs of the program is found of the file.
-use Rattle.std.proofs.Common.{◌≡◌, ℕ, true, List, map, slice_get, inl, inr, refl, sym, subst}
+use Rattle.std.proofs.Common.{◌≡◌, ℕ, true, List, map, slice_get, inl, inr, refl, sym, ◌∙◌, subst}
 use Rattle.flow_model.specs.declared.graph.Block.{Block}
 use Rattle.flow_model.specs.Graphs.{Graph}
 use Rattle.flow_model.specs.Polish.{graph_of}
-use Rattle.flow_text.specs.Checking.{FlowFileParts, graph_or_none}
+use Rattle.flow_ways.specs.Sorted.{IsSortedGraph}
+use Rattle.flow_text.specs.Trees as read
+use Rattle.flow_text.specs.Checking.{FlowFileParts, graph_or_none, pair_of}
+use Rattle.flow_sorts.proofs.ReadGraphs.{graph_whole}
 use Rattle.flow_whole.specs.WholeGraphs.{are_whole_blocks}
 use Rattle.flow_facts.specs.HypothesisViews.{flow_rule}
 use Rattle.flow_problem.specs.FlowProblems.{FlowQuestion}
-use Rattle.flow_problem.specs.PlacedProblems.{IsFlowProblem}
+use Rattle.flow_problem.specs.PlacedProblems.{IsFlowPair, IsFlowProblem}
 use Rattle.flow_questions.specs.declared.fault.FlowFault.{FlowFault}
 use Rattle.flow_questions.specs.declared.fault.FlowFault.TheVariants.{NoMemory}
 use Rattle.flow_questions.specs.declared.question.FlowAbstract.{FlowAbstract}
@@ -25,6 +28,13 @@ pub record HasBlocks (f : FlowFileParts) (before after : List Block) : Type 0 wh
   pub after_graph : graph_of after ≡ graph_or_none (slice_get f.graphs f.after)
   pub before_whole : are_whole_blocks before ≡ true
   pub after_whole : are_whole_blocks after ≡ true
+
+-- sorted graphs of a file have such blocks
+pub has_blocks : (f : FlowFileParts) (before after : List Block) → read.graph_of before ≡ graph_or_none (slice_get f.graphs f.before) → read.graph_of after ≡ graph_or_none (slice_get f.graphs f.after) → IsFlowPair (pair_of f) → HasBlocks f before after
+has_blocks f before after first second pair =
+    let one = graph_whole f.sorts before (subst (IsSortedGraph f.sorts) (sym first) pair.before_sorted) in
+    let other = graph_whole f.sorts after (subst (IsSortedGraph f.sorts) (sym second) pair.after_sorted) in
+    record { before_graph = sym one.1 ∙ first; after_graph = sym other.1 ∙ second; before_whole = one.0; after_whole = other.0 }
 
 module _ (f : FlowFileParts) (before after : List Block) (has : HasBlocks f before after) where
   abbrev question : FlowQuestion

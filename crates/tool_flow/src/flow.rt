@@ -1,10 +1,10 @@
 //! `flow`: replies to a text of two flow graphs with the question whether they always return the same, as a problem file.
-ghost use Rattle.std.specs.Prelude.{◌≡◌, ◌&&◌, true, false, IfOk, slice_get};
-ghost use Rattle.flow_model.specs.Polish.{graph_of};
-ghost use Rattle.flow_text.specs.Checking.{graph_or_none};
+ghost use Rattle.std.specs.Prelude.{◌≡◌, true, false, IfOk, slice_get};
+ghost use Rattle.flow_text.specs.Trees.{graph_of};
+ghost use Rattle.flow_text.specs.Checking.{graph_or_none, pair_of};
 ghost use Rattle.flow_text.specs.FileViews.{graphs_of, file_parts};
 ghost use Rattle.flow_text.specs.Texts.{IsFlowText, FirstFault};
-ghost use Rattle.flow_whole.specs.WholeGraphs.{are_whole_blocks};
+ghost use Rattle.flow_problem.specs.PlacedProblems.{IsFlowPair};
 ghost use Rattle.flow_print.specs.FlowTexts.{AreLines};
 ghost use Rattle.flow_questions.specs.Abstracts.{flow_problem_of};
 ghost use Rattle.tool_inputs.specs.TextProblem.{IsFaultOf};
@@ -20,7 +20,6 @@ use flow_model::Block;
 use flow_print::{FlowNames, flow_text};
 use flow_questions::{FlowAbstract, FlowFault, problem_of};
 use flow_text::{FlowFile, read};
-use flow_whole::are_whole;
 use kat_model::{MAX_TEXT_BYTES, NoMemory};
 use std::alloc::Global;
 use tool_inputs::{EarlyEnd, Reply, TextCommand, reply_to_text, text_fault_stop};
@@ -45,22 +44,13 @@ fn graph_at(graphs: &[Vec<Block>], number: usize) -> &[Block]
     }
 }
 
-fn are_both_whole(before: &[Block], after: &[Block]) -> bool
-    ensures { result ≡ (are_whole_blocks before.now && are_whole_blocks after.now) }
-{
-    are_whole(before) && are_whole(after)
-}
-
 // Returns the problem of a file. A file whose question is refused has no problem, and the line gives the reason.
 fn problem_in(alloc: Global, file: &FlowFile) -> Result<FlowAbstract, EarlyEnd>
+    requires { IsFlowPair (pair_of (file_parts file.now)) }
     ensures { Yields (IsFound (file_parts file.now)) (IsRefusal (HasNoFlowProblem (file_parts file.now))) result }
 {
     let before = graph_at(&file.graphs, file.before);
     let after = graph_at(&file.graphs, file.after);
-    // Each expression that is read is one tree. No clause of `read` says so, and the limit on forms is one of trees.
-    if !are_both_whole(before, after) {
-        return Err(EarlyEnd::NoMemory);
-    }
     match problem_of(
         alloc,
         &file.sorts,

@@ -4,7 +4,7 @@ use Rattle.std.specs.declared.alloc.Global.{Global}
 use Rattle.std.proofs.lemmas.Result.{err_from_is_err_and}
 use Rattle.text_tokens.specs.declared.fault.TextFault.{TextFault}
 use Rattle.flow_model.specs.declared.graph.Statement.{Statement}
-use Rattle.flow_model.specs.Polish.{statement_of}
+use Rattle.flow_text.specs.Trees.{statement_of}
 use Rattle.flow_text.specs.Checking as checking
 use Rattle.flow_text.specs.Checking.{statements_after}
 use Rattle.flow_text.specs.ScopeViews.{sight_parts}

@@ -1,5 +1,5 @@
 use Rattle.std.proofs.Common.{◌≡◌, [], length, map}
-use Rattle.flow_model.specs.Polish.{statement_of}
+use Rattle.flow_text.specs.Trees.{statement_of}
 use Rattle.flow_text.specs.Checking.{statements_after}
 use Rattle.flow_text.specs.ScopeViews.{sight_parts}
 use Rattle.flow_syntax.specs.SyntaxViews.{statements_syntax}

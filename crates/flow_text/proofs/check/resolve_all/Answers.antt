@@ -6,7 +6,7 @@ use Rattle.text_tokens.specs.declared.fault.TextFault.{TextFault}
 use Rattle.kat_model.specs.declared.expression.Width.TheVariants.{W8}
 use Rattle.flow_model.specs.declared.sort.Sort.TheVariants.{Number}
 use Rattle.flow_model.specs.declared.graph.ExprNode.{ExprNode}
-use Rattle.flow_model.specs.Polish.{expr_of, values_of}
+use Rattle.flow_text.specs.Trees.{expr_of, values_of}
 use Rattle.flow_text.specs.Resolving.{expression_of}
 use Rattle.flow_text.specs.Checking.{expressions_after, expressions_of}
 use Rattle.flow_text.specs.ScopeViews.{sight_parts}

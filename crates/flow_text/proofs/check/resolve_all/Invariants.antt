@@ -1,5 +1,5 @@
 use Rattle.std.proofs.Common.{◌≡◌, drop}
-use Rattle.flow_model.specs.Polish.{values_of}
+use Rattle.flow_text.specs.Trees.{values_of}
 use Rattle.flow_text.specs.Checking.{expressions_after, expressions_of}
 use Rattle.flow_text.specs.ScopeViews.{sight_parts}
 use Rattle.flow_syntax.specs.SyntaxViews.{exprs_syntax}

@@ -7,7 +7,7 @@ use Rattle.std.specs.BTreeMap.{get_by_text}
 use Rattle.std.specs.Option.{option_map}
 use Rattle.flow_model.specs.declared.sort.Sort.{Sort}
 use Rattle.flow_model.specs.declared.graph.Block.{Block}
-use Rattle.flow_model.specs.Polish.{block_of, graph_of}
+use Rattle.flow_text.specs.Trees.{block_of, graph_of}
 use Rattle.flow_text.specs.Checking.{next_block, blocks_after}
 use Rattle.flow_text.specs.ScopeViews.{sight_parts}
 use Rattle.flow_syntax.specs.SyntaxViews.{block_syntax, blocks_syntax}

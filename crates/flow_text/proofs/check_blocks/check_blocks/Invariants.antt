@@ -2,7 +2,7 @@ use Rattle.std.proofs.Common.{◌≡◌, Bor, List, [], length}
 use Rattle.std.specs.BTreeMap.{get_by_text}
 use Rattle.std.specs.Option.{option_map}
 use Rattle.flow_model.specs.declared.sort.Sort.{Sort}
-use Rattle.flow_model.specs.Polish.{graph_of}
+use Rattle.flow_text.specs.Trees.{graph_of}
 use Rattle.flow_text.specs.Checking.{blocks_after}
 use Rattle.flow_text.specs.ScopeViews.{sight_parts}
 use Rattle.flow_syntax.specs.SyntaxViews.{blocks_syntax}

@@ -1,5 +1,5 @@
 use Rattle.std.proofs.Common.{◌≡◌, [], length, map}
-use Rattle.flow_model.specs.Polish.{cond_part}
+use Rattle.flow_text.specs.Trees.{cond_part}
 use Rattle.flow_text.specs.Resolving.{parts_after}
 use Rattle.flow_text.specs.ScopeViews.{sight_parts}
 use Rattle.flow_syntax.specs.SyntaxViews.{cond_syntax}

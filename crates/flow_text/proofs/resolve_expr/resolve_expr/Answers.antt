@@ -1,7 +1,7 @@
 use Rattle.std.specs.Prelude.{Vec}
 use Rattle.std.specs.declared.alloc.Global.{Global}
 use Rattle.flow_model.specs.declared.graph.ExprNode.{ExprNode}
-use Rattle.flow_model.specs.Polish.{expr_of}
+use Rattle.flow_text.specs.Trees.{expr_of}
 use Rattle.flow_text.proofs.ProgramResults.{makes_seen}
 use Rattle.flow_text.proofs.resolve_expr.resolve_expr.Goals as goal
 

@@ -1,13 +1,11 @@
-use Rattle.std.proofs.Common.{◌≡◌, sym}
-use Rattle.std.proofs.lemmas.Bool.{and_parts}
+use Rattle.std.proofs.Common.{◌≡◌}
 use Rattle.flow_text.specs.FileViews.{file_parts}
-use Rattle.flow_whole.specs.WholeGraphs.{are_whole_blocks}
 use Rattle.flow_questions.specs.declared.fault.FlowFault.TheVariants.{NoMemory}
 use Rattle.tool_inputs.specs.Steps.{IsRefusal}
 use Rattle.tool_inputs.proofs.ReplySpecs.{EndsWith-weaker}
 use Rattle.tool_flow.specs.FlowFaults.{flow_fault_line}
 use Rattle.tool_flow.specs.Questions.{HasNoFlowProblem}
-use Rattle.tool_flow.proofs.FoundProblems.{HasBlocks, found_of, none_of}
+use Rattle.tool_flow.proofs.FoundProblems.{has_blocks, found_of, none_of}
 use Rattle.tool_flow.proofs.flow.problem_in.Goals as goal
 
 pub returns-in-Ok : goal.returns-in-Ok
@@ -15,13 +13,7 @@ returns-in-Ok c =
     let f = file_parts c.args.file.now in
     let before = c.graph_at-before.result.now in
     let after = c.graph_at-after.result.now in
-    let whole = and_parts (are_whole_blocks before) (are_whole_blocks after) (sym c.if-not-are_both_whole.ensures) in
-    let has : HasBlocks f before after = record {
-      before_graph = rw c.deref.ensures.value at c.graph_at-before.ensures;
-      after_graph = rw c.deref-2.ensures.value at c.graph_at-after.ensures;
-      before_whole = whole.0;
-      after_whole = whole.1;
-    } in
+    let has = has_blocks f before after (rw c.deref.ensures.value at c.graph_at-before.ensures) (rw c.deref-2.ensures.value at c.graph_at-after.ensures) c.requires in
     found_of f before after has c.in-Ok.found (rw c.deref-3.ensures.value at c.in-Ok.ensures.made) (rw c.deref-3.ensures.value at c.in-Ok.ensures.rules) (rw c.deref-3.ensures.value at c.in-Ok.ensures.faultless)
 
 pub returns-in-Err : goal.returns-in-Err
@@ -29,13 +21,7 @@ returns-in-Err c =
     let f = file_parts c.args.file.now in
     let before = c.graph_at-before.result.now in
     let after = c.graph_at-after.result.now in
-    let whole = and_parts (are_whole_blocks before) (are_whole_blocks after) (sym c.if-not-are_both_whole.ensures) in
-    let has : HasBlocks f before after = record {
-      before_graph = rw c.deref.ensures.value at c.graph_at-before.ensures;
-      after_graph = rw c.deref-2.ensures.value at c.graph_at-after.ensures;
-      before_whole = whole.0;
-      after_whole = whole.1;
-    } in
+    let has = has_blocks f before after (rw c.deref.ensures.value at c.graph_at-before.ensures) (rw c.deref-2.ensures.value at c.graph_at-after.ensures) c.requires in
     EndsWith-weaker (λ status output. (status ≡ 2) × ((c.in-Err.fault ≡ NoMemory → ⊥) × (output ≡ flow_fault_line c.in-Err.fault))) (IsRefusal (HasNoFlowProblem f))
     (λ status output h. (h.0, none_of f before after has c.in-Err.fault output (rw c.deref-3.ensures.value at c.in-Err.ensures.refused) h.1.0 h.1.1))
     c.fault_stop.result c.fault_stop.ensures

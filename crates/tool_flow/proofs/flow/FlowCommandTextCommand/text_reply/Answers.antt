@@ -2,6 +2,7 @@ use Rattle.std.proofs.Common.{◌≡◌, inl, inr, refl, rules}
 use Rattle.flow_text.specs.FileViews.{file_parts}
 use Rattle.flow_text.specs.Texts.{FirstFault}
 use Rattle.flow_sorts.proofs.NamedLines.{names_lines}
+use Rattle.flow_sorts.proofs.SortedFiles.{flow_pairs_sorted}
 use Rattle.flow_questions.specs.declared.fault.FlowFault.TheVariants.{NoMemory, ProblemTooLarge}
 use Rattle.flow_questions.specs.Abstracts.{flow_problem_of}
 use Rattle.tool_inputs.specs.TextProblem.{IsFaultOf}
@@ -20,6 +21,9 @@ returns-in_err-file c =
     let text = c.args.text.now in
     let r : RepliesWith (IsRefusal (IsFaultOf (FirstFault text))) c.from_residual.result = search rules in
     RepliesWith-weaker (IsRefusal (IsFaultOf (FirstFault text))) (FlowReply text) (λ status output h. flow_reply text status output (inl h)) c.from_residual.result r
+
+pub problem_in-requires : goal.problem_in-requires
+problem_in-requires c = flow_pairs_sorted c.args.text.now (file_parts c.in_ok-file.file) c.in_ok-file.ensures
 
 pub returns-in_err-found : goal.returns-in_err-found
 returns-in_err-found c =
