@@ -1,6 +1,6 @@
 -- A certificate under tests that is accepted for a problem with fewer short hypotheses is accepted. The loop that finds
 -- such a problem.
-use Rattle.std.proofs.Common.{◌≡◌, ◌<◌, ◌≤◌, ℕ, suc, ⊎_elim, List, [], ◌∷◌, ◌++◌, map, drop, length, get_or, Bool, true, false, cond, Option, Some, None, is_some, not, refl, sym, ap, ◌∙◌, subst, append_assoc, drop-cons}
+use Rattle.std.proofs.Common.{◌≡◌, ◌<◌, ℕ, suc, ⊎_elim, List, [], ◌∷◌, ◌++◌, map, drop, length, get_or, Bool, true, false, cond, Option, Some, None, is_some, not, refl, sym, ap, ◌∙◌, subst, append_assoc, drop-cons}
 use Rattle.std.specs.List.{filter}
 use Rattle.std.specs.Option.{MatchOption}
 use Rattle.std.proofs.lemmas.Bool.{true≢false}

@@ -14,17 +14,13 @@ use Rattle.certificate.specs.Certs.{CertParts}
 use Rattle.cert_steps.specs.NodeTables.{TableParts, IsTest, HasValues, term_at, holds_at}
 use Rattle.cert_steps.specs.Targets.{AreEntries, StandFor, AreAcceptances, set_leads_to}
 use Rattle.cert_checker.specs.Working.Roots.{counted_short}
-use Rattle.cert_checker.specs.Working.Places.{AreForbidden, IsAllowed}
+use Rattle.cert_checker.specs.Working.Places.{AreForbidden, AddsMoves, IsAllowed, forbidden_of}
 use Rattle.cert_steps.proofs.ChosenTargets.{chosen_has, has_chosen}
 use Rattle.cert_steps.proofs.StepLists.{accept_at}
 
 -- no pair has both tests true
 abbrev pub IsFree : TableParts → List (ℕ × ℕ) → Atom → Atom → Type 0
 IsFree t fs atom to = (f : ℕ × ℕ) → Has fs f → (holds_at t f.0 atom && holds_at t f.1 to) ≡ false
-
--- the guard of a target, and the test that is true where the target accepts
-abbrev pub forbidden_of : List ℕ → ℕ × ℕ → ℕ × ℕ
-forbidden_of outputs e = (e.1, get_or outputs e.0 0)
 
 module _ (t : TableParts) (es : List Term) (forbidden_atoms always : ℕ) (bans : (atom : Atom) → holds_at t forbidden_atoms atom ≡ set_out es atom) (holds : (atom : Atom) → holds_at t always atom ≡ true) where
   first_free : (atom to : Atom) → (holds_at t forbidden_atoms atom && holds_at t always to) ≡ false → IsAllowedAtom es atom
@@ -113,10 +109,9 @@ module _ (t : TableParts) (c : CertParts) (q : ProblemParts) where
     forbidden_without None e = outputs_forbidden
     forbidden_without (Some a) e = absurd cc
 
-    pub forbidden_by : (o : Option ℕ) → is_some o ≡ true → (entries : List (ℕ × ℕ)) → StandFor t entries (set_leads_to o (counted_short c.style q)) → (outputs : List ℕ) → AreAcceptances t outputs → ((e : ℕ × ℕ) → Has entries e → e.0 < length outputs)
-        → AreForbidden t c q o ((forbidden_atoms, always) ∷ (always, forbidden_atoms) ∷ map (forbidden_of outputs) entries)
-    forbidden_by None e entries stand outputs tell there = absurd cc
-    forbidden_by (Some a) e entries stand outputs tell there = moves_forbidden a entries stand outputs tell there
+    pub forbidden_by : (o : Option ℕ) → is_some o ≡ true → (fs : List (ℕ × ℕ)) → AddsMoves t (set_leads_to o (counted_short c.style q)) ((forbidden_atoms, always) ∷ (always, forbidden_atoms) ∷ []) fs → AreForbidden t c q o fs
+    forbidden_by None e fs adds = absurd cc
+    forbidden_by (Some a) e fs adds = subst (AreForbidden t c q (Some a)) (sym adds.pairs) (moves_forbidden a adds.entries adds.stand adds.outputs adds.accept adds.there)
 
   -- without short hypotheses all moves are allowed
   pub none_forbidden : counted_short c.style q ≡ [] → (o : Option ℕ) → AreForbidden t c q o []

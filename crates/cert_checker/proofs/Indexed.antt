@@ -53,18 +53,14 @@ module _ {X : Type 0} (f : X → List ℕ) where
   pub found_at : (es : List (ℕ × X)) (k : ℕ) (o : Option X) → o ≡ lookup (is_at (nat_cmp k)) es → mapped_at es k ≡ unwrap_or (option_map f o) []
   found_at es k o e = ap (λ (p : Option (List ℕ)). unwrap_or p []) (lookup_mapped (is_at (nat_cmp k)) es ∙ ap (option_map f) (sym e))
 
-  module _ (old mid new : List (ℕ × X)) (term place : ℕ) (removed : Option X) (fresh now : X) (was : removed ≡ lookup (is_at (nat_cmp term)) old) (empty : f fresh ≡ []) (pushed : f now ≡ f (unwrap_or removed fresh) ++ place ∷ [])
+  module _ (old mid new : List (ℕ × X)) (term place : ℕ) (removed : Option X) (before : List ℕ) (now : X) (was : removed ≡ lookup (is_at (nat_cmp term)) old) (start : before ≡ unwrap_or (option_map f removed) []) (pushed : f now ≡ before ++ place ∷ [])
       (made : lookup (is_at (nat_cmp term)) new ≡ Some now) where
     pub place_added : Has (mapped_at new term) place
-    place_added = subst (λ (l : List ℕ). Has l place) (sym (found_at new term (Some now) (sym made) ∙ pushed)) (pushed_has (f (unwrap_or removed fresh)) place)
+    place_added = subst (λ (l : List ℕ). Has l place) (sym (found_at new term (Some now) (sym made) ∙ pushed)) (pushed_has before place)
 
     module _ (left : (k : ℕ) → is_at (nat_cmp term) k ≡ false → lookup (is_at (nat_cmp k)) mid ≡ lookup (is_at (nat_cmp k)) old) (rest : (k : ℕ) → is_at (nat_cmp term) k ≡ false → lookup (is_at (nat_cmp k)) new ≡ lookup (is_at (nat_cmp k)) mid) where
       here : (j : ℕ) → Has (mapped_at old term) j → Has (mapped_at new term) j
-      here j h = subst (λ (l : List ℕ). Has l j) (sym (found_at new term (Some now) (sym made) ∙ pushed)) (has_left (f (unwrap_or removed fresh)) (place ∷ []) j (go removed (subst (λ (l : List ℕ). Has l j) (found_at old term removed was) h)))
-        where
-          go : (o : Option X) → Has (unwrap_or (option_map f o) []) j → Has (f (unwrap_or o fresh)) j
-          go None m = absurd m
-          go (Some v) m = m
+      here j h = subst (λ (l : List ℕ). Has l j) (sym (found_at new term (Some now) (sym made) ∙ pushed)) (has_left before (place ∷ []) j (subst (λ (l : List ℕ). Has l j) (found_at old term removed was ∙ sym start) h))
 
       pub places_kept : (k j : ℕ) → Has (mapped_at old k) j → Has (mapped_at new k) j
       places_kept k j h =

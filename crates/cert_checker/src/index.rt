@@ -1,8 +1,8 @@
 //! An index of the listed pairs: each of their sets is listed under its last member. So the nonempty subsets of a set
 //! of terms are listed under its members.
-ghost use Rattle.std.specs.Prelude.{◌≡◌, IfOk, OnOk};
+ghost use Rattle.std.specs.Prelude.{◌≡◌, ℕ, IfOk, OnOk, map};
 ghost use Rattle.kat_model.specs.Members.{Has};
-ghost use Rattle.cert_checker.specs.Working.Indices.{places_at, places_by, KeepsPlaces, AreIndexed};
+ghost use Rattle.cert_checker.specs.Working.Indices.{listed_under, places_at, places_by, KeepsPlaces, AreIndexed};
 
 use certificate::Pair;
 use kat_model::NoMemory;
@@ -12,10 +12,19 @@ use std::marker::Model;
 
 /// Places of pairs: those of pairs with an empty set, and for each term those of pairs with a set whose last member is
 /// the term.
-#[derive(Drop)]
 pub(crate) struct PairIndex {
     apart: Vec<usize>,
     under: BTreeMap<usize, Vec<usize>>,
+}
+
+// Explicit, so that it is proved once and not at each end of each function that owns one.
+impl Drop for PairIndex {
+    fn drop(self) {
+        let PairIndex {
+            apart: _apart,
+            under: _under,
+        } = self;
+    }
 }
 
 impl Model for PairIndex {
@@ -27,6 +36,25 @@ impl Model for PairIndex {
     ghost view = { λ x. record { apart = x.apart.items; under = map (λ e. (e.0, e.1.items)) x.under.entries } };
 }
 
+// Adds the place under the term.
+fn add_under(
+    under: &mut BTreeMap<usize, Vec<usize>>,
+    alloc: Global,
+    term: usize,
+    place: usize,
+) -> Result<(), NoMemory>
+    ensures added { OnOk result (Has (listed_under (map (λ e. (e.0, e.1.items)) under.new.entries) term) place) }
+    ensures kept { OnOk result ((k j : ℕ) → Has (listed_under (map (λ e. (e.0, e.1.items)) under.old.entries) k) j → Has (listed_under (map (λ e. (e.0, e.1.items)) under.new.entries) k) j) }
+{
+    let mut places = match under.remove(&term) {
+        Some(places) => places,
+        None => Vec::new(alloc),
+    };
+    places.push(place)?;
+    under.insert(term, places)?;
+    Ok(())
+}
+
 impl PairIndex {
     // Adds the place of a pair that has this set.
     fn add(&mut self, alloc: Global, set: &[usize], place: usize) -> Result<(), NoMemory>
@@ -35,11 +63,7 @@ impl PairIndex {
     {
         match set.last() {
             None => self.apart.push(place)?,
-            Some(term) => {
-                let mut places = self.under.remove(term).unwrap_or(Vec::new(alloc));
-                places.push(place)?;
-                self.under.insert(*term, places)?;
-            }
+            Some(term) => add_under(&mut self.under, alloc, *term, place)?,
         }
         Ok(())
     }

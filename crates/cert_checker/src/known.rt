@@ -13,7 +13,7 @@ use kat_model::NoMemory;
 use std::alloc::Global;
 
 /// What is known of a truth value.
-#[derive(Clone, Copy, Debug, PartialEq, Eq)]
+#[derive(Clone, Copy)]
 pub(crate) enum Truth {
     /// It has this value for all values of the open tests.
     Known(bool),
@@ -23,18 +23,31 @@ pub(crate) enum Truth {
 
 /// Which primitive tests of two atoms are decided, and what is known of tests, by their numbers: at the first atom,
 /// where a move begins, and at the second, where it ends. It is correct for the tests in the lists of the question.
-#[derive(Drop)]
 pub(crate) struct TestCase {
     pub decided: Vec<Option<bool>>,
     pub begin: Vec<Truth>,
     pub end: Vec<Truth>,
 }
 
+// Explicit, so that it is proved once and not at each end of each function that owns one.
+impl Drop for TestCase {
+    fn drop(self) {
+        let TestCase {
+            decided: _decided,
+            begin: _begin,
+            end: _end,
+        } = self;
+    }
+}
+
 /// Returns what is known of the test.
 pub(crate) fn value_of(known: &[Truth], test: usize) -> Truth
     ensures { result ≡ known_of known.now test }
 {
-    known.get(test).copied().unwrap_or(Truth::Known(false))
+    match known.get(test) {
+        Some(value) => *value,
+        None => Truth::Known(false),
+    }
 }
 
 /// Returns what is known of the test of a pair. Without a test the value is true.

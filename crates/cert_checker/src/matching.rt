@@ -38,7 +38,6 @@ pub(crate) enum MoveStatus {
 /// What is known of the targets of one side of a question: the terms that are surely in its set, in ascending order;
 /// the open terms, which may be in it at an atom at which they are not in the other set; a test that the guard of an
 /// open term depends on; and a test that the guard of some target depends on.
-#[derive(Drop)]
 pub(crate) struct TargetSide {
     pub sure: Vec<usize>,
     pub alone: Vec<usize>,
@@ -46,11 +45,32 @@ pub(crate) struct TargetSide {
     pub waits: Option<usize>,
 }
 
+// Explicit, so that it is proved once and not at each end of each function that owns one.
+impl Drop for TargetSide {
+    fn drop(self) {
+        let TargetSide {
+            sure: _sure,
+            alone: _alone,
+            alone_waits: _,
+            waits: _,
+        } = self;
+    }
+}
+
 /// Both sides of a question.
-#[derive(Drop)]
 pub(crate) struct TargetSides {
     pub left: TargetSide,
     pub right: TargetSide,
+}
+
+// Explicit, so that it is proved once and not at each end of each function that owns one.
+impl Drop for TargetSides {
+    fn drop(self) {
+        let TargetSides {
+            left: _left,
+            right: _right,
+        } = self;
+    }
 }
 
 // Returns what is known of the move, or `None` if it does not count: the test of the pair is false at its beginning, or
@@ -266,6 +286,40 @@ fn waiting_guard(question: &Question, known: &[Truth], sides: &TargetSides) -> O
         .or(sides.right.waits)
 }
 
+// Returns what is known of the question about a move that may count, given what is known of the targets of both sides.
+fn outcome_by(
+    question: &Question,
+    case: &TestCase,
+    the_move: MoveStatus,
+    sides: &TargetSides,
+) -> Result<Outcome, NoMemory>
+    requires question { IsPosed question.now }
+    requires case { IsTestCase question.now.tables question.now question.now.asked case.now.decided.items case.now }
+    requires the_move { IsMoveStatus question.now case.now the_move }
+    requires sides { AreTargetSides case.now.begin.items question.now.left question.now.right sides.now }
+    ensures { IfOk result (IsOutcome (MatchAt question.now.tables question.now) case.now.decided.items) }
+{
+    let known = case.begin.as_slice();
+    if are_universal(question, known) || are_matched(&Counted::of(question, case, false), sides)? {
+        return Ok(Outcome::Holds);
+    }
+    if let MoveStatus::Tied(test) = the_move {
+        return Ok(Outcome::Undecided(test));
+    }
+    if let Some(test) = waiting_guard(question, known, sides) {
+        return Ok(Outcome::Undecided(test));
+    }
+    if are_covered(&Counted::of(question, case, true), sides)? {
+        if let Some(test) = waiting_pair(question, case) {
+            return Ok(Outcome::Undecided(test));
+        }
+    }
+    match the_move {
+        MoveStatus::Counts => Ok(Outcome::Fails),
+        MoveStatus::Tied(test) | MoveStatus::Undecided(test) => Ok(Outcome::Undecided(test)),
+    }
+}
+
 /// Returns what is known of the question in this case. If it is not known, the returned test is chosen to keep the
 /// number of cases low: first a test that is tied to decided ones; then a test of a guard, preferably of one where the
 /// sides differ; then a test of a pair, if the pairs that may count cover the sets; then a test that decides whether
@@ -280,26 +334,7 @@ pub(crate) fn outcome_of(question: &Question, case: &TestCase) -> Result<Outcome
     let Some(the_move) = move_status(question, case) else {
         return Ok(Outcome::Holds);
     };
-    let sides = TargetSides {
-        left: side_of(alloc, &question.left, &question.right, known)?,
-        right: side_of(alloc, &question.right, &question.left, known)?,
-    };
-    if are_universal(question, known) || are_matched(&Counted::of(question, case, false), &sides)? {
-        return Ok(Outcome::Holds);
-    }
-    if let MoveStatus::Tied(test) = the_move {
-        return Ok(Outcome::Undecided(test));
-    }
-    if let Some(test) = waiting_guard(question, known, &sides) {
-        return Ok(Outcome::Undecided(test));
-    }
-    if are_covered(&Counted::of(question, case, true), &sides)? {
-        if let Some(test) = waiting_pair(question, case) {
-            return Ok(Outcome::Undecided(test));
-        }
-    }
-    match the_move {
-        MoveStatus::Counts => Ok(Outcome::Fails),
-        MoveStatus::Tied(test) | MoveStatus::Undecided(test) => Ok(Outcome::Undecided(test)),
-    }
+    let left = side_of(alloc, &question.left, &question.right, known)?;
+    let right = side_of(alloc, &question.right, &question.left, known)?;
+    outcome_by(question, case, the_move, &TargetSides { left, right })
 }

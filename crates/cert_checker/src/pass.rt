@@ -1,19 +1,20 @@
 //! The first place at which the pairs of a certificate fail.
-ghost use Rattle.std.specs.Prelude.{◌≡◌, ◌≤◌, ℕ, Some, IsTrue, IfOk, length};
+ghost use Rattle.std.specs.Prelude.{◌≡◌, ◌<◌, ◌≤◌, ◌++◌, ℕ, Some, IsTrue, IfOk, OnOk, length, map};
 ghost use Rattle.std.specs.Option.{option_map};
 ghost use Rattle.kat_model.specs.Members.{Has};
+ghost use Rattle.kat_model.specs.Degrees.{short_hyps as short_hyps'};
 ghost use Rattle.kat_model.specs.Problems.{IsProblem};
 ghost use Rattle.kat_model.specs.Steps.{set_out};
 ghost use Rattle.term_nodes.specs.NumberSets.{are_below, terms_of};
 ghost use Rattle.goal_forms.specs.ClosedTrees.{closed_trees};
 ghost use Rattle.cert_steps.specs.NodeTables.{AreTables, TablesGrow, TestsGrow, IsTerm, HasValues, term_at, nodes_in, tables_of};
 ghost use Rattle.cert_steps.specs.Marks.{IsMarked};
-ghost use Rattle.cert_steps.specs.Targets.{AreAcceptances};
+ghost use Rattle.cert_steps.specs.Targets.{AreAcceptances, AreSteps, set_leads_to};
 ghost use Rattle.cert_checker.specs.Working.Indices.{IndexParts, AreIndexed};
 ghost use Rattle.cert_checker.specs.Working.Roots.{AreClosedBelow, AreClosedNumbers, compared, counted_short};
-ghost use Rattle.cert_checker.specs.Working.Places.{AreNeeded, IsLeastOf, IsPass, pass_of};
+ghost use Rattle.cert_checker.specs.Working.Places.{AddsMoves, AreNeeded, IsLeastOf, IsPass, forbidden_of, pass_of};
 
-use crate::asked::with_parts;
+use crate::asked::{begin_tests, end_tests};
 use crate::cases::least_failure;
 use crate::index::PairIndex;
 use crate::known::TestCase;
@@ -24,7 +25,6 @@ use goal_forms::{Closed, eliminate};
 use hypothesis_kinds::{is_short, long_problem};
 use kat_model::{NoMemory, Problem};
 use std::alloc::Global;
-use std::collections::BTreeSet;
 use std::marker::Model;
 
 /// A pair and an atom at which the pair fails: without an action, its sets do not accept alike; with an action, the
@@ -41,7 +41,6 @@ pub(crate) struct Place {
 
 /// The state of a pass over a certificate: its nodes and the root terms of the problem, followed by the terms that
 /// steps lead to; and its numbers.
-#[derive(Drop)]
 pub(crate) struct Pass<'a> {
     problem: &'a Problem,
     cert: &'a Cert,
@@ -53,7 +52,6 @@ pub(crate) struct Pass<'a> {
 /// The numbers of a pass: those of the compared closed sides, of their universal term if there is one, and of the
 /// hypotheses that count as short; the tests that are true where terms accept and where a short hypothesis does; and
 /// marks of the terms whose steps are computed.
-#[derive(Drop)]
 pub(crate) struct PassNumbers {
     left: usize,
     right: usize,
@@ -62,6 +60,34 @@ pub(crate) struct PassNumbers {
     acceptance_tests: Vec<usize>,
     forbidden_atoms: usize,
     needed_terms: Vec<bool>,
+}
+
+// Explicit, so that it is proved once and not at each end of each function that owns one.
+impl Drop for Pass<'_> {
+    fn drop(self) {
+        let Pass {
+            problem: _,
+            cert: _,
+            index: _,
+            tables: _tables,
+            parts: _parts,
+        } = self;
+    }
+}
+
+// Explicit, so that it is proved once and not at each end of each function that owns one.
+impl Drop for PassNumbers {
+    fn drop(self) {
+        let PassNumbers {
+            left: _,
+            right: _,
+            universal: _,
+            shorts: _shorts,
+            acceptance_tests: _acceptance_tests,
+            forbidden_atoms: _,
+            needed_terms: _needed_terms,
+        } = self;
+    }
 }
 
 impl<'a> Model for Pass<'a> {
@@ -103,6 +129,23 @@ fn sides_in(tables: &mut Tables, closed: &Closed) -> Result<(usize, usize, Optio
     Ok((left, right, universal))
 }
 
+// Returns the numbers of the short hypotheses.
+fn all_short(tables: &mut Tables, problem: &Problem) -> Result<Vec<usize>, NoMemory>
+    requires tables { AreTables tables.old }
+    requires width { problem.now.tests ≡ tables.old.width }
+    ensures terms { IfOk result (λ v. terms_of (nodes_in tables.new) v.items ≡ short_hyps' problem.now) }
+    ensures there { IfOk result (λ v. IsTrue (are_below (length tables.new.terms) v.items)) }
+    ensures grows { TablesGrow tables.old tables.new }
+{
+    let mut numbers = Vec::new(tables.alloc());
+    for hyp in problem.hyps() {
+        if is_short(hyp) {
+            numbers.push(tables.number_of(hyp)?)?;
+        }
+    }
+    Ok(numbers)
+}
+
 // Returns the numbers of the hypotheses that count as short.
 fn short_hyps(tables: &mut Tables, problem: &Problem, style: Style) -> Result<Vec<usize>, NoMemory>
     requires tables { AreTables tables.old }
@@ -111,16 +154,10 @@ fn short_hyps(tables: &mut Tables, problem: &Problem, style: Style) -> Result<Ve
     ensures there { IfOk result (λ v. IsTrue (are_below (length tables.new.terms) v.items)) }
     ensures grows { TablesGrow tables.old tables.new }
 {
-    let mut numbers = Vec::new(tables.alloc());
-    if style != Style::Under {
-        return Ok(numbers);
+    match style {
+        Style::Plain | Style::UpTo => Ok(Vec::new(tables.alloc())),
+        Style::Under => all_short(tables, problem),
     }
-    for hyp in problem.hyps() {
-        if is_short(hyp) {
-            numbers.push(tables.number_of(hyp)?)?;
-        }
-    }
-    Ok(numbers)
 }
 
 // Returns the test that is true where some member of the set accepts.
@@ -196,6 +233,50 @@ fn pass_numbers(
     })
 }
 
+// Returns what a pass over the certificate needs. The closed sides are owned here, where little can fail.
+fn numbers_of(tables: &mut Tables, problem: &Problem, cert: &Cert) -> Result<PassNumbers, NoMemory>
+    requires problem { IsProblem problem.now }
+    requires tables { AreTables tables.old }
+    requires nodes { tables.old ≡ tables_of problem.now.tests cert.now }
+    ensures { IfOk result (λ n. (index : IndexParts) → AreIndexed index cert.now.pairs → IsPass (pass_of problem.now cert.now index tables.new n)) }
+{
+    let closed = closed_sides(tables.alloc(), problem, cert.style())?;
+    pass_numbers(tables, problem, cert, &closed)
+}
+
+// Adds for each target its guard and the test that is true where the target accepts.
+fn forbid_targets(
+    forbidden: &mut Vec<(usize, usize)>,
+    targets: &Targets,
+    outputs: &[usize],
+) -> Result<(), NoMemory>
+    requires { (e : ℕ × ℕ) → Has targets.now.entries e → e.0 < length outputs.now }
+    ensures { OnOk result (forbidden.new.items ≡ forbidden.old.items ++ map (forbidden_of outputs.now) targets.now.entries) }
+{
+    for (term, guard) in targets.iter() {
+        forbidden.push((*guard, outputs[*term]))?;
+    }
+    Ok(())
+}
+
+// Adds pairs of tests that are both true for the moves by the action that short hypotheses forbid.
+fn forbid_moves(
+    tables: &mut Tables,
+    steps: &[Targets],
+    shorts: &[usize],
+    action: Option<usize>,
+    forbidden: &mut Vec<(usize, usize)>,
+) -> Result<(), NoMemory>
+    requires steps { AreSteps tables.old action (Has shorts.now) (map (λ t. t.entries) steps.now) }
+    requires numbers { IsTrue (are_below (length steps.now) shorts.now) }
+    ensures added { OnOk result (AddsMoves tables.new (set_leads_to action (terms_of (nodes_in tables.old) shorts.now)) forbidden.old.items forbidden.new.items) }
+    ensures grows { TestsGrow tables.old tables.new }
+{
+    let targets = of_set(tables, steps, shorts, action)?;
+    let outputs = acceptances(tables)?;
+    forbid_targets(forbidden, &targets, &outputs)
+}
+
 impl<'a> Pass<'a> {
     ghost use Rattle.std.specs.Prelude.{◌≡◌, ◌↔◌, ◌<◌, ◌+◌, ℕ, None, IsTrue, IfOk, OnOk, length, map};
     ghost use Rattle.std.specs.Option.{option_map};
@@ -222,9 +303,8 @@ impl<'a> Pass<'a> {
         ensures pass { IfOk result IsPass }
         ensures of { IfOk result (λ p. (p.problem ≡ problem.now) × (p.cert ≡ cert.now)) }
     {
-        let closed = closed_sides(alloc, problem, cert.style())?;
         let mut tables = Tables::of(alloc, cert, problem.tests())?;
-        let parts = pass_numbers(&mut tables, problem, cert, &closed)?;
+        let parts = numbers_of(&mut tables, problem, cert)?;
         Ok(Pass {
             problem,
             cert,
@@ -254,11 +334,13 @@ impl<'a> Pass<'a> {
         forbidden.push((self.parts.forbidden_atoms, always))?;
         if action.is_some() {
             forbidden.push((always, self.parts.forbidden_atoms))?;
-            let targets = of_set(&mut self.tables, steps, &self.parts.shorts, action)?;
-            let outputs = acceptances(&mut self.tables)?;
-            for (term, guard) in targets.iter() {
-                forbidden.push((*guard, outputs[*term]))?;
-            }
+            forbid_moves(
+                &mut self.tables,
+                steps,
+                &self.parts.shorts,
+                action,
+                &mut forbidden,
+            )?;
         }
         Ok(forbidden)
     }
@@ -281,11 +363,8 @@ impl<'a> Pass<'a> {
         let (tables, parts) = (&mut self.tables, &self.parts);
         let steps = steps(tables, &parts.acceptance_tests, &parts.needed_terms, action)?;
         let forbidden = self.forbidden(&steps, action)?;
-        let mut begin = BTreeSet::new(self.tables.alloc());
-        let mut end = BTreeSet::new(self.tables.alloc());
-        begin.extend(forbidden.iter().map(|tests| tests.0))?;
-        end.extend(forbidden.iter().map(|tests| tests.1))?;
-        end.extend(pairs.iter().filter_map(|pair| pair.test))?;
+        let begin = begin_tests(&self.tables, &forbidden)?;
+        let end = end_tests(&self.tables, &forbidden, pairs)?;
         Ok(ActionPass {
             action,
             steps,
@@ -294,8 +373,8 @@ impl<'a> Pass<'a> {
             index: self.index,
             universal,
             forbidden,
-            begin: with_parts(&self.tables, begin)?,
-            end: with_parts(&self.tables, end)?,
+            begin,
+            end,
         })
     }
 

@@ -9,7 +9,6 @@ use std::marker::Model;
 
 /// One pass over the pairs: the condition on each pair, on its outputs or, if there is an action, on the sets that it leads to; with the steps
 /// by the action, and the style, the pairs and the universal term for matching sets. The outputs must be the same.
-#[derive(Drop)]
 pub(crate) struct ActionPass<'a> {
     pub action: Option<usize>,
     pub steps: Vec<Targets>,
@@ -23,6 +22,23 @@ pub(crate) struct ActionPass<'a> {
     pub forbidden: Vec<(usize, usize)>,
     pub begin: Vec<usize>,
     pub end: Vec<usize>,
+}
+
+// Explicit, so that it is proved once and not at each end of each function that owns one.
+impl Drop for ActionPass<'_> {
+    fn drop(self) {
+        let ActionPass {
+            action: _,
+            steps: _steps,
+            style: _,
+            pairs: _,
+            index: _,
+            universal: _,
+            forbidden: _forbidden,
+            begin: _begin,
+            end: _end,
+        } = self;
+    }
 }
 
 impl<'a> Model for ActionPass<'a> {
@@ -39,7 +55,6 @@ impl<'a> Model for ActionPass<'a> {
 /// second atom. For such a move the listed pairs must match the sets that the targets stand for at the first atom. In
 /// the plain style some pair has exactly these sets; in the other styles the pairs whose test is true at the second
 /// atom make them congruent.
-#[derive(Drop)]
 pub(crate) struct Question<'a> {
     pub tables: &'a Tables,
     pub action_pass: &'a ActionPass<'a>,
@@ -48,6 +63,20 @@ pub(crate) struct Question<'a> {
     pub right: Targets,
     /// The tests that the targets and the pair name, with their parts.
     pub asked: Vec<usize>,
+}
+
+// Explicit, so that it is proved once and not at each end of each function that owns one.
+impl Drop for Question<'_> {
+    fn drop(self) {
+        let Question {
+            tables: _,
+            action_pass: _,
+            pair_test: _,
+            left: _left,
+            right: _right,
+            asked: _asked,
+        } = self;
+    }
 }
 
 impl<'a> Model for Question<'a> {

@@ -1,6 +1,6 @@
 //! Saturation of a set of terms by pairs (congruence closure: Bonchi and Pous 2013). Visits only the pairs that the
 //! index lists under reached or wanted terms, and the pairs with an empty set.
-ghost use Rattle.std.specs.Prelude.{◌≡◌, ◌↔◌, ◌⊎◌, ℕ, IsTrue, IfOk, OnOk};
+ghost use Rattle.std.specs.Prelude.{◌≡◌, ◌↔◌, ◌⊎◌, ℕ, [], IsTrue, IfOk, OnOk};
 ghost use Rattle.kat_model.specs.Members.{Has, IsSubset};
 ghost use Rattle.cert_checker.specs.Working.Indices.{places_at, places_under};
 ghost use Rattle.cert_checker.specs.Working.Reaching.{AreReached};
@@ -126,6 +126,31 @@ fn add_round(reached: &mut Reached, counted: &Counted, wanted: &[usize]) -> Resu
     Ok(())
 }
 
+// Adds the terms `from`, and terms that they make reachable, until all wanted terms are reached or no more terms are.
+// Returns whether all wanted terms are reached.
+fn saturate(
+    reached: &mut Reached,
+    counted: &Counted,
+    from: &[usize],
+    wanted: &[usize],
+) -> Result<bool, NoMemory>
+    requires empty { reached.old.keys ≡ [] }
+    requires indexed { IsIndexed counted.now }
+    ensures { IfOk result (λ b. IsTrue b ↔ AreReached (counting_in counted.now) from.now wanted.now) }
+{
+    add_all(reached, from)?;
+    add_under(reached, counted, wanted)?;
+    while !has_all(reached, wanted) {
+        let count = reached.len();
+        add_pairs(reached, counted, None)?;
+        add_round(reached, counted, wanted)?;
+        if reached.len() == count {
+            return Ok(false);
+        }
+    }
+    Ok(true)
+}
+
 /// Whether the pairs that count make each wanted term reachable from `from`. Visits the pairs under the wanted terms
 /// first, because usually one of those suffices. Rounds take only pairs that the index has under reached terms, and
 /// stop when the answer is known; contracts speak of rounds over all pairs.
@@ -137,15 +162,5 @@ pub(crate) fn reaches(counted: &Counted, from: &[usize], wanted: &[usize]) -> Re
         return Ok(true);
     }
     let mut reached = IndexSet::new(counted.alloc);
-    add_all(&mut reached, from)?;
-    add_under(&mut reached, counted, wanted)?;
-    while !has_all(&reached, wanted) {
-        let count = reached.len();
-        add_pairs(&mut reached, counted, None)?;
-        add_round(&mut reached, counted, wanted)?;
-        if reached.len() == count {
-            return Ok(false);
-        }
-    }
-    Ok(true)
+    saturate(&mut reached, counted, from, wanted)
 }

@@ -12,9 +12,13 @@ pub record IndexParts : Type 0 where
   pub apart : List ℕ
   pub under : List (ℕ × List ℕ)
 
+-- the places that the table has for the term
+abbrev pub listed_under : List (ℕ × List ℕ) → ℕ → List ℕ
+listed_under under k = unwrap_or (lookup (is_at (nat_cmp k)) under) []
+
 -- the places under the term
 abbrev pub places_under : IndexParts → ℕ → List ℕ
-places_under x k = unwrap_or (lookup (is_at (nat_cmp k)) x.under) []
+places_under x k = listed_under x.under k
 
 -- the places under the term, or without a term the places of pairs with an empty set
 abbrev pub places_at : IndexParts → Option ℕ → List ℕ

@@ -1,6 +1,6 @@
 -- The first place at which the pairs of a certificate fail. At a pair and an atom, outputs have turn 0, and each action
 -- has its number plus 1.
-use Rattle.std.specs.Prelude.{◌≡◌, ◌↔◌, ◌<◌, ◌≤◌, ◌+◌, ◌⊎◌, ℕ, Bool, IsTrue, false, ◌&&◌, List, [], length, take, drop, slice_get, Option, Some, None}
+use Rattle.std.specs.Prelude.{◌≡◌, ◌↔◌, ◌<◌, ◌≤◌, ◌+◌, ◌⊎◌, ℕ, Bool, IsTrue, false, ◌&&◌, List, [], ◌++◌, map, get_or, length, take, drop, slice_get, Option, Some, None}
 use Rattle.std.specs.Option.{option_map_or}
 use Rattle.kat_model.specs.Trees.{Term}
 use Rattle.kat_model.specs.Problems.{ProblemParts, IsProblem}
@@ -16,7 +16,7 @@ use Rattle.certificate.specs.Certs.{CertParts, IsCert, nodes_of}
 use Rattle.certificate.specs.Accepted.{tested_pair_of, tested_pairs}
 use Rattle.cert_steps.specs.NodeTables.{TableParts, TablesGrow, tables_of, IsTest, HasValues, holds_at}
 use Rattle.cert_steps.specs.Marks.{IsMarked, AreClosed}
-use Rattle.cert_steps.specs.Targets.{AreAcceptances, AreSteps}
+use Rattle.cert_steps.specs.Targets.{AreAcceptances, AreSteps, StandFor}
 use Rattle.cert_checker.specs.declared.pass.Place.{Place}
 use Rattle.cert_checker.specs.declared.pass.PassNumbers.{PassNumbers}
 use Rattle.cert_checker.specs.declared.answer.Reason.{Reason}
@@ -118,6 +118,19 @@ IsAllowed shorts (Some a) atom to = IsAllowedMove shorts atom (record { act = a;
 pub record AreForbidden (t : TableParts) (c : CertParts) (q : ProblemParts) (action : Option ℕ) (forbidden : List (ℕ × ℕ)) : Type 0 where
   pub tests : (f : ℕ × ℕ) → Has forbidden f → IsTest t f.0 × IsTest t f.1
   pub mean : (atom to : Atom) → ((f : ℕ × ℕ) → Has forbidden f → (holds_at t f.0 atom && holds_at t f.1 to) ≡ false) ↔ IsAllowed (counted_short c.style q) action atom to
+
+-- the guard of a target, and the test that is true where the target accepts
+abbrev pub forbidden_of : List ℕ → ℕ × ℕ → ℕ × ℕ
+forbidden_of outputs e = (e.1, get_or outputs e.0 0)
+
+-- a pair of tests was added for each target of the terms that a step leads to
+pub record AddsMoves (t : TableParts) (leads : Atom → List Term) (old new : List (ℕ × ℕ)) : Type 0 where
+  pub entries : List (ℕ × ℕ)
+  pub outputs : List ℕ
+  pub stand : StandFor t entries leads
+  pub accept : AreAcceptances t outputs
+  pub there : (e : ℕ × ℕ) → Has entries e → e.0 < length outputs
+  pub pairs : new ≡ old ++ map (forbidden_of outputs) entries
 
 -- what must hold of each pair, for its outputs or for an action: the targets, and the pairs that match; without an
 -- action, the outputs must be the same

@@ -1,17 +1,15 @@
 use Rattle.std.proofs.Common.{sym, ap, ◌∙◌, subst}
 use Rattle.cert_steps.specs.NodeTables.{ArePrimsBelow, tables_of}
-use Rattle.cert_checker.specs.Working.Roots.{compared}
 use Rattle.cert_checker.proofs.pass.Pass.of.Goals as goal
 
 pub of-requires : goal.of-requires
 of-requires c = subst (λ n. ArePrimsBelow n c.args.cert.now.test_nodes) (sym c.tests.ensures.value) c.requires.tests
 
-pub pass_numbers-requires : goal.pass_numbers-requires
-pass_numbers-requires c = record {
+pub numbers_of-requires : goal.numbers_of-requires
+numbers_of-requires c = record {
   problem = c.tests.ensures.within;
   tables = c.in_ok-tables.ensures.tables;
   nodes = c.in_ok-tables.ensures.nodes ∙ ap (λ k. tables_of k c.args.cert.now) c.tests.ensures.value;
-  closed = c.in_ok-closed.ensures ∙ ap (λ s. compared s c.args.problem.now) c.style.ensures.value;
 }
 
 pub returns-clause-pass : goal.returns-clause-pass

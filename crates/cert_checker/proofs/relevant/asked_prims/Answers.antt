@@ -1,8 +1,4 @@
-use Rattle.std.proofs.Common.{◌≡◌, ◌<◌, ℕ, ⊎_elim, List, length, Option, Some, None, sym, ◌∙◌, subst, rules}
-use borrow.Author.Tests.{tests}
-use Rattle.std.proofs.lemmas.Iterator.{YieldsList-from_slice}
-use Rattle.std.proofs.lemmas.Iterator.Consumers.{YieldsList-from_filter_map}
-use Rattle.std.proofs.lemmas.Iterator.Adapters.{items_from_extend}
+use Rattle.std.proofs.Common.{◌≡◌, ◌<◌, ℕ, ⊎_elim, List, length, Option, Some, None, sym, ◌∙◌, subst}
 use Rattle.kat_model.specs.Members.{Has}
 use Rattle.certificate.specs.declared.nodes.Style.{Style}
 use Rattle.certificate.specs.declared.nodes.Style.TheVariants.{Plain, UpTo, Under}
@@ -10,7 +6,7 @@ use Rattle.certificate.specs.Certs.{HasItsTest}
 use Rattle.certificate.specs.PairParts.{PairParts}
 use Rattle.cert_steps.specs.NodeTables.{TableParts, IsTest}
 use Rattle.cert_checker.proofs.NamedTests.{named_by_pairs}
-use Rattle.cert_checker.proofs.relevant.asked_tests.Goals as goal
+use Rattle.cert_checker.proofs.relevant.asked_prims.Goals as goal
 
 -- the test of a pair is a test node
 test_below : (s : Style) (n : ℕ) (o : Option ℕ) → HasItsTest s n o → (k : ℕ) → o ≡ Some k → k < n
@@ -21,12 +17,9 @@ test_below Under n o h k e = let f : Some h.0 ≡ Some k = sym h.1 ∙ e in let 
 pub with_parts-requires : goal.with_parts-requires
 with_parts-requires c =
     let cert = c.args.cert.now in
-    let prs = c.pairs.result.now in
-    let made = items_from_extend c.extend.result c.extend.ensures.ran (YieldsList-from_filter_map _ (λ (r : PairParts). r.test) (YieldsList-from_slice prs cc) c.filter_map.ensures.closure (λ x r q k. search (rules, tests))) in
-    let named = rw c.in_ok-extend.was at made in
     λ k h.
-    subst (λ (t : TableParts). IsTest t k) (sym c.in_ok-tables.ensures.nodes)
+    subst (λ (t : TableParts). IsTest t k) (sym c.requires)
     (⊎_elim
     (λ was. absurd (subst (λ (l : List ℕ). Has l k) c.new-tests.ensures.empty was))
     (λ m. test_below cert.style (length cert.test_nodes) m.0.test (c.pairs.ensures.rules.pairs m.0 (subst (λ (l : List PairParts). Has l m.0) c.pairs.ensures.value m.1)).test k m.2)
-    (named_by_pairs c.new-tests.result c.extend.new.self prs named k h))
+    (named_by_pairs c.new-tests.result c.add_pair_tests.new.tests c.pairs.result.now c.in_ok-add_pair_tests.ensures k h))

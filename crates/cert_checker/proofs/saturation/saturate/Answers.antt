@@ -3,11 +3,11 @@ use Rattle.std.proofs.lemmas.Bool.{false≢true, iff_false}
 use Rattle.kat_model.specs.Members.{IsSubset}
 use Rattle.cert_checker.specs.Working.Rounds.{counting_in}
 use Rattle.cert_checker.proofs.Saturating.{no_more, stays_longer, goes_then, brought_first, brought_on, there_reached, unreached}
-use Rattle.cert_checker.proofs.saturation.reaches.Goals as goal
+use Rattle.cert_checker.proofs.saturation.saturate.Goals as goal
 
 pub loop-reached-init : goal.loop-reached-init
 loop-reached-init c =
-    brought_first (counting_in c.args.counted.now) c.args.from.now _ c.add_all.new.reached.keys c.add_under.new.reached.keys c.new-reached.ensures.empty c.in_ok-add_all.ensures c.in_ok-add_under.ensures
+    brought_first (counting_in c.args.counted.now) c.args.from.now _ c.add_all.new.reached.keys c.add_under.new.reached.keys c.requires.empty c.in_ok-add_all.ensures c.in_ok-add_under.ensures
 
 pub loop-reached-preserved : goal.loop-reached-preserved
 loop-reached-preserved c =
@@ -37,7 +37,7 @@ returns-then-len-count c =
       (λ reached.
           absurd (⊎_elim
           (λ there. never (λ k h. no_more a d (λ j m e. last.kept j m (first.kept j m e)) same k (there k h)))
-          (λ under. unreached counted.action_pass.now.pairs counted.also_open counted.known.now counted.action_pass.now.index c.requires a b d first.kept last.kept same c.in_ok-add_pairs.ensures.tended under c.args.from.now c.args.wanted.now brought never reached)
+          (λ under. unreached counted.action_pass.now.pairs counted.also_open counted.known.now counted.action_pass.now.index c.requires.indexed a b d first.kept last.kept same c.in_ok-add_pairs.ensures.tended under c.args.from.now c.args.wanted.now brought never reached)
           c.in_ok-add_round.ensures.tended)),
     )
 
