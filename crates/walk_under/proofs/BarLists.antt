@@ -1,8 +1,8 @@
 -- The bars of the moves by an action, collected one move at a time.
-use Rattle.std.proofs.Common.{◌≡◌, ◌+◌, ◌<◌, ◌≤◌, inl, ⊎_elim, ℕ, Bool, true, List, [], ◌∷◌, ◌++◌, length, take, get_or, eqb, slice_get, Some, refl, sym, ap, ◌∙◌, subst, arith}
+use Rattle.std.proofs.Common.{◌≡◌, ◌≢◌, ◌+◌, ◌<◌, ◌≤◌, inl, ⊎_elim, ℕ, Bool, true, false, cond, List, [], ◌∷◌, ◌++◌, length, take, get_or, eqb, slice_get, Some, refl, sym, ap, ◌∙◌, subst, append-nil, arith}
 use Rattle.std.specs.List.{filter, All}
 use Rattle.std.specs.Prelude.{IsPermutation}
-use Rattle.std.proofs.lemmas.Bool.{false≢true, eqb-true, eq-eqb, cases_lt}
+use Rattle.std.proofs.lemmas.Bool.{false≢true, eqb-true, eq-eqb, ne_eqb, cases_lt}
 use Rattle.std.proofs.lemmas.List.{get_or_past, take_all, take-append-le}
 use Rattle.std.proofs.lemmas.List.Sorted.{All-permutation, IsPermutation-sym}
 use Rattle.std.proofs.lemmas.Option.{slice_get_within, slice_get-get_or, get_or_from_slice_get}
@@ -117,6 +117,28 @@ module _ (store : NodeParts) (d : DiagramsParts) (moves : List Guarded) (i : ℕ
     );
     images = λ e h. absurd (subst (λ l. Has l e) none h);
   }
+
+-- ---- the moves by an action
+
+filter-append : {X : Type 0} (p : X → Bool) (xs ys : List X) → filter p (xs ++ ys) ≡ filter p xs ++ filter p ys
+filter-append p [] ys = refl
+filter-append {X} p (x ∷ xs) ys = first (p x) (filter p (xs ++ ys)) (filter p xs) (filter p ys) (filter-append p xs ys)
+  where
+    first : (b : Bool) (all front rest : List X) → all ≡ front ++ rest → cond b (x ∷ all) all ≡ cond b (x ∷ front) front ++ rest
+    first true all front rest e = ap (λ l. x ∷ l) e
+    first false all front rest e = e
+
+module _ (act : ℕ) (moves : List Guarded) (i : ℕ) (m : Guarded) (lt : i < length moves) (is : m ≡ get_or moves i m) (old new : List Guarded) (before : old ≡ filter (λ (g : Guarded). eqb g.act act) (take i moves)) where
+  one_more : (b : Bool) → eqb m.act act ≡ b → filter (λ (g : Guarded). eqb g.act act) (take (i + 1) moves) ≡ old ++ cond b (m ∷ []) []
+  one_more b e =
+      ap (filter (λ (g : Guarded). eqb g.act act)) (take_item moves i m lt is) ∙ filter-append (λ (g : Guarded). eqb g.act act) (take i moves) (m ∷ []) ∙ ap (λ l. l ++ filter (λ (g : Guarded). eqb g.act act) (m ∷ [])) (sym before)
+      ∙ ap (λ c. old ++ cond c (m ∷ []) []) e
+
+  pub move_kept : m.act ≡ act → new ≡ old ++ m ∷ [] → new ≡ filter (λ (g : Guarded). eqb g.act act) (take (i + 1) moves)
+  move_kept same is_new = is_new ∙ sym (one_more true (eq-eqb m.act act same))
+
+  pub move_skipped : m.act ≢ act → new ≡ old → new ≡ filter (λ (g : Guarded). eqb g.act act) (take (i + 1) moves)
+  move_skipped other is_old = is_old ∙ sym (append-nil old) ∙ sym (one_more false (ne_eqb m.act act other))
 
 -- a permutation has the same members
 has_shuffled : (xs ys : List Guarded) → IsPermutation xs ys → (m : Guarded) → Has xs m → Has ys m

@@ -118,6 +118,15 @@ part_of_both c d kept whole a b id is whole_is part = record {
   within = λ atom fits h. kept.values whole whole_is atom ∙ part.within atom (fits ∙ kept.tests) (and_parts (value_of c a atom) (value_of c b atom) (sym (is.value atom fits) ∙ h)).0;
 }
 
+pub part_of_either : (c d e : DiagramsParts) → KeepsFunctions c d → KeepsFunctions d e → (whole a b id : ℕ) → IsDiagramOf e id (λ x. value_of d a x || value_of d b x) → IsDiagramId c whole → IsPartOf c whole a → IsPartOf d whole b → IsPartOf e whole id
+part_of_either c d e first second whole a b id is whole_is one two = record {
+  is_id = is.in_range;
+  within = λ atom fits h.
+      let there = fits ∙ second.tests in
+      second.values whole (first.ids whole whole_is) atom
+      ∙ ⊎_elim (λ x. first.values whole whole_is atom ∙ one.within atom (there ∙ first.tests) (sym (first.values a one.is_id atom) ∙ x)) (λ y. two.within atom there y) (or_cases (value_of d a atom) (value_of d b atom) (sym (is.value atom fits) ∙ h));
+}
+
 -- ---- one pair
 
 -- each side is marked at the atoms at which the closure contains the other

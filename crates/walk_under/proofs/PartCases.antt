@@ -14,7 +14,7 @@ use Rattle.test_diagrams.specs.Functions.{DiagramsParts, value_of, IsDiagramId, 
 use Rattle.test_diagrams.specs.Reduced.{IsReduced}
 use Rattle.test_diagrams.proofs.Apart.{different_apart}
 use Rattle.walk_pairs.specs.Items.{guard_of, chosen}
-use Rattle.walk_pairs.specs.Outputs.{IsSomewhereTrue}
+use Rattle.walk_pairs.specs.Outputs.{one_of, IsSomewhereTrue}
 use Rattle.walk_pairs.specs.declared.items.Item.{Item}
 use Rattle.walk_pairs.specs.declared.items.Side.{Side}
 use Rattle.walk_pairs.specs.declared.items.Side.TheVariants.{Left, Right}
@@ -241,28 +241,20 @@ tells_right c d kept old never id i none e is = record {
 
 -- ---- items whose guards differ
 
-pub tells_apart : (c₀ c₁ c₂ c₃ c₄ : DiagramsParts) → KeepsFunctions c₀ c₁ → KeepsFunctions c₁ c₂ → KeepsFunctions c₂ c₃ → KeepsFunctions c₃ c₄ → (old only_left only_right apart id : ℕ) (i : Item) → IsDiagramId c₀ old → IsDiagramId c₀ i.left → IsDiagramId c₀ i.right
-    → IsDiagramOf c₁ only_left (λ a. value_of c₀ i.left a && not (value_of c₀ i.right a)) → IsDiagramOf c₂ only_right (λ a. value_of c₁ i.right a && not (value_of c₁ i.left a))
-    → IsDiagramOf c₃ apart (λ a. value_of c₂ only_left a || value_of c₂ only_right a) → IsDiagramOf c₄ id (λ a. value_of c₃ old a || value_of c₃ apart a) → TellsApart c₀ c₄ old i id
-tells_apart c₀ c₁ c₂ c₃ c₄ k₀ k₁ k₂ k₃ old only_left only_right apart id i old_is l_is r_is lefts rights both all = record {
+pub tells_apart : (c d e : DiagramsParts) → KeepsFunctions c d → KeepsFunctions d e → (old apart id : ℕ) (i : Item) → IsDiagramId c old → IsDiagramOf d apart (λ a. one_of (value_of c i.left a) (value_of c i.right a)) → IsDiagramOf e id (λ a. value_of d old a || value_of d apart a) → TellsApart c e old i id
+tells_apart c d e k l old apart id i old_is one all = record {
   is_id = all.in_range;
-  was = λ atom fits h. false_from_ne_true (value_of c₀ old atom) (λ t. both_ways (value_of c₄ id atom) h (all.value atom fits ∙ or_left (value_of c₃ old atom) (value_of c₃ apart atom) (k₂.values old (k₁.ids old (k₀.ids old old_is)) atom ∙ k₁.values old (k₀.ids old old_is) atom ∙ k₀.values old old_is atom ∙ t)));
+  was = λ atom fits h. false_from_ne_true (value_of c old atom) (λ t. both_ways (value_of e id atom) h (all.value atom fits ∙ or_left (value_of d old atom) (value_of d apart atom) (k.values old old_is atom ∙ t)));
   alike = λ atom fits h.
-      let f₃ = fits ∙ k₃.tests in
-      let f₂ = f₃ ∙ k₂.tests in
-      let f₁ = f₂ ∙ k₁.tests in
-      let none : IsFalse (value_of c₃ apart atom) = false_from_ne_true (value_of c₃ apart atom) (λ t. both_ways (value_of c₄ id atom) h (all.value atom fits ∙ or_right (value_of c₃ old atom) (value_of c₃ apart atom) t)) in
-      same_values (value_of c₀ i.left atom) (value_of c₀ i.right atom)
-      (λ t. both_ways (value_of c₃ apart atom) none (both.value atom f₃ ∙ or_left (value_of c₂ only_left atom) (value_of c₂ only_right atom) (k₁.values only_left lefts.in_range atom ∙ lefts.value atom f₁ ∙ t)))
-      (λ t. both_ways (value_of c₃ apart atom) none (both.value atom f₃ ∙ or_right (value_of c₂ only_left atom) (value_of c₂ only_right atom)
-      (rights.value atom f₂ ∙ ap (λ b. b && not (value_of c₁ i.left atom)) (k₀.values i.right r_is atom) ∙ ap (λ b. value_of c₀ i.right atom && not b) (k₀.values i.left l_is atom) ∙ t)));
+      let none : IsFalse (value_of d apart atom) = false_from_ne_true (value_of d apart atom) (λ t. both_ways (value_of e id atom) h (all.value atom fits ∙ or_right (value_of d old atom) (value_of d apart atom) t)) in
+      same_values (value_of c i.left atom) (value_of c i.right atom) (sym (one.value atom (fits ∙ l.tests)) ∙ none);
 }
   where
-    same_values : (a b : Bool) → ((a && not b) ≡ true → ⊥) → ((b && not a) ≡ true → ⊥) → a ≡ b
-    same_values true true f g = refl
-    same_values true false f g = absurd (f refl)
-    same_values false true f g = absurd (g refl)
-    same_values false false f g = refl
+    same_values : (a b : Bool) → one_of a b ≡ false → a ≡ b
+    same_values true true e = refl
+    same_values true false e = absurd (true≢false e)
+    same_values false true e = absurd (true≢false e)
+    same_values false false e = refl
 
 pub alike_chosen : (d : DiagramsParts) (is : List Item) (atom : Atom) → ((i : Item) → Has is i → value_of d i.left atom ≡ value_of d i.right atom) → chosen d Left is atom ≡ chosen d Right is atom
 alike_chosen d [] atom same = refl

@@ -18,10 +18,19 @@ use test_diagrams::{DiagramId, Diagrams};
 use walk_pairs::true_atom;
 
 /// The allowed atoms, and for each action the bars that block moves.
-#[derive(Drop)]
 pub(crate) struct AllowedMoves {
     allowed: DiagramId,
     actions: Vec<Bars>,
+}
+
+// Explicit, so that it is proved once and not at each end of each function that owns one.
+impl Drop for AllowedMoves {
+    fn drop(self) {
+        let AllowedMoves {
+            allowed: _,
+            actions: _actions,
+        } = self;
+    }
 }
 
 impl AllowedMoves {

@@ -11,7 +11,6 @@ use test_diagrams::{DiagramId, Diagrams};
 use walk_pairs::and_not;
 
 /// A bar: no move leads from an atom of `from` to an atom of `to`.
-#[derive(Drop)]
 pub(crate) struct Bar {
     pub from: DiagramId,
     pub to: DiagramId,
@@ -19,19 +18,40 @@ pub(crate) struct Bar {
     pub fresh: Vec<usize>,
 }
 
+// Explicit, so that it is proved once and not at each end of each function that owns one.
+impl Drop for Bar {
+    fn drop(self) {
+        let Bar {
+            from: _,
+            to: _,
+            fresh: _fresh,
+        } = self;
+    }
+}
+
 // A region, and the number of bars that apply.
-#[derive(Clone, Copy, Debug, PartialEq, Eq, Hash)]
+#[derive(Clone, Copy, PartialEq, Eq, Hash)]
 struct ImageKey {
     region: DiagramId,
     count: usize,
 }
 
 /// The bars of an action, the tests on which no bar depends, and a table of computed images.
-#[derive(Drop)]
 pub(crate) struct Bars {
     bars: Vec<Bar>,
     unasked: Vec<usize>,
     images: IndexMap<ImageKey, DiagramId>,
+}
+
+// Explicit, so that it is proved once and not at each end of each function that owns one.
+impl Drop for Bars {
+    fn drop(self) {
+        let Bars {
+            bars: _bars,
+            unasked: _unasked,
+            images: _images,
+        } = self;
+    }
 }
 
 // Returns the diagram that is true at an atom if `whole` is true there or after some of `tests` are set to new values.
@@ -71,7 +91,7 @@ fn atoms_past(
 }
 
 // The parts of a region: the atoms at which a bar starts, and those at which it does not.
-#[derive(Clone, Copy, Debug)]
+#[derive(Clone, Copy)]
 struct RegionParts {
     inside: DiagramId,
     outside: DiagramId,

@@ -1,5 +1,5 @@
 //! Decides a problem by walks under tests that count more and more of its short hypotheses.
-ghost use Rattle.std.specs.Prelude.{◌≡◌, ◌↔◌, ◌<◌, ℕ, List, [], true, false, length, slice_index_or, IfOk, OnOk, MatchOption, IsTrue};
+ghost use Rattle.std.specs.Prelude.{◌≡◌, ◌↔◌, ◌<◌, ℕ, List, [], true, false, length, slice_index_or, IfOk, OnOk, MatchOption, IsTrue, IsFalse};
 ghost use Rattle.kat_model.specs.Members.{Has};
 ghost use Rattle.kat_model.specs.Trees.{Term};
 ghost use Rattle.kat_model.specs.Problems.{IsProblem};
@@ -121,6 +121,42 @@ fn is_answer(
     refutes(alloc, problem, string)
 }
 
+// Judges a string that breaks the hypotheses at the places `rest`, which do not count, and that was made of `found`,
+// which breaks those at `broken`. Returns whether it refutes the problem; otherwise makes more hypotheses count.
+fn judge_smoothed(
+    alloc: Global,
+    problem: &Problem,
+    hyps: &[ShortHyp],
+    counts: &mut [bool],
+    found: &GString,
+    broken: &[usize],
+    string: &GString,
+    rest: &[usize],
+) -> Result<bool, NoMemory>
+    requires flags { length counts.old ≡ length hyps.now }
+    requires hyps { (store : NodeParts) × AreShortHyps problem.now store hyps.now }
+    requires found { IsFoundUnder problem.now hyps.now counts.old found.now }
+    requires some { 0 < length broken.now }
+    requires broken { (i : ℕ) → Has broken.now i → (i < length counts.old) × (slice_index_or counts.old i true ≡ false) }
+    requires rest { (i : ℕ) → Has rest.now i → (i < length counts.old) × (slice_index_or counts.old i true ≡ false) }
+    ensures shown { IfOk result (λ shown. IsTrue shown → IsShortest problem.now string.now) }
+    ensures fewer { IfOk result (λ shown. IsFalse shown → uncounted counts.new < uncounted counts.old) }
+    ensures counting { StillCount counts.old counts.new }
+    ensures flags { length counts.new ≡ length counts.old }
+{
+    let breaks = has_some(rest);
+    if breaks {
+        count_next(alloc, hyps, counts, rest)?;
+        return Ok(false);
+    }
+    let shown = is_answer(alloc, problem, string, found)?;
+    if shown {
+        return Ok(true);
+    }
+    count_next(alloc, hyps, counts, broken)?;
+    Ok(false)
+}
+
 // Judges a string that breaks hypotheses which do not count. Returns a string of as many moves that refutes the problem,
 // if one along the same regions is found; otherwise makes more hypotheses count. The walk is given up then: its later
 // differences are no answers, since the pair of the first may also be reached along allowed moves.
@@ -148,16 +184,11 @@ fn judge(
     let string = smoothed(alloc, diagrams, hyps, counts, found, last)?;
     let rest = broken_by(alloc, hyps, counts, &string)?;
     let places = rest.as_slice();
-    let breaks = has_some(places);
-    if breaks {
-        count_next(alloc, hyps, counts, places)?;
-        return Ok(None);
-    }
-    let shown = is_answer(alloc, problem, &string, &found.string)?;
+    let whole = &found.string;
+    let shown = judge_smoothed(alloc, problem, hyps, counts, whole, broken, &string, places)?;
     if shown {
         return Ok(Some(string));
     }
-    count_next(alloc, hyps, counts, broken)?;
     Ok(None)
 }
 
@@ -188,7 +219,7 @@ fn string_of(
     let places = broken.as_slice();
     let breaks = has_some(places);
     if !breaks {
-        return Ok(Some(string.string));
+        return Ok(Some(string.into_string()));
     }
     let diagrams = walk.diagrams();
     judge(
@@ -244,7 +275,34 @@ fn turn(
 }
 
 // Runs walks that count more and more short hypotheses, until one finds no difference or finds a string that refutes
-// the problem. Each walk has the diagrams and the derivatives of those before it.
+// the problem, which is returned. Each walk has the diagrams and the derivatives of those before it.
+fn string_found(
+    alloc: Global,
+    store: &mut Store,
+    problem: &Problem,
+    walk: &mut TestedWorklist,
+    sides: &ClosedIds,
+    hyps: &[ShortHyp],
+    counts: &mut [bool],
+) -> Result<Option<GString>, NoMemory>
+    requires within { IsProblem problem.now }
+    requires flags { length counts.old ≡ length hyps.now }
+    requires hyps { AreShortHyps problem.now store.old hyps.now }
+    requires sides { AreClosedIds (with_hyps problem.now (long_hyps problem.now)) store.old sides.now }
+    requires walk { MayBegin problem.now store.old walk.old }
+    ensures answer { IfOk result (λ answer. MatchOption answer (HasEnded problem.now store.new walk.new) (IsShortest problem.now)) }
+    ensures kept { Grows store.old store.new }
+{
+    'walks: loop {
+        match turn(alloc, store, problem, walk, sides, hyps, counts)? {
+            TurnEnd::Alike => return Ok(None),
+            TurnEnd::Refuted(string) => return Ok(Some(string)),
+            TurnEnd::Again => {}
+        }
+    }
+}
+
+// Returns how the walks of the problem end.
 fn outcome_of(alloc: Global, store: &mut Store, problem: &Problem) -> Result<Outcome, NoMemory>
     ensures within { IfOk result (λ outcome. IsProblem problem.now) }
     ensures outcome { IfOk result (IsOutcome problem.now store.new) }
@@ -259,12 +317,10 @@ fn outcome_of(alloc: Global, store: &mut Store, problem: &Problem) -> Result<Out
     let mut flags = first_counts(alloc, hyps)?;
     let counts = flags.as_mut_slice();
     let mut walk = TestedWorklist::new(alloc, tests)?;
-    'walks: loop {
-        match turn(alloc, store, problem, &mut walk, &sides, hyps, counts)? {
-            TurnEnd::Alike => return Ok(Outcome::Alike(walk)),
-            TurnEnd::Refuted(string) => return Ok(Outcome::Refuted(string)),
-            TurnEnd::Again => {}
-        }
+    let found = string_found(alloc, store, problem, &mut walk, &sides, hyps, counts)?;
+    match found {
+        Some(string) => Ok(Outcome::Refuted(string)),
+        None => Ok(Outcome::Alike(walk)),
     }
 }
 

@@ -8,7 +8,7 @@ use term_store::TermId;
 use test_diagrams::DiagramId;
 
 /// A step from a listed pair: the place of the pair, the action, and the atoms from which the action leads to the sets.
-#[derive(Clone, Copy, Debug)]
+#[derive(Clone, Copy)]
 pub(crate) struct StepOrigin {
     pub place: usize,
     pub act: usize,
@@ -17,13 +17,25 @@ pub(crate) struct StepOrigin {
 
 /// A pair of sets of terms, the atoms at which it was reached, the number of moves that lead to it, and the last step
 /// to it. The ids of each set are in ascending order. The first pair of a walk has no origin.
-#[derive(Drop)]
 pub(crate) struct Entry {
     pub left: Items<TermId>,
     pub right: Items<TermId>,
     pub test: DiagramId,
     pub level: usize,
     pub origin: Option<StepOrigin>,
+}
+
+// Explicit, so that it is proved once and not at each end of each function that owns one.
+impl Drop for Entry {
+    fn drop(self) {
+        let Entry {
+            left: _left,
+            right: _right,
+            test: _,
+            level: _,
+            origin: _,
+        } = self;
+    }
 }
 
 impl Model for Entry {

@@ -54,11 +54,21 @@ impl PlaceList {
 }
 
 /// The pairs in order, for each key the places of pairs with that key, and for each term whether it is in a pair.
-#[derive(Drop)]
 pub(crate) struct EntryList {
     entries: Vec<Entry>,
     lists: Vec<PlaceList>,
     members: Vec<bool>,
+}
+
+// Explicit, so that it is proved once and not at each end of each function that owns one.
+impl Drop for EntryList {
+    fn drop(self) {
+        let EntryList {
+            entries: _entries,
+            lists: _lists,
+            members: _members,
+        } = self;
+    }
 }
 
 impl Model for EntryList {
@@ -147,6 +157,25 @@ fn note_all(flags: &mut Vec<bool>, terms: &[TermId]) -> Result<(), NoMemory> {
     Ok(())
 }
 
+// Files the place of the pair under the key of its sets, and sets the flags of its terms.
+fn file_entry(
+    alloc: Global,
+    lists: &mut Vec<PlaceList>,
+    members: &mut Vec<bool>,
+    place: usize,
+    entry: &Entry,
+) -> Result<(), NoMemory>
+    ensures added { OnOk result (Has (slice_index_or lists.new.items (key_of' entry.now.left entry.now.right) []) place) }
+    ensures kept { KeepsLists lists.old.items lists.new.items }
+{
+    let left = entry.left.as_slice();
+    let right = entry.right.as_slice();
+    note_all(members, left)?;
+    note_all(members, right)?;
+    let key = key_of(left, right);
+    file(alloc, lists, key, place)
+}
+
 impl EntryList {
     /// Returns an empty list. It allocates no memory.
     pub(crate) fn new(alloc: Global) -> EntryList
@@ -184,18 +213,18 @@ impl EntryList {
 
     /// Whether the term is in a pair. Affects only speed.
     pub(crate) fn has_member(&self, term: TermId) -> bool {
-        self.members.get(term.number()).copied().unwrap_or(false)
+        match self.members.get(term.number()) {
+            Some(flag) => *flag,
+            None => false,
+        }
     }
 
     /// Appends the pair.
     pub(crate) fn push(&mut self, alloc: Global, entry: Entry) -> Result<(), NoMemory>
         ensures items { OnOk result (self.new.items ≡ self.old.items ++ entry ∷ []) }
     {
-        let key = key_of(entry.left.as_slice(), entry.right.as_slice());
         let place = self.entries.len();
-        note_all(&mut self.members, entry.left.as_slice())?;
-        note_all(&mut self.members, entry.right.as_slice())?;
-        file(alloc, &mut self.lists, key, place)?;
+        file_entry(alloc, &mut self.lists, &mut self.members, place, &entry)?;
         self.entries.push(entry)?;
         Ok(())
     }

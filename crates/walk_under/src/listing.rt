@@ -4,7 +4,7 @@ ghost use Rattle.kat_model.specs.Members.{Has};
 ghost use Rattle.test_diagrams.specs.Functions.{value_of, IsDiagramId, IsAtomOf, KeepsFunctions};
 ghost use Rattle.walk_under.specs.Working.Entries.{EntryParts};
 ghost use Rattle.walk_under.specs.Working.Filing.{AreAlike, AddsAlike};
-ghost use Rattle.walk_under.specs.Working.Reaching.{IsPartOf, IsReachedAt, IsOpenPart};
+ghost use Rattle.walk_under.specs.Working.Reaching.{AreMarks, IsPartOf, IsReachedAt, IsOpenPart};
 ghost use Rattle.walk_under.specs.Working.Listings.{IsWithoutPair, IsFreshPart, IsWith, AreLevelAtoms, IsLevelAtom, IsPlaceWith};
 
 use crate::entry::Entry;
@@ -18,11 +18,21 @@ use walk_pairs::and_not;
 
 /// The pairs that a walk has listed, the id of the universal term if the store has it, and the number of ids in the
 /// store; the ids of the pairs are below it.
-#[derive(Drop)]
 pub(crate) struct Listing {
     pub entries: EntryList,
     pub universal: Option<TermId>,
     pub count: usize,
+}
+
+// Explicit, so that it is proved once and not at each end of each function that owns one.
+impl Drop for Listing {
+    fn drop(self) {
+        let Listing {
+            entries: _entries,
+            universal: _,
+            count: _,
+        } = self;
+    }
 }
 
 /// Terms that the two next sets surely contain, and those that each may contain in addition to the terms of the other.
@@ -284,12 +294,17 @@ pub(crate) fn place_with(
 impl Listing {
     // Whether the term is in the set or in a pair.
     fn is_known(&self, set: &[TermId], term: TermId) -> bool {
-        self.entries.has_member(term) || set.iter().any(|id| *id == term)
+        self.entries.has_member(term) || set.contains(&term)
     }
 
     // Whether all of the terms are in the set or in pairs.
     fn are_known(&self, set: &[TermId], terms: &[TermId]) -> bool {
-        terms.iter().all(|term| self.is_known(set, *term))
+        for term in terms {
+            if !self.is_known(set, *term) {
+                return false;
+            }
+        }
+        true
     }
 
     // Whether the closure of `set` under the pairs may contain the targets or the universal term.
@@ -303,6 +318,28 @@ impl Listing {
     // Whether the pairs may join the sides at some atom. Affects only speed: where they cannot, no term is marked.
     fn may_join(&self, sides: &TargetSets<'_>) -> bool {
         self.may_reach(sides.right, sides.open_left) && self.may_reach(sides.left, sides.open_right)
+    }
+
+    // Returns atoms of `within` at which the closure of `set` under the pairs contains the targets or the universal
+    // term, with the marks of the terms.
+    fn reached_with(
+        &self,
+        diagrams: &mut Diagrams,
+        marks: &mut [DiagramId],
+        set: &[TermId],
+        targets: &[TermId],
+        within: DiagramId,
+    ) -> Result<DiagramId, NoMemory>
+        requires tests { (e : EntryParts) → Has self.now.entries.items e → IsDiagramId diagrams.old e.test }
+        requires marks { (id : ℕ) → Has marks.old id → IsDiagramId diagrams.old id }
+        requires within { IsDiagramId diagrams.old within }
+        ensures part { IfOk result (IsPartOf diagrams.new within) }
+        ensures reached { IfOk result (λ id. AreMarks diagrams.old self.now.entries.items set.now marks.old → IsReachedAt diagrams.new self.now.entries.items self.now.universal set.now targets.now id) }
+        ensures kept { KeepsFunctions diagrams.old diagrams.new }
+    {
+        mark_all(diagrams, marks, set, within)?;
+        saturate(diagrams, marks, self.entries.as_slice())?;
+        reached_at(diagrams, marks, self.universal, targets, within)
     }
 
     // Returns atoms of `within` at which the closure of `set` under the pairs contains the targets or the universal
@@ -328,11 +365,8 @@ impl Listing {
         if targets.is_empty() {
             return Ok(within);
         }
-        let mut list = vec![in alloc; never; self.count]?;
-        let marks = list.as_mut_slice();
-        mark_all(diagrams, marks, set, within)?;
-        saturate(diagrams, marks, self.entries.as_slice())?;
-        reached_at(diagrams, marks, self.universal, targets, within)
+        let mut marks = vec![in alloc; never; self.count]?;
+        self.reached_with(diagrams, marks.as_mut_slice(), set, targets, within)
     }
 
     /// Returns the atoms of `within` at which the closure of one side's sure terms under the pairs lacks open terms of

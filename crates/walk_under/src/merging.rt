@@ -1,5 +1,5 @@
 //! Merges the listed pairs with the same sets.
-ghost use Rattle.std.specs.Prelude.{◌≡◌, ◌↔◌, ◌++◌, ◌∷◌, [], ℕ, List, IfOk, OnOk, IsTrue};
+ghost use Rattle.std.specs.Prelude.{◌≡◌, ◌↔◌, ◌++◌, ◌∷◌, [], ℕ, List, Some, IfOk, OnOk, IsTrue};
 ghost use Rattle.kat_model.specs.Members.{Has};
 ghost use Rattle.term_nodes.specs.Growth.{Grows};
 ghost use Rattle.test_diagrams.specs.Functions.{DiagramsParts, IsDiagramId, KeepsFunctions};
@@ -13,7 +13,7 @@ use crate::listing::{alike_entries, has_sets};
 use crate::test_table::TestTable;
 use kat_model::{Items, NoMemory};
 use std::alloc::Global;
-use term_store::{Store, TermId};
+use term_store::{Store, TermId, TestId};
 use test_diagrams::{DiagramId, Diagrams};
 use walk_pairs::StoredPair;
 
@@ -99,6 +99,19 @@ fn has_earlier(entries: &EntryList, own: usize, entry: &Entry) -> bool
     false
 }
 
+// Returns the pair of the sets of `entry`, at the atoms of the test.
+fn stored_pair(alloc: Global, entry: &Entry, test: TestId) -> Result<StoredPair, NoMemory>
+    ensures { IfOk result (λ p. (p.left ≡ entry.now.left) × (p.right ≡ entry.now.right) × (p.test ≡ Some test)) }
+{
+    let left = Vec::from_slice(alloc, entry.left.as_slice())?;
+    let right = Vec::from_slice(alloc, entry.right.as_slice())?;
+    Ok(StoredPair {
+        left: Items::of(left),
+        right: Items::of(right),
+        test: Some(test),
+    })
+}
+
 // Returns the pair of the sets of `entry`, at all atoms at which some entry has them.
 fn merged_pair(
     alloc: Global,
@@ -121,11 +134,7 @@ fn merged_pair(
     let right = entry.right.as_slice();
     let atoms = all_atoms_of(alloc, diagrams, entries, left, right)?;
     let test = table.test_of(store, diagrams, atoms)?;
-    Ok(StoredPair {
-        left: Items::of(Vec::from_slice(alloc, left)?),
-        right: Items::of(Vec::from_slice(alloc, right)?),
-        test: Some(test),
-    })
+    stored_pair(alloc, entry, test)
 }
 
 /// Returns the pairs of the entries, each once, at all atoms at which it was reached. Fails only when out of memory; on

@@ -15,15 +15,25 @@ use kat_model::NoMemory;
 use std::alloc::Global;
 use term_store::TermId;
 use test_diagrams::{DiagramId, Diagrams};
-use walk_pairs::{Item, and_not};
+use walk_pairs::{Item, and_not, difference};
 
 /// Some atoms, and the terms to which an action leads from each of them, on the left and on the right. The terms are in
 /// ascending order.
-#[derive(Drop)]
 pub(crate) struct Part {
     pub region: DiagramId,
     pub left: Vec<TermId>,
     pub right: Vec<TermId>,
+}
+
+// Explicit, so that it is proved once and not at each end of each function that owns one.
+impl Drop for Part {
+    fn drop(self) {
+        let Part {
+            region: _,
+            left: _left,
+            right: _right,
+        } = self;
+    }
 }
 
 // Returns the atoms of `region` at which `guard` has the value `value`.
@@ -64,6 +74,27 @@ fn with_target(
     Ok(list)
 }
 
+// Returns the part at the atoms of `region`, with the terms of `part` and the target of the item on the sides where it is
+// wanted.
+fn part_at(
+    alloc: Global,
+    part: &Part,
+    item: &Item,
+    region: DiagramId,
+    left: bool,
+    right: bool,
+) -> Result<Part, NoMemory>
+    ensures { IfOk result (λ p. (p.region ≡ region) × (p.left.items ≡ with_if left part.now.left.items item.now.target) × (p.right.items ≡ with_if right part.now.right.items item.now.target)) }
+{
+    let left = with_target(alloc, &part.left, item.target, left)?;
+    let right = with_target(alloc, &part.right, item.target, right)?;
+    Ok(Part {
+        region,
+        left,
+        right,
+    })
+}
+
 // Returns the part of `part` at which the guards of the item have these values. An empty part gets no terms: most cases
 // are empty, and copies of their terms were a tenth of a walk.
 fn part_where(
@@ -93,11 +124,7 @@ fn part_where(
             right: no_right,
         });
     }
-    Ok(Part {
-        region,
-        left: with_target(alloc, &part.left, item.target, left)?,
-        right: with_target(alloc, &part.right, item.target, right)?,
-    })
+    part_at(alloc, part, item, region, left, right)
 }
 
 // Appends the part of `part` at which the guards of the item have these values, unless it is empty.
@@ -261,9 +288,7 @@ fn with_difference(
     if item.left == diagrams.constant(false) {
         return diagrams.or(id, item.right);
     }
-    let only_left = and_not(diagrams, item.left, item.right)?;
-    let only_right = and_not(diagrams, item.right, item.left)?;
-    let apart = diagrams.or(only_left, only_right)?;
+    let apart = difference(diagrams, item.left, item.right)?;
     diagrams.or(id, apart)
 }
 

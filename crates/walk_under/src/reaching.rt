@@ -59,13 +59,23 @@ pub(crate) fn mark_all(
     Ok(grew)
 }
 
+// Whether the term has the mark `never`.
+fn is_unmarked(marks: &[DiagramId], term: TermId, never: DiagramId) -> bool {
+    match marks.get(term.number()) {
+        Some(mark) => *mark == never,
+        None => false,
+    }
+}
+
 // Whether some term is marked at no atom. Affects only speed. Checks the last terms first, because sets that are listed
 // one after the other often have a common prefix.
 fn has_unmarked(marks: &[DiagramId], terms: &[TermId], never: DiagramId) -> bool {
-    terms
-        .iter()
-        .rev()
-        .any(|term| marks.get(term.number()).copied() == Some(never))
+    for term in terms.iter().rev() {
+        if is_unmarked(marks, *term, never) {
+            return true;
+        }
+    }
+    false
 }
 
 // Returns the atoms of `within` at which all of the terms are marked. A set with a term that is marked at no atom is
@@ -115,7 +125,7 @@ fn add_pair(
     let grew_right = mark_all(diagrams, marks, right, with_left)?;
     let with_right = marked_at(diagrams, marks, right, entry.test)?;
     let grew_left = mark_all(diagrams, marks, left, with_right)?;
-    Ok(grew_left || grew_right)
+    Ok(grew_left | grew_right)
 }
 
 // Applies each pair once. Returns whether a mark grew.

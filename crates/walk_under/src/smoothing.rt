@@ -22,9 +22,17 @@ struct Site<'a> {
     after: Option<&'a Move>,
 }
 
+// Whether there is a flag at the place and it is set.
+fn is_flagged(flags: &[bool], place: usize) -> bool {
+    match flags.get(place) {
+        Some(flag) => *flag,
+        None => false,
+    }
+}
+
 // Whether the action occurs in the hypothesis.
 fn has_act(hyp: &ShortHyp, act: usize) -> bool {
-    hyp.acts.get(act).copied().unwrap_or(false)
+    is_flagged(&hyp.acts, act)
 }
 
 // Whether the hypothesis accepts the atom, or the move to it.
@@ -48,7 +56,7 @@ fn is_broken_after(hyp: &ShortHyp, site: &Site<'_>, atom: &[bool]) -> bool {
 
 // Whether the hypothesis can accept the atom of the site or a move beside it: it has no action, or one of theirs.
 fn is_near(hyp: &ShortHyp, site: &Site<'_>) -> bool {
-    let has_no_act = !hyp.acts.iter().any(|flag| *flag);
+    let has_no_act = !hyp.acts.contains(&true);
     if has_no_act || (site.before.is_some() && has_act(hyp, site.act)) {
         return true;
     }
@@ -71,7 +79,7 @@ fn near_places(alloc: Global, hyps: &[ShortHyp], site: &Site<'_>) -> Result<Vec<
 
 // Whether the test occurs in the hypothesis.
 fn has_test(hyp: &ShortHyp, test: usize) -> bool {
-    hyp.tests.get(test).copied().unwrap_or(false)
+    is_flagged(&hyp.tests, test)
 }
 
 // Whether the test occurs in the hypothesis at the place, which counts and is broken at the atom or on a move beside it.
@@ -86,7 +94,7 @@ fn blocks(
     let Some(hyp) = hyps.get(place) else {
         return false;
     };
-    if !has_test(hyp, test) || !counts.get(place).copied().unwrap_or(false) {
+    if !has_test(hyp, test) || !is_flagged(counts, place) {
         return false;
     }
     is_broken_at(hyp, site, atom) || is_broken_after(hyp, site, atom)
@@ -169,7 +177,7 @@ fn change_tests(
 {
     let mut changed = false;
     for test in 0..atom.len() {
-        if tests.get(test).copied().unwrap_or(false) {
+        if is_flagged(tests, test) {
             let before = broken_count(hyps, near, test, site, atom);
             atom[test] = !atom[test];
             let after = broken_count(hyps, near, test, site, atom);
@@ -220,6 +228,14 @@ fn region_at(regions: &[DiagramId], last: DiagramId, moves: usize, place: usize)
     last
 }
 
+// Returns the last atom of a string that begins with `first` and goes on with the moves.
+fn last_atom<'a>(first: &'a [bool], moves: &'a [Move]) -> &'a [bool] {
+    match moves.last() {
+        Some(m) => m.atom.as_slice(),
+        None => first,
+    }
+}
+
 /// Returns a string along the regions of `found`, with the same actions, that breaks fewer hypotheses. At the end it
 /// stays among the atoms of `last`.
 pub(crate) fn smoothed(
@@ -242,27 +258,25 @@ pub(crate) fn smoothed(
         act: 0,
         after: rest.first(),
     };
-    let first = found.string.first.as_slice();
-    let mut atom = better_atom(alloc, diagrams, hyps, counts, &site, first)?;
-    let start = Vec::from_slice(alloc, &atom)?;
+    let start = found.string.first.as_slice();
+    let first = better_atom(alloc, diagrams, hyps, counts, &site, start)?;
     let mut moves = Vec::new(alloc);
     for (place, m) in rest.iter().enumerate() {
         let region = region_at(regions, last, rest.len(), place + 1);
         let site = Site {
             region,
-            before: Some(atom.as_slice()),
+            before: Some(last_atom(&first, &moves)),
             act: m.act,
             after: rest.get(place + 1),
         };
         let next = better_atom(alloc, diagrams, hyps, counts, &site, m.atom.as_slice())?;
         moves.push(Move {
             act: m.act,
-            atom: Items::of(Vec::from_slice(alloc, &next)?),
+            atom: Items::of(next),
         })?;
-        atom = next;
     }
     Ok(GString {
-        first: Items::of(start),
+        first: Items::of(first),
         rest: Items::of(moves),
     })
 }

@@ -139,9 +139,15 @@ fn choice(store: &mut Store, test: usize, low: TestId, high: TestId) -> Result<T
 }
 
 /// A table of diagrams and the tests of a store that represent them.
-#[derive(Drop)]
 pub(crate) struct TestTable {
     tests: IndexMap<DiagramId, TestId>,
+}
+
+// Explicit, so that it is proved once and not at each end of each function that owns one.
+impl Drop for TestTable {
+    fn drop(self) {
+        let TestTable { tests: _tests } = self;
+    }
 }
 
 impl TestTable {

@@ -35,7 +35,6 @@ use walk_pairs::{
 };
 
 /// The state of a walk: the listed pairs, the allowed moves, and the derivatives of terms with their diagrams.
-#[derive(Drop)]
 pub(crate) struct TestedWorklist {
     listing: Listing,
     moves: AllowedMoves,
@@ -43,8 +42,20 @@ pub(crate) struct TestedWorklist {
     derivatives: Derivatives,
 }
 
+// Explicit, so that it is proved once and not at each end of each function that owns one.
+impl Drop for TestedWorklist {
+    fn drop(self) {
+        let TestedWorklist {
+            listing: _listing,
+            moves: _moves,
+            diagrams: _diagrams,
+            derivatives: _derivatives,
+        } = self;
+    }
+}
+
 /// A step by the action `act` from the atoms `test` of the listed pair at `place`, to which `level` moves lead.
-#[derive(Clone, Copy, Debug)]
+#[derive(Clone, Copy)]
 pub(crate) struct StepSource {
     pub place: usize,
     pub level: usize,
@@ -54,7 +65,7 @@ pub(crate) struct StepSource {
 
 /// The listed pair that is processed: its place, the number of moves that lead to it, and the atoms at which that
 /// number of moves reached its sets.
-#[derive(Clone, Copy, Debug)]
+#[derive(Clone, Copy)]
 pub(crate) struct TakenPair {
     pub place: usize,
     pub level: usize,
@@ -90,10 +101,32 @@ pub(crate) enum RunEnd {
 
 /// The string of the steps that lead to a pair, and for each step the atoms from which it leads to its pair, those of
 /// the last step first.
-#[derive(Drop)]
 pub(crate) struct FoundString {
     pub string: GString,
     pub regions: Vec<DiagramId>,
+}
+
+// Explicit, so that it is proved once and not at each end of each function that owns one.
+impl Drop for FoundString {
+    fn drop(self) {
+        let FoundString {
+            string: _string,
+            regions: _regions,
+        } = self;
+    }
+}
+
+impl FoundString {
+    /// Returns the string.
+    pub(crate) fn into_string(self) -> GString
+        ensures { result ≡ self.string }
+    {
+        let FoundString {
+            string,
+            regions: _regions,
+        } = self;
+        string
+    }
 }
 
 // Whether a walk with this number of pairs has more than it may have.
@@ -392,6 +425,31 @@ impl TestedWorklist {
         Ok(())
     }
 
+    // Processes the pair at `place`, whose sets have these steps. Returns an atom of its test that exactly one of its
+    // sets accepts, if there is one.
+    fn take_steps(
+        &mut self,
+        alloc: Global,
+        actions: usize,
+        place: usize,
+        steps: &BothSteps,
+    ) -> Result<Option<Distinction>, NoMemory>
+        requires taking { (s : WalkContext) × (from : EntryParts) × IsTaking s self.old place from steps.now × (actions ≡ s.problem.actions) }
+        requires place { place < length self.old.listing.entries.items }
+        requires small { place + 1 < 2 ^ 64 }
+        ensures taken { IfOk result (λ found. (s : WalkContext) (from : EntryParts) → IsTaking s self.old place from steps.now → actions ≡ s.problem.actions →
+            MatchOption found (IsUnderWay s self.new (place + 1)) (λ f. IsUnderWay s self.new place × IsDifference s self.new place f.atom.items)) }
+        ensures region { IfOk result (λ found. IfSome found (λ f. IsDiagramId self.new.diagrams f.region)) }
+    {
+        let test = self.test_at(place);
+        if let Some(found) = self.difference(alloc, test, steps)? {
+            return Ok(Some(found));
+        }
+        let taken_pair = self.taken_pair_at(alloc, place)?;
+        self.expand(alloc, &taken_pair, actions, steps)?;
+        Ok(None)
+    }
+
     // Processes the pair at `place`. Returns an atom of its test that exactly one of its sets accepts, if there is one.
     fn take(
         &mut self,
@@ -410,13 +468,7 @@ impl TestedWorklist {
         ensures kept { Grows store.old store.new }
     {
         let steps = self.steps_at(alloc, store, place)?;
-        let test = self.test_at(place);
-        if let Some(found) = self.difference(alloc, test, &steps)? {
-            return Ok(Some(found));
-        }
-        let taken_pair = self.taken_pair_at(alloc, place)?;
-        self.expand(alloc, &taken_pair, actions, &steps)?;
-        Ok(None)
+        self.take_steps(alloc, actions, place, &steps)
     }
 
     /// Processes the listed pairs in order, including those that are listed meanwhile, until the sets of one do not

@@ -1,66 +1,23 @@
-use Rattle.std.proofs.Common.{◌≡◌, ◌+◌, ℕ, length, Vec, Global, sym, ap, subst, arith}
-use Rattle.kat_model.specs.Members.{Has}
-use Rattle.test_diagrams.specs.Functions.{IsDiagramId}
-use Rattle.partial_derivs.proofs.Items.{has_item}
-use Rattle.partial_derivs.proofs.Kept.{Keeps-itself, Keeps-trans}
-use Rattle.walk_under.specs.declared.bars.Bar.{Bar}
-use Rattle.walk_under.specs.Working.Asking.{AreBarsOf, AreBarsSoFar}
-use Rattle.walk_under.proofs.BarLists.{so_far_none, so_far_more, so_far_all, so_far_sound, moves_shuffled, targets_by, guards_by}
+use Rattle.std.proofs.Common.{arith}
+use Rattle.std.proofs.lemmas.Result.{IfOk-weaker}
+use Rattle.partial_derivs.proofs.Kept.{Keeps-itself}
+use Rattle.walk_under.proofs.BarLists.{moves_shuffled, targets_by, guards_by}
 use Rattle.walk_under.proofs.asking.bars_of.Goals as goal
 
-pub loop-guarded-init : goal.loop-guarded-init
-loop-guarded-init c =
-    let tests : length c.as_mut_slice-asked.result.now ≡ c.args.diagrams.now.tests = omega (arith, c.as_mut_slice-asked.ensures.len, c.in_ok-marks.ensures.len, c.tests.ensures.tests) in
-    record {
-      kept = Keeps-itself c.args.store.now c.args.diagrams.now;
-      right = c.requires.right;
-      so_far = subst (λ l. AreBarsSoFar c.args.store.now c.args.diagrams.now c.deref-guarded-items.result.now 0 l c.as_mut_slice-asked.result.now) (sym c.new-bars.ensures.items)
-          (so_far_none c.args.store.now c.args.diagrams.now c.deref-guarded-items.result.now c.as_mut_slice-asked.result.now tests);
-    }
+pub collected_bars-requires-clause-guards : goal.collected_bars-requires-clause-guards
+collected_bars-requires-clause-guards c =
+    guards_by c.args.moves.now c.deref.result.now c.args.act (moves_shuffled c.args.moves.now c.in_ok-own.own.items c.reverse.new.self.items c.deref.result.now c.args.act c.in_ok-own.ensures c.reverse.ensures.permutation c.deref.ensures.value)
+    c.args.store.now c.args.store.now c.args.diagrams.now c.args.diagrams.now (Keeps-itself c.args.store.now c.args.diagrams.now) c.requires.guards
 
-pub bar_of-requires-clause-guard : goal.bar_of-requires-clause-guard
-bar_of-requires-clause-guard c =
-    guards_by c.args.moves.now c.deref-guarded-items.result.now c.args.act (moves_shuffled c.args.moves.now c.in_ok-own.own.items c.reverse.new.self.items c.deref-guarded-items.result.now c.args.act c.in_ok-own.ensures c.reverse.ensures.permutation c.deref-guarded-items.ensures.value)
-    c.args.store.now c.loop-guarded.store c.args.diagrams.now c.loop-guarded.diagrams c.loop-guarded.invariant.kept c.requires.guards c.guarded-item.result
-    (has_item c.deref-guarded-items.result.now c.loop-guarded.guarded-index c.guarded-item.result c.loop-guarded-test.true c.guarded-item.is)
+pub collected_bars-requires-clause-targets : goal.collected_bars-requires-clause-targets
+collected_bars-requires-clause-targets c =
+    targets_by c.args.moves.now c.deref.result.now c.args.act (moves_shuffled c.args.moves.now c.in_ok-own.own.items c.reverse.new.self.items c.deref.result.now c.args.act c.in_ok-own.ensures c.reverse.ensures.permutation c.deref.ensures.value)
+    c.args.store.now c.args.store.now c.args.diagrams.now c.args.diagrams.now (Keeps-itself c.args.store.now c.args.diagrams.now) c.requires.targets
 
-pub bar_of-requires-clause-to : goal.bar_of-requires-clause-to
-bar_of-requires-clause-to c =
-    targets_by c.args.moves.now c.deref-guarded-items.result.now c.args.act (moves_shuffled c.args.moves.now c.in_ok-own.own.items c.reverse.new.self.items c.deref-guarded-items.result.now c.args.act c.in_ok-own.ensures c.reverse.ensures.permutation c.deref-guarded-items.ensures.value)
-    c.args.store.now c.loop-guarded.store c.args.diagrams.now c.loop-guarded.diagrams c.loop-guarded.invariant.kept c.requires.targets c.guarded-item.result
-    (has_item c.deref-guarded-items.result.now c.loop-guarded.guarded-index c.guarded-item.result c.loop-guarded-test.true c.guarded-item.is)
-
-pub returns-in_err-bar-clause-kept : goal.returns-in_err-bar-clause-kept
-returns-in_err-bar-clause-kept c = Keeps-trans _ _ _ _ _ _ c.loop-guarded.invariant.kept c.in_err-bar.ensures.kept
-
-pub returns-in_err-push-clause-kept : goal.returns-in_err-push-clause-kept
-returns-in_err-push-clause-kept c = Keeps-trans _ _ _ _ _ _ c.loop-guarded.invariant.kept c.in_ok-bar.ensures.kept
-
-pub loop-guarded-preserved : goal.loop-guarded-preserved
-loop-guarded-preserved c =
-    let read = c.deref-guarded-items.result.now in
-    let are = moves_shuffled c.args.moves.now c.in_ok-own.own.items c.reverse.new.self.items read c.args.act c.in_ok-own.ensures c.reverse.ensures.permutation c.deref-guarded-items.ensures.value in
-    let before = c.loop-guarded.invariant in
-    let kept = c.in_ok-bar.ensures.kept in
-    let m = c.guarded-item.result in
-    let member = has_item read c.loop-guarded.guarded-index m c.loop-guarded-test.true c.guarded-item.is in
-    let targets = targets_by c.args.moves.now read c.args.act are c.args.store.now c.loop-guarded.store c.args.diagrams.now c.loop-guarded.diagrams before.kept c.requires.targets in
-    let guard = kept.functions.ids m.guard (guards_by c.args.moves.now read c.args.act are c.args.store.now c.loop-guarded.store c.args.diagrams.now c.loop-guarded.diagrams before.kept c.requires.guards m member) in
-    record {
-      kept = Keeps-trans _ _ _ _ _ _ before.kept kept;
-      right = c.in_ok-bar.ensures.right;
-      so_far = subst (λ l. AreBarsSoFar c.bar_of.new.store c.bar_of.new.diagrams read (c.loop-guarded.guarded-index + 1) l c.bar_of.new.asked) (sym c.in_ok-push.ensures.items)
-          (so_far_more c.loop-guarded.store c.bar_of.new.store c.loop-guarded.diagrams c.bar_of.new.diagrams kept read c.loop-guarded.diagrams.tests targets c.loop-guarded.guarded-index c.loop-guarded.bars.items c.loop-guarded.asked before.so_far m c.loop-guarded-test.true c.guarded-item.is
-          c.bar_of.new.asked c.bar_of.auto.asked c.in_ok-bar.bar (subst (IsDiagramId c.bar_of.new.diagrams) (sym c.in_ok-bar.ensures.bar.from) guard) c.in_ok-bar.ensures.bar c.in_ok-bar.ensures.fresh);
-    }
+pub collected_bars-requires-clause-tests : goal.collected_bars-requires-clause-tests
+collected_bars-requires-clause-tests c = omega (arith, c.as_mut_slice.ensures.len, c.in_ok-asked.ensures.len, c.tests.ensures.tests)
 
 pub returns-clause-bars : goal.returns-clause-bars
 returns-clause-bars c =
-    subst (λ l. AreBarsOf c.loop-guarded.store c.loop-guarded.diagrams c.args.moves.now c.args.act l) (ap (λ (v : Vec Bar Global). v.items) (sym c.new.ensures.bars))
-    (so_far_all c.loop-guarded.store c.loop-guarded.diagrams c.deref-guarded-items.result.now c.loop-guarded.guarded-index c.loop-guarded.bars.items c.loop-guarded.asked c.loop-guarded.invariant.so_far
-    c.args.moves.now c.args.act (moves_shuffled c.args.moves.now c.in_ok-own.own.items c.reverse.new.self.items c.deref-guarded-items.result.now c.args.act c.in_ok-own.ensures c.reverse.ensures.permutation c.deref-guarded-items.ensures.value) c.loop-guarded-test.false)
-
-pub returns-clause-sound : goal.returns-clause-sound
-returns-clause-sound c =
-    so_far_sound c.loop-guarded.store c.loop-guarded.diagrams c.deref-guarded-items.result.now c.loop-guarded.guarded-index c.loop-guarded.bars.items c.loop-guarded.asked c.loop-guarded.invariant.so_far
-    c.new.result (ap (λ (v : Vec Bar Global). v.items) c.new.ensures.bars) c.new.ensures.images (λ t h. c.in_ok-unasked.ensures t (subst (λ (v : Vec ℕ Global). Has v.items t) c.new.ensures.unasked h))
+    let are = moves_shuffled c.args.moves.now c.in_ok-own.own.items c.reverse.new.self.items c.deref.result.now c.args.act c.in_ok-own.ensures c.reverse.ensures.permutation c.deref.ensures.value in
+    IfOk-weaker c.collected_bars.result _ _ (λ b own. own c.args.moves.now c.args.act are) c.collected_bars.ensures.bars

@@ -35,3 +35,9 @@ loop-test-preserved c =
                 (fresh_skipped c.loop-test.diagrams d kept c.args.id is c.args.asked.now c.loop-test.asked c.asks_first.new.asked c.loop-test.test c.loop-test.fresh.items before.fresh c.in_ok-asks_first.field-0 c.in_ok-asks_first.ensures.asks)
           ];
     }
+
+pub asks_first-requires-clause-id : goal.asks_first-requires-clause-id
+asks_first-requires-clause-id c = c.loop-test.invariant.kept.ids c.args.id c.requires.id
+
+pub asks_first-requires-clause-tests : goal.asks_first-requires-clause-tests
+asks_first-requires-clause-tests c = c.loop-test.auto.asked ∙ c.requires.tests ∙ sym c.loop-test.invariant.kept.tests

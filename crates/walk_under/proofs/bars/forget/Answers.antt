@@ -37,3 +37,24 @@ loop-test-preserved c =
           c.in_ok-low.ensures.kept c.in_ok-high.ensures.kept c.in_ok-id.ensures.kept before.forgotten.is_id c.in_ok-low.ensures.function c.in_ok-high.ensures.function c.in_ok-id.ensures.function c.args.whole c.args.tests.now h
           (forgotten_kept c.loop-test.diagrams c.or.new.self all c.args.whole c.args.tests.now c.loop-test.id (before.kept.ids c.args.whole c.requires.whole) before.forgotten);
     }
+
+pub fix-requires-clause-id : goal.fix-requires-clause-id
+fix-requires-clause-id c = c.loop-test.invariant.forgotten.is_id
+
+pub fix-requires-in-loop-test-clause-id : goal.fix-requires-in-loop-test-clause-id
+fix-requires-in-loop-test-clause-id c = c.in_ok-low.ensures.kept.ids c.loop-test.id c.loop-test.invariant.forgotten.is_id
+
+pub or-requires-clause-left : goal.or-requires-clause-left
+or-requires-clause-left c = c.in_ok-high.ensures.kept.ids c.in_ok-low.low c.in_ok-low.ensures.function.in_range
+
+pub or-requires-clause-right : goal.or-requires-clause-right
+or-requires-clause-right c = c.in_ok-high.ensures.function.in_range
+
+pub returns-in_err-low-clause-kept : goal.returns-in_err-low-clause-kept
+returns-in_err-low-clause-kept c = KeepsFunctions-trans _ _ _ c.loop-test.invariant.kept c.in_err-low.ensures.kept
+
+pub returns-in_err-high-clause-kept : goal.returns-in_err-high-clause-kept
+returns-in_err-high-clause-kept c = KeepsFunctions-trans _ _ _ c.loop-test.invariant.kept (KeepsFunctions-trans _ _ _ c.in_ok-low.ensures.kept c.in_err-high.ensures.kept)
+
+pub returns-in_err-id-clause-kept : goal.returns-in_err-id-clause-kept
+returns-in_err-id-clause-kept c = KeepsFunctions-trans _ _ _ c.loop-test.invariant.kept (KeepsFunctions-trans _ _ _ c.in_ok-low.ensures.kept (KeepsFunctions-trans _ _ _ c.in_ok-high.ensures.kept c.in_err-id.ensures.kept))

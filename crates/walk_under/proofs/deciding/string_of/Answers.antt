@@ -1,6 +1,7 @@
 use Rattle.std.proofs.Common.{List, ℕ, ◌∙◌, sym, subst}
 use Rattle.kat_model.specs.Members.{Has}
 use Rattle.kat_model.specs.Degrees.{long_hyps, with_hyps}
+use Rattle.certificate.specs.Decisions.{IsShortest}
 use Rattle.test_diagrams.specs.Functions.{DiagramsParts, IsDiagramId}
 use Rattle.walk_under.specs.Working.Walking.{walk_context}
 use Rattle.walk_under.specs.Working.Counting.{IsFoundUnder, with_counted}
@@ -24,8 +25,9 @@ returns-then-not-breaks-clause-answer c =
       list = r.2;
       shortest = c.in_ok-string.ensures.shortest (with_counted q r.1) r.1 (long_hyps q) r.0 (counted_split q r.1 r.2.fewer) r.3 r.4;
     } in
-    found_unbroken q c.requires.hyps.0 c.args.hyps.now c.requires.hyps.1 c.args.counts.now c.in_ok-string.string.string found c.in_ok-broken.broken.items c.in_ok-broken.ensures
-    (sym c.as_slice-places.ensures.value ∙ no_items c.as_slice-places.result.now c.has_some-breaks.result c.has_some-breaks.ensures c.if-not-breaks.true)
+    subst (IsShortest q) (sym c.into_string.ensures)
+    (found_unbroken q c.requires.hyps.0 c.args.hyps.now c.requires.hyps.1 c.args.counts.now c.in_ok-string.string.string found c.in_ok-broken.broken.items c.in_ok-broken.ensures
+    (sym c.as_slice-places.ensures.value ∙ no_items c.as_slice-places.result.now c.has_some-breaks.result c.has_some-breaks.ensures c.if-not-breaks.true))
 
 pub judge-requires-clause-hyps : goal.judge-requires-clause-hyps
 judge-requires-clause-hyps c = c.requires.hyps

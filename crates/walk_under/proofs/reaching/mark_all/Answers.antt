@@ -1,7 +1,7 @@
 use Rattle.std.proofs.Common.{ℕ, List, [], ◌∷◌}
 use Rattle.kat_model.specs.Members.{Has}
 use Rattle.kat_model.proofs.Places.{has_at}
-use Rattle.test_diagrams.proofs.Kept.{KeepsFunctions-trans}
+use Rattle.test_diagrams.proofs.Kept.{KeepsFunctions-itself, KeepsFunctions-trans}
 use Rattle.walk_under.proofs.Marking.{read_number, alone, brings_part, brings_kept}
 use Rattle.walk_under.proofs.reaching.mark_all.Goals as goal
 
@@ -19,3 +19,12 @@ loop-term-preserved c =
           (brings_kept c.args.diagrams.now c.loop-term.diagrams before.kept es first.tests all c.args.test (t ∷ []) c.requires.test
           (brings_part c.args.diagrams.now es all terms (t ∷ []) c.args.test (alone terms t h) brings));
     }
+
+pub loop-term-init : goal.loop-term-init
+loop-term-init c = record { kept = KeepsFunctions-itself c.args.diagrams.now; ids = c.requires.marks; marks = λ es all m brings. m }
+
+pub mark-requires-clause-test : goal.mark-requires-clause-test
+mark-requires-clause-test c = c.loop-term.invariant.kept.ids c.args.test c.requires.test
+
+pub returns-in_err-mark-clause-kept : goal.returns-in_err-mark-clause-kept
+returns-in_err-mark-clause-kept c = KeepsFunctions-trans _ _ _ c.loop-term.invariant.kept c.in_err-mark.ensures.kept

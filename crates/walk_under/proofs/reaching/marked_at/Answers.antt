@@ -1,6 +1,6 @@
-use Rattle.std.proofs.Common.{[], ◌∷◌, subst}
+use Rattle.std.proofs.Common.{[], ◌∷◌, subst, arith}
 use Rattle.kat_model.proofs.Places.{has_at}
-use Rattle.test_diagrams.proofs.Kept.{KeepsFunctions-trans}
+use Rattle.test_diagrams.proofs.Kept.{KeepsFunctions-itself, KeepsFunctions-trans}
 use Rattle.walk_under.specs.Working.Reaching.{Brings}
 use Rattle.walk_under.proofs.Marking.{read_number, marks_kept, part_of_both, brings_next, brings_first_all}
 use Rattle.walk_under.proofs.reaching.marked_at.Goals as goal
@@ -25,3 +25,12 @@ loop-term-preserved c =
 
 pub returns-clause-brings : goal.returns-clause-brings
 returns-clause-brings c es all first = brings_first_all c.loop-term.diagrams es all c.args.terms.now c.loop-term.id c.loop-term.term-index c.loop-term-test.false (c.loop-term.invariant.brings es all first)
+
+pub loop-term-init : goal.loop-term-init
+loop-term-init c = record { kept = KeepsFunctions-itself c.args.diagrams.now; part = record { is_id = c.requires.within; within = λ atom fits h. h }; brings = λ es all m k t lt. absurd (omega (arith, lt)) }
+
+pub and-requires-clause-left : goal.and-requires-clause-left
+and-requires-clause-left c = c.loop-term.invariant.part.is_id
+
+pub returns-in_err-id-clause-kept : goal.returns-in_err-id-clause-kept
+returns-in_err-id-clause-kept c = KeepsFunctions-trans _ _ _ c.loop-term.invariant.kept c.in_err-id.ensures.kept

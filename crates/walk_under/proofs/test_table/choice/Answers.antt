@@ -81,3 +81,45 @@ pub returns-clause-grows : goal.returns-clause-grows
 returns-clause-grows c =
     Grows-trans _ _ _ (grows_twice _ _ _ _ c.in_ok-is.ensures.grows c.in_ok-is_not.ensures.grows c.in_ok-on_high.ensures.grows)
     (Grows-trans _ _ _ c.in_ok-on_low.ensures.grows c.either-2.ensures.grows)
+
+pub negation-requires : goal.negation-requires
+negation-requires c = c.in_ok-is.ensures.is_id
+
+pub returns-in_err-is_not-clause-grows : goal.returns-in_err-is_not-clause-grows
+returns-in_err-is_not-clause-grows c = Grows-trans _ _ _ c.in_ok-is.ensures.grows c.in_err-is_not.ensures.grows
+
+pub is_always-always_high-requires : goal.is_always-always_high-requires
+is_always-always_high-requires c = c.in_ok-is_not.ensures.grows.test_numbers c.args.high (c.in_ok-is.ensures.grows.test_numbers c.args.high c.requires.high)
+
+pub either-requires-clause-first : goal.either-requires-clause-first
+either-requires-clause-first c = c.in_ok-is_not.ensures.grows.test_numbers c.in_ok-is.is' c.in_ok-is.ensures.is_id
+
+pub either-requires-clause-second : goal.either-requires-clause-second
+either-requires-clause-second c = c.in_ok-is_not.ensures.grows.test_numbers c.args.low (c.in_ok-is.ensures.grows.test_numbers c.args.low c.requires.low)
+
+pub is_always-always_low-requires : goal.is_always-always_low-requires
+is_always-always_low-requires c = c.in_ok-is_not.ensures.grows.test_numbers c.args.low (c.in_ok-is.ensures.grows.test_numbers c.args.low c.requires.low)
+
+pub either-requires-then-always_low-clause-first : goal.either-requires-then-always_low-clause-first
+either-requires-then-always_low-clause-first c = c.in_ok-is_not.ensures.is_id
+
+pub either-requires-then-always_low-clause-second : goal.either-requires-then-always_low-clause-second
+either-requires-then-always_low-clause-second c = c.in_ok-is_not.ensures.grows.test_numbers c.args.high (c.in_ok-is.ensures.grows.test_numbers c.args.high c.requires.high)
+
+pub both-requires-clause-first : goal.both-requires-clause-first
+both-requires-clause-first c = c.in_ok-is_not.ensures.grows.test_numbers c.in_ok-is.is' c.in_ok-is.ensures.is_id
+
+pub both-requires-clause-second : goal.both-requires-clause-second
+both-requires-clause-second c = c.in_ok-is_not.ensures.grows.test_numbers c.args.high (c.in_ok-is.ensures.grows.test_numbers c.args.high c.requires.high)
+
+pub both-requires-2-clause-first : goal.both-requires-2-clause-first
+both-requires-2-clause-first c = c.in_ok-on_high.ensures.grows.test_numbers c.in_ok-is_not.is_not c.in_ok-is_not.ensures.is_id
+
+pub both-requires-2-clause-second : goal.both-requires-2-clause-second
+both-requires-2-clause-second c = c.in_ok-on_high.ensures.grows.test_numbers c.args.low (c.in_ok-is_not.ensures.grows.test_numbers c.args.low (c.in_ok-is.ensures.grows.test_numbers c.args.low c.requires.low))
+
+pub either-requires-2-clause-first : goal.either-requires-2-clause-first
+either-requires-2-clause-first c = c.in_ok-on_low.ensures.grows.test_numbers c.in_ok-on_high.on_high c.in_ok-on_high.ensures.is_id
+
+pub either-requires-2-clause-second : goal.either-requires-2-clause-second
+either-requires-2-clause-second c = c.in_ok-on_low.ensures.is_id

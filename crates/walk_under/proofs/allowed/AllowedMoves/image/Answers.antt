@@ -48,3 +48,9 @@ returns-clause-moves c =
     allowance_set d shorts actions c.args.self.now (allowance_kept a d ad shorts actions c.args.self.now all) c.args.act own at new
     (record { allowed = c.args.self.now.allowed; actions = with_item c.args.self.now.actions c.args.act new }) c.in_ok-led_to.ensures.bars (sound_bars_kept c.image.new.diagrams d c.and.ensures.kept new c.in_ok-led_to.ensures.sound) refl refl)
     c.and.ensures.function
+
+pub and-requires-clause-left : goal.and-requires-clause-left
+and-requires-clause-left c = c.in_ok-led_to.ensures.image.is_id
+
+pub and-requires-clause-right : goal.and-requires-clause-right
+and-requires-clause-right c = c.in_ok-led_to.ensures.kept.ids c.args.self.now.allowed c.requires.moves.1.allowed.in_range

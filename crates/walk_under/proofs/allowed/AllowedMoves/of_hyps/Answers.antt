@@ -61,3 +61,12 @@ returns-clause-allowance c =
     let kept = Keeps-trans _ _ _ _ _ _ (Keeps-functions c.step.new.store c.step.new.diagrams c.not.new.self c.in_ok-allowed.ensures.kept) before.kept in
     allowance c.step.new.store c.step.new.diagrams (map (tree_at c.args.store.now) c.args.shorts.now) c.in_ok-steps.steps c.in_ok-steps.ensures.steps c.loop-act.store c.loop-act.diagrams kept
     c.not.new.self c.in_ok-allowed.allowed before.kept.functions c.in_ok-allowed.ensures.function (record { allowed = c.in_ok-allowed.allowed; actions = c.loop-act.list }) c.args.actions refl (omega (arith, before.count)) before.bars
+
+pub not-requires : goal.not-requires
+not-requires c = c.in_ok-steps.ensures.steps.accepts.in_range
+
+pub returns-in_err-allowed-clause-right : goal.returns-in_err-allowed-clause-right
+returns-in_err-allowed-clause-right c = AreRight-kept c.step.new.store c.step.new.store c.step.new.diagrams c.not.new.self c.step.new.self (Keeps-functions c.step.new.store c.step.new.diagrams c.not.new.self c.in_err-allowed.ensures.kept) c.in_ok-steps.ensures.right
+
+pub returns-in_err-allowed-clause-kept : goal.returns-in_err-allowed-clause-kept
+returns-in_err-allowed-clause-kept c = Keeps-trans _ _ _ _ _ _ c.in_ok-steps.ensures.kept (Keeps-functions c.step.new.store c.step.new.diagrams c.not.new.self c.in_err-allowed.ensures.kept)

@@ -1,10 +1,10 @@
-use Rattle.std.proofs.Common.{◌≡◌, ◌≢◌, ◌-◌, ◌<◌, take, length, sym, ap, ◌∙◌, subst, arith}
-use Rattle.std.proofs.lemmas.Bool.{eqb-false}
+use Rattle.std.proofs.Common.{◌≡◌, ◌≢◌, ◌-◌, ◌<◌, false, take, length, sym, ap, ◌∙◌, subst, arith}
+use Rattle.std.proofs.lemmas.Bool.{eqb-true, eqb-false}
 use Rattle.kat_model.proofs.Places.{has_at}
-use Rattle.test_diagrams.specs.Functions.{DiagramsParts, KeepsFunctions}
+use Rattle.test_diagrams.specs.Functions.{DiagramsParts, IsDiagramOf, KeepsFunctions}
 use Rattle.test_diagrams.proofs.Kept.{KeepsFunctions-trans}
 use Rattle.walk_under.specs.Working.Bars.{IsImageOf}
-use Rattle.walk_under.proofs.Images.{image_free}
+use Rattle.walk_under.proofs.Images.{image_never, image_free}
 use Rattle.walk_under.proofs.ImageTables.{sound_bars_kept, sound_bars_with}
 use Rattle.walk_under.proofs.ImageSteps.{bar_at, image_joined}
 use Rattle.walk_under.proofs.bars.Bars.+image_under.Goals as goal
@@ -97,3 +97,24 @@ returns-clause-sound t c =
     let image = subst (λ l. IsImageOf c.or.new.self (take c.args.count l.items) c.args.region c.in_ok-id.id) (sym same) (returns-clause-image t c) in
     sound_bars_with c.or.new.self c.image_under-2.new.self c.note_image.new.self c.in_ok-note_image.ensures.bars c.in_ok-note_image.ensures.unasked
     (c.in_ok-note_image.ensures.images c.or.new.self later.images ((returns-clause-kept t c).ids c.args.region c.requires.region) image) later
+
+pub returns-then-eq-clause-image : goal.returns-then-eq-clause-image
+returns-then-eq-clause-image t c =
+    let d = c.args.diagrams.now in
+    let same : c.args.region ≡ c.constant.result = eqb-true c.args.region c.constant.result (sym c.eq.ensures ∙ c.if-eq.true) in
+    image_never d (take c.args.count c.args.self.now.bars.items) c.args.region (subst (λ i. IsDiagramOf d i (λ a. false)) (sym same) c.constant.ensures.function)
+
+pub and_not-requires-clause-first : goal.and_not-requires-clause-first
+and_not-requires-clause-first t c = c.in_ok-within.ensures.image.is_id
+
+pub or-requires-clause-left : goal.or-requires-clause-left
+or-requires-clause-left t c = c.in_ok-free.ensures.kept.ids c.in_ok-kept.kept c.in_ok-kept.ensures.function.in_range
+
+pub or-requires-clause-right : goal.or-requires-clause-right
+or-requires-clause-right t c = c.in_ok-free.ensures.image.is_id
+
+pub returns-in_err-within-clause-kept : goal.returns-in_err-within-clause-kept
+returns-in_err-within-clause-kept t c = KeepsFunctions-trans _ _ _ c.in_ok-parts.ensures.kept c.in_err-within.ensures.kept
+
+pub returns-clause-bars : goal.returns-clause-bars
+returns-clause-bars t c = c.in_ok-note_image.ensures.bars ∙ c.in_ok-free.ensures.bars ∙ c.in_ok-within.ensures.bars

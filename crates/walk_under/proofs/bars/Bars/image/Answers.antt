@@ -30,3 +30,12 @@ returns-clause-image c =
     let count : c.len-count.result ≡ length bars = omega (arith, c.len-count.ensures) in
     let whole : take (length bars) bars ≡ bars = take_all (length bars) bars (omega arith) in
     IfOk-weaker c.image_under-2.result _ _ (λ id im. image_forgotten e bars c.args.self.now.unasked.items c.args.region c.in_ok-rest.rest id (λ t m q h. (sound.unasked t m).1 q (subst (λ l. Has l q) (sym whole) h)) later (subst (λ l. IsImageOf e l c.in_ok-rest.rest id) (ap (λ n. take n bars) count ∙ whole) im)) c.image_under-2.ensures.image
+
+pub forget-requires-clause-tests : goal.forget-requires-clause-tests
+forget-requires-clause-tests c t h = (c.requires.sound.unasked t (subst (λ l. Has l t) c.deref.ensures.value h)).0
+
+pub image_under-requires-2-clause-region : goal.image_under-requires-2-clause-region
+image_under-requires-2-clause-region c = c.in_ok-rest.ensures.forgotten.is_id
+
+pub returns-clause-kept : goal.returns-clause-kept
+returns-clause-kept c = KeepsFunctions-trans _ _ _ c.in_ok-rest.ensures.kept c.image_under-2.ensures.kept

@@ -1,4 +1,4 @@
-use Rattle.std.proofs.Common.{◌≡◌, [], length, slice_index_or, sym, ap, ◌∙◌, subst, arith}
+use Rattle.std.proofs.Common.{◌≡◌, [], length, slice_index_or, sym, subst, arith}
 use Rattle.kat_model.specs.Members.{Has}
 use Rattle.walk_under.specs.Working.Entries.{EntryParts}
 use Rattle.walk_under.specs.Working.Filing.{key_of, AreFiled}
@@ -8,11 +8,7 @@ use Rattle.walk_under.proofs.entry_list.EntryList.push.Goals as goal
 pub invariant_of-self-2 : goal.invariant_of-self-2
 invariant_of-self-2 c =
     let own : EntryParts = c.args.entry in
-    let lists = c.file.new.lists.items in
-    let left : c.as_slice.result.now ≡ own.left = c.as_slice.ensures ∙ ap (λ (e : EntryParts). e.left) c.entry.view_is in
-    let right : c.as_slice-2.result.now ≡ own.right = c.as_slice-2.ensures ∙ ap (λ (e : EntryParts). e.right) c.entry.view_is in
-    let key : c.key_of-key.result ≡ key_of own.left own.right = c.key_of-key.ensures ∙ ap (λ l. key_of l c.as_slice-2.result.now) left ∙ ap (key_of own.left) right in
+    let lists = c.file_entry.new.lists.items in
     let place : c.len-place.result ≡ length c.self.inside.entries.items = omega (arith, c.len-place.ensures, c.self.inside.entries.ok.0) in
     subst (λ es. AreFiled es lists) (sym c.in_ok-push.ensures.items)
-    (filed_more c.self.inside.entries.items own c.self.inside.lists.items lists c.in_ok-file.ensures.kept c.self.invariant
-    (subst (Has (slice_index_or lists (key_of own.left own.right) [])) place (subst (λ k. Has (slice_index_or lists k []) c.len-place.result) key c.in_ok-file.ensures.added)))
+    (filed_more c.self.inside.entries.items own c.self.inside.lists.items lists c.in_ok-file_entry.ensures.kept c.self.invariant (subst (Has (slice_index_or lists (key_of own.left own.right) [])) place c.in_ok-file_entry.ensures.added))

@@ -1,24 +1,38 @@
-use Rattle.std.proofs.Common.{◌≡◌, ℕ, List, sym, ◌∙◌, subst}
+use Rattle.std.proofs.Common.{List, ◌∙◌, subst}
+use Rattle.std.proofs.lemmas.Bool.{both_ways}
 use Rattle.std.proofs.lemmas.Result.{IfOk-weaker}
 use Rattle.kat_model.specs.Members.{Has}
-use Rattle.test_diagrams.specs.Functions.{IsDiagramId}
+use Rattle.test_diagrams.specs.Functions.{value_of, IsDiagramId}
+use Rattle.test_diagrams.proofs.Kept.{KeepsFunctions-itself}
 use Rattle.walk_under.specs.Working.Entries.{EntryParts}
-use Rattle.walk_under.specs.Working.Reaching.{AreMarks}
-use Rattle.walk_under.proofs.Marking.{replicate_has, first_marks, brings_own}
+use Rattle.walk_under.proofs.Marking.{replicate_has, first_marks}
 use Rattle.walk_under.proofs.listing.Listing.reached.Goals as goal
 
-pub mark_all-requires-clause-marks : goal.mark_all-requires-clause-marks
-mark_all-requires-clause-marks c id h =
+pub reached_with-requires-clause-marks : goal.reached_with-requires-clause-marks
+reached_with-requires-clause-marks c id h =
     let d = c.args.diagrams.now in
-    subst (IsDiagramId d) (replicate_has c.args.self.now.count c.constant-never.result id (subst (λ l. Has l id) (c.as_mut_slice-marks.ensures.value ∙ c.in_ok-list.ensures.items_if_clones_equal (λ y e. e)) h)) c.constant-never.ensures.function.in_range
+    subst (IsDiagramId d) (replicate_has c.args.self.now.count c.constant-never.result id (subst (λ l. Has l id) (c.as_mut_slice.ensures.value ∙ c.in_ok-marks.ensures.items_if_clones_equal (λ y e. e)) h)) c.constant-never.ensures.function.in_range
 
 pub returns-clause-reached : goal.returns-clause-reached
 returns-clause-reached c =
-    let d = c.args.diagrams.now in
     let es : List EntryParts = c.args.self.now.entries.items in
-    let set : List ℕ = c.args.set.now in
-    let first = first_marks d es c.requires.tests set c.args.self.now.count c.constant-never.result c.as_mut_slice-marks.result.now c.in_ok-list.list.items c.constant-never.ensures.function c.as_mut_slice-marks.ensures.value (c.in_ok-list.ensures.items_if_clones_equal (λ y e. e)) in
-    let own = c.in_ok-mark_all.ensures.marks es set first (brings_own d es set c.args.within) in
-    let same : c.as_slice.result.now ≡ es = c.as_slice.ensures in
-    let full = c.in_ok-saturate.ensures.marks set (subst (λ l. AreMarks c.mark_all.new.diagrams l set c.mark_all.new.marks) (sym same) own) in
-    IfOk-weaker c.reached_at.result _ _ (λ id reached. reached es set (subst (λ l. AreMarks c.saturate.new.diagrams l set c.saturate.new.marks) same full)) c.reached_at.ensures.reached
+    let first = first_marks c.args.diagrams.now es c.requires.tests c.args.set.now c.args.self.now.count c.constant-never.result c.as_mut_slice.result.now c.in_ok-marks.marks.items c.constant-never.ensures.function c.as_mut_slice.ensures.value (c.in_ok-marks.ensures.items_if_clones_equal (λ y e. e)) in
+    IfOk-weaker c.reached_with.result _ _ (λ id reached. reached first) c.reached_with.ensures.reached
+
+pub returns-then-eq-clause-part : goal.returns-then-eq-clause-part
+returns-then-eq-clause-part c = record { is_id = c.constant-never.ensures.function.in_range; within = λ atom fits h. absurd (both_ways (value_of c.args.diagrams.now c.constant-never.result atom) (c.constant-never.ensures.function.value atom fits) h) }
+
+pub returns-then-eq-clause-reached : goal.returns-then-eq-clause-reached
+returns-then-eq-clause-reached c = record { at = λ atom fits h. absurd (both_ways (value_of c.args.diagrams.now c.constant-never.result atom) (c.constant-never.ensures.function.value atom fits) h) }
+
+pub returns-then-eq-clause-kept : goal.returns-then-eq-clause-kept
+returns-then-eq-clause-kept c = KeepsFunctions-itself c.args.diagrams.now
+
+pub returns-then-is_empty-clause-part : goal.returns-then-is_empty-clause-part
+returns-then-is_empty-clause-part c = record { is_id = c.requires.within; within = λ atom fits h. h }
+
+pub returns-then-is_empty-clause-kept : goal.returns-then-is_empty-clause-kept
+returns-then-is_empty-clause-kept c = KeepsFunctions-itself c.args.diagrams.now
+
+pub returns-in_err-marks-clause-kept : goal.returns-in_err-marks-clause-kept
+returns-in_err-marks-clause-kept c = KeepsFunctions-itself c.args.diagrams.now

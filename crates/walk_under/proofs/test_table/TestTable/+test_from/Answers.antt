@@ -1,4 +1,4 @@
-use Rattle.std.proofs.Common.{◌≡◌, ◌+◌, ◌<◌, ◌≤◌, ℕ, Bool, true, false, cond, get_or, set, refl, ◌∙◌, arith}
+use Rattle.std.proofs.Common.{◌≡◌, ◌+◌, ◌<◌, ◌≤◌, ℕ, Bool, true, false, cond, get_or, set, refl, sym, ◌∙◌, subst, arith}
 use Rattle.std.proofs.lemmas.Result.{IfOk-weaker}
 use Rattle.kat_model.specs.Steps.{Atom}
 use Rattle.term_nodes.specs.NodeLists.{NodeParts}
@@ -9,6 +9,7 @@ use Rattle.test_diagrams.proofs.Kept.{KeepsFunctions-itself, KeepsFunctions-tran
 use Rattle.walk_pairs.proofs.FixedDiagrams.{IsFixedTo}
 use Rattle.walk_under.specs.Working.StoredTests.{IsFree}
 use Rattle.walk_under.proofs.StoredTests.{test_same}
+use Rattle.walk_under.proofs.PartCases.{always_ok}
 use Rattle.walk_under.proofs.DiagramTests.{constant_value, least_past, fixed_free, free_kept, chosen_value, test_later, table_later}
 use Rattle.walk_under.proofs.test_table.TestTable.+test_from.Goals as goal
 
@@ -164,3 +165,15 @@ returns-clause-grows t c = all_grow _ _ _ _ c.in_ok-on_low.ensures.grows c.in_ok
 
 pub returns-clause-kept : goal.returns-clause-kept
 returns-clause-kept t c = KeepsFunctions-trans _ _ _ (all_kept _ _ _ _ c.in_ok-low.ensures.kept c.in_ok-high.ensures.kept c.in_ok-on_low.ensures.kept) c.in_ok-on_high.ensures.kept
+
+pub returns-in_default-clause-table : goal.returns-in_default-clause-table
+returns-in_default-clause-table t c = always_ok c.constant-in_default.result (table_later c.args.store.now c.constant-in_default.new.store c.args.diagrams.now c.args.diagrams.now c.args.self.now.tests.entries c.constant-in_default.ensures.grows (KeepsFunctions-itself c.args.diagrams.now) c.requires.table)
+
+pub fix-requires-2-clause-in_range : goal.fix-requires-2-clause-in_range
+fix-requires-2-clause-in_range t c = subst (λ n. c.in-Some.test < n) (sym c.in_ok-low.ensures.kept.tests) c.in-Some.ensures.least.in_range
+
+pub choice-requires-clause-low : goal.choice-requires-clause-low
+choice-requires-clause-low t c = c.in_ok-on_high.ensures.grows.test_numbers c.in_ok-on_low.on_low c.in_ok-on_low.ensures.test.is_id
+
+pub choice-requires-clause-high : goal.choice-requires-clause-high
+choice-requires-clause-high t c = c.in_ok-on_high.ensures.test.is_id

@@ -22,3 +22,12 @@ returns-clause-under_way c q tests actions ids =
 
 pub returns-clause-kept : goal.returns-clause-kept
 returns-clause-kept c = c.in_ok-moves.ensures.kept.trees
+
+pub returns-in_err-moves-clause-kept : goal.returns-in_err-moves-clause-kept
+returns-in_err-moves-clause-kept c = c.in_err-moves.ensures.kept.trees
+
+pub returns-in_err-entry-clause-kept : goal.returns-in_err-entry-clause-kept
+returns-in_err-entry-clause-kept c = c.in_ok-moves.ensures.kept.trees
+
+pub returns-in_err-push-clause-kept : goal.returns-in_err-push-clause-kept
+returns-in_err-push-clause-kept c = c.in_ok-moves.ensures.kept.trees

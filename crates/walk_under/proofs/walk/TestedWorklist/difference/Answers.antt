@@ -38,3 +38,9 @@ difference-requires-clause-second c = c.in_ok-atom.ensures.kept.ids c.args.steps
 pub returns-clause-kept : goal.returns-clause-kept
 returns-clause-kept c =
     KeepsFunctions-trans _ _ _ c.in_ok-left.ensures.kept (KeepsFunctions-trans _ _ _ c.in_ok-right.ensures.kept (KeepsFunctions-trans _ _ _ c.in_ok-atom.ensures.kept c.in_ok-region.ensures.kept))
+
+pub differing_atom-requires-clause-second : goal.differing_atom-requires-clause-second
+differing_atom-requires-clause-second c = c.in_ok-right.ensures.function.in_range
+
+pub returns-clause-region : goal.returns-clause-region
+returns-clause-region c = c.in_ok-region.ensures.function.in_range

@@ -45,3 +45,12 @@ pub returns-clause-answer : goal.returns-clause-answer
 returns-clause-answer c shorts q count u =
     let past : length c.loop-place.self.listing.entries.items ≤ c.loop-place.place = omega (arith, c.len.ensures, c.loop-place-test.false) in
     all_taken (walk_context shorts q c.loop-place.store) c.loop-place.self c.loop-place.place (c.loop-place.invariant.each shorts q count u) past
+
+pub take-requires-clause-place : goal.take-requires-clause-place
+take-requires-clause-place c = omega (arith, c.len.ensures, c.loop-place-test.true)
+
+pub returns-in_err-found-clause-kept : goal.returns-in_err-found-clause-kept
+returns-in_err-found-clause-kept c = Grows-trans _ _ _ c.loop-place.invariant.kept c.in_err-found.ensures.kept
+
+pub returns-in-Some-clause-kept : goal.returns-in-Some-clause-kept
+returns-in-Some-clause-kept c = Grows-trans _ _ _ c.loop-place.invariant.kept c.in_ok-found.ensures.kept

@@ -54,3 +54,9 @@ returns-clause-steps c shorts q e u at =
 
 pub returns-clause-kept : goal.returns-clause-kept
 returns-clause-kept c = Grows-trans c.args.store.now c.step.new.store c.step-2.new.store c.in_ok-left.ensures.kept.trees c.in_ok-right.ensures.kept.trees
+
+pub returns-in_err-left-clause-kept : goal.returns-in_err-left-clause-kept
+returns-in_err-left-clause-kept c = c.in_err-left.ensures.kept.trees
+
+pub returns-in_err-right-clause-kept : goal.returns-in_err-right-clause-kept
+returns-in_err-right-clause-kept c = Grows-trans _ _ _ c.in_ok-left.ensures.kept.trees c.in_err-right.ensures.kept.trees

@@ -4,7 +4,7 @@ use Rattle.term_nodes.specs.Growth.{Grows}
 use Rattle.walk_under.specs.Working.Walking.{AreClosedIds}
 use Rattle.hypothesis_counts.specs.Counting.{AreShortHyps, uncounted}
 use Rattle.walk_under.specs.Working.Counting.{MayBegin}
-use Rattle.walk_under.proofs.deciding.outcome_of.Given as goal
+use Rattle.walk_under.proofs.deciding.string_found.Given as goal
 
 abbrev pub invariant-walks : goal.invariant-walks
 invariant-walks l = record {
