@@ -33,3 +33,4 @@ pub mod PairLimits
 pub mod PassedOn
 pub mod Decisions
 pub mod Memberships
+pub mod Loops

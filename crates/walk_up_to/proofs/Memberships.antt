@@ -12,11 +12,11 @@ AreWithin es marks = (e : IdEntry) → Has es e → AllMarked marks e.left × Al
 pub within_more : (es : List IdEntry) (marks more : List Bool) → AreWithin es marks → Stays marks more → AreWithin es more
 within_more es marks more w s e h = ((λ k m. s k ((w e h).0 k m)), (λ k m. s k ((w e h).1 k m)))
 
-pub within_one : (es : List IdEntry) (p : IdEntry) (marks more most : List Bool) → AreWithin es marks → Stays marks more → Stays more most → AllMarked more p.left → AllMarked most p.right → AreWithin (es ++ p ∷ []) most
-within_one es p marks more most w first second left right e h =
+pub within_one : (es : List IdEntry) (p : IdEntry) (marks more : List Bool) → AreWithin es marks → Stays marks more → AllMarked more p.left → AllMarked more p.right → AreWithin (es ++ p ∷ []) more
+within_one es p marks more w stays left right e h =
     ⊎_elim
-    (within_more es more most (within_more es marks more w first) second e)
+    (within_more es marks more w stays e)
     (λ new. ⊎_elim
-    (λ is. subst (λ q. AllMarked most q.left × AllMarked most q.right) is ((λ k m. second k (left k m)), right))
+    (λ is. subst (λ q. AllMarked more q.left × AllMarked more q.right) is (left, right))
     absurd new)
     (has_append es (p ∷ []) e h)

@@ -1,5 +1,5 @@
 -- A case that is split by an undecided test: it is visited when both parts are.
-use Rattle.std.proofs.Common.{◌≡◌, ◌<◌, ◌⊎◌, ℕ, zero, suc, inl, inr, ⊎_elim, List, [], ◌∷◌, length, replicate, slice_get, get_or, set, refl, sym, ap, ◌∙◌, subst, arith, Bool, true, false, not, cond, Option, Some, None}
+use Rattle.std.proofs.Common.{◌≡◌, ◌<◌, ◌+◌, ◌⊎◌, ℕ, zero, suc, inl, inr, ⊎_elim, List, [], ◌∷◌, length, replicate, slice_get, get_or, set, refl, sym, ap, ◌∙◌, subst, arith, Bool, true, false, not, cond, Option, Some, None}
 use mathlib.Core.Path.{ap₂}
 use Rattle.std.proofs.lemmas.List.{set-get_or, length-replicate}
 use Rattle.std.proofs.lemmas.Option.{slice_get-get_or}
@@ -10,6 +10,7 @@ use Rattle.kat_model.specs.Pairs.{SetPair}
 use Rattle.kat_model.proofs.Lists.{has_map, map_has}
 use Rattle.term_nodes.specs.NodeLists.{NodeParts}
 use Rattle.test_diagrams.specs.Functions.{DiagramsParts, IsDiagramId, IsDiagramOf, IsIndependent, DependsOn, KeepsFunctions}
+use Rattle.test_diagrams.proofs.Kept.{KeepsFunctions-itself, KeepsFunctions-trans}
 use Rattle.partial_derivs.specs.Moves.{IsTermOf}
 use Rattle.term_nodes.specs.NumberSets.{terms_of}
 use Rattle.walk_up_to.specs.Working.Listings.{entries_of}
@@ -17,7 +18,7 @@ use Rattle.walk_up_to.specs.Working.Marks.{ListedPairsParts}
 use Rattle.walk_pairs.specs.Items.{guard_of, chosen, AreItems}
 use Rattle.walk_pairs.specs.Items.{AreEnds}
 use Rattle.walk_up_to.specs.Working.Cases.{Extends, IsOpen, open_count, IsNextTest, IsCase, AreItemsWith}
-use Rattle.walk_up_to.specs.Working.IdWalks.{StandFor, Visits, IsPastLimit, PassesLimit}
+use Rattle.walk_up_to.specs.Working.IdWalks.{StandFor, Visits, VisitsInTurn, IsPastLimit, PassesLimit, PassesInTurn}
 use Rattle.walk_pairs.specs.declared.items.Item.{Item}
 use Rattle.walk_pairs.specs.declared.items.Ends.{Ends}
 use Rattle.walk_pairs.specs.declared.items.Side.{Side}
@@ -42,12 +43,12 @@ next_open d decided items test is_case next = go (get_or decided test None) refl
         let f = is_case.fixed next.item next.member test b (here ∙ ap (λ (o : Option Bool). Some o) e) in
         absurd (⊎_elim (λ dep. depends_not d next.item.left test dep f.0) (λ dep. depends_not d next.item.right test dep f.1) next.depends.1)
 
-pub fewer_open : (ds : List (Option Bool)) (k : ℕ) (b : Bool) → slice_get ds k ≡ Some None → open_count (set ds k (Some b)) < open_count ds
-fewer_open [] k b o = absurd cc
-fewer_open (None ∷ ds) zero b o = omega arith
-fewer_open (Some c ∷ ds) zero b o = absurd cc
-fewer_open (None ∷ ds) (suc k) b o = let r = fewer_open ds k b o in omega arith
-fewer_open (Some c ∷ ds) (suc k) b o = fewer_open ds k b o
+one_fewer : (ds : List (Option Bool)) (k : ℕ) (b : Bool) → slice_get ds k ≡ Some None → open_count (set ds k (Some b)) + 1 ≡ open_count ds
+one_fewer [] k b o = absurd cc
+one_fewer (None ∷ ds) zero b o = omega arith
+one_fewer (Some c ∷ ds) zero b o = absurd cc
+one_fewer (None ∷ ds) (suc k) b o = let r = one_fewer ds k b o in omega arith
+one_fewer (Some c ∷ ds) (suc k) b o = one_fewer ds k b o
 
 -- ---- the atoms of a part are those of the case with the value of the test
 
@@ -177,9 +178,58 @@ passes_second c d e source decided more others items one other old middle m n fi
     let there = grown_at (entries_of store old.pairs) (entries_of store middle.pairs) source.place from u.visited.grows at in
     subst (IsPastLimit q) limit (passes q store from (n ∙ tests) acts u.listed there (second_carries q store from.pair source.act tests stands))
 
--- a part of a case has fewer undecided tests
-pub fewer_part : (ds es : List (Option Bool)) (k : ℕ) (b : Bool) → IsOpen ds k → es ≡ set ds k (Some b) → open_count es < open_count ds
-fewer_part ds es k b o e = subst (λ xs. open_count xs < open_count ds) (sym e) (fewer_open ds k b o)
+-- a part of a case has one undecided test fewer
+pub fewer_part : (ds es : List (Option Bool)) (k : ℕ) (b : Bool) → IsOpen ds k → es ≡ set ds k (Some b) → open_count es + 1 ≡ open_count ds
+fewer_part ds es k b o e = ap (λ xs. open_count xs + 1) e ∙ one_fewer ds k b o
+
+-- a case is split by a test, and the part with the value `false` is made first; the parts are visited in either order
+module _ (b c d : DiagramsParts) (source : StepSource) (decided : List (Option Bool)) (items : List Item) (test : ℕ) (undecided : IsOpen decided test) (are : AreItems b items) (kept_low : KeepsFunctions b c) (kept_high : KeepsFunctions c d) (lows highs : List (Option Bool)) (low high : List Item) (is_low : lows ≡ set decided test (Some false)) (is_high : highs ≡ set decided test (Some true)) (low_items : AreItemsWith b c items test false low) (high_items : AreItemsWith c d items test true high) where
+  same_tests : d.tests ≡ b.tests
+  same_tests = kept_high.tests ∙ kept_low.tests
+
+  low_carries : (e : DiagramsParts) → KeepsFunctions d e → Carries b items decided e low (set decided test (Some false))
+  low_carries e k = first_carries b c e items low decided test false low_items undecided kept_low (KeepsFunctions-trans c d e kept_high k)
+
+  high_carries : (e : DiagramsParts) → KeepsFunctions d e → Carries b items decided e high (set decided test (Some true))
+  high_carries e k = second_carries b c d e items high decided test true are kept_low high_items undecided kept_high k
+
+  module _ (old new : ListedPairsParts) where
+    pub low_then_high : VisitsInTurn d source lows low highs high old new → Visits b source decided items old new
+    low_then_high v =
+        visits_both b source decided items test undecided false d v.between low high old v.middle new same_tests (v.kept.tests ∙ same_tests)
+        (low_carries d (KeepsFunctions-itself d)) (high_carries v.between v.kept)
+        (subst (λ ds. Visits d source ds low old v.middle) is_low v.visits_first)
+        (subst (λ ds. Visits v.between source ds high v.middle new) is_high v.visits_second)
+
+    pub high_then_low : VisitsInTurn d source highs high lows low old new → Visits b source decided items old new
+    high_then_low v =
+        visits_both b source decided items test undecided true d v.between high low old v.middle new same_tests (v.kept.tests ∙ same_tests)
+        (high_carries d (KeepsFunctions-itself d)) (low_carries v.between v.kept)
+        (subst (λ ds. Visits d source ds high old v.middle) is_high v.visits_first)
+        (subst (λ ds. Visits v.between source ds low v.middle new) is_low v.visits_second)
+
+  module _ (old : ListedPairsParts) where
+    pub low_first_passes : PassesInTurn d source lows low highs high old → PassesLimit b source decided items old
+    low_first_passes p =
+        ⊎_elim
+        (passes_first b d source decided lows items low old same_tests (subst (Carries b items decided d low) (sym is_low) (low_carries d (KeepsFunctions-itself d))))
+        (λ v.
+        passes_second b d v.between source decided lows highs items low high old v.middle same_tests (v.kept.tests ∙ same_tests)
+        (subst (Carries b items decided d low) (sym is_low) (low_carries d (KeepsFunctions-itself d)))
+        (subst (Carries b items decided v.between high) (sym is_high) (high_carries v.between v.kept))
+        v.visits_first v.limit v.passes)
+        p
+
+    pub high_first_passes : PassesInTurn d source highs high lows low old → PassesLimit b source decided items old
+    high_first_passes p =
+        ⊎_elim
+        (passes_first b d source decided highs items high old same_tests (subst (Carries b items decided d high) (sym is_high) (high_carries d (KeepsFunctions-itself d))))
+        (λ v.
+        passes_second b d v.between source decided highs lows items high low old v.middle same_tests (v.kept.tests ∙ same_tests)
+        (subst (Carries b items decided d high) (sym is_high) (high_carries d (KeepsFunctions-itself d)))
+        (subst (Carries b items decided v.between low) (sym is_low) (low_carries v.between v.kept))
+        v.visits_first v.limit v.passes)
+        p
 
 -- ---- the case in which no test is decided
 

@@ -11,10 +11,19 @@ use test_diagrams::{DiagramId, Diagrams};
 use walk_pairs::{Ends, Item};
 
 /// A case: the decided tests, and the items that remain.
-#[derive(Drop)]
 pub(crate) struct Case {
     pub decided: Vec<Option<bool>>,
     pub items: Vec<Item>,
+}
+
+// Explicit, so that it is proved once and not at each end of each function that owns a case.
+impl Drop for Case {
+    fn drop(self) {
+        let Case {
+            decided: _decided,
+            items: _items,
+        } = self;
+    }
 }
 
 // Returns the decided tests with an additional one.
@@ -117,7 +126,7 @@ pub(crate) fn least_atom(alloc: Global, decided: &[Option<bool>]) -> Result<Vec<
 }
 
 // The numbers of sure and of possible targets on both sides together, compared in this order.
-#[derive(Clone, Copy, Debug, PartialEq, Eq, PartialOrd, Ord)]
+#[derive(Clone, Copy)]
 struct Weight {
     sure: usize,
     possible: usize,
@@ -134,6 +143,11 @@ impl Weight {
             sure: self.sure.saturating_add(sure),
             possible: self.possible.saturating_add(1),
         }
+    }
+
+    // Whether the weight is smaller than `other`.
+    fn is_below(self, other: Weight) -> bool {
+        self.sure < other.sure || (self.sure == other.sure && self.possible < other.possible)
     }
 }
 
@@ -152,5 +166,5 @@ fn weight_of(ends: &Ends, items: &[Item]) -> Weight {
 
 /// Whether `high` has smaller sets than `low`. If so, it comes first: its pairs can make larger sets congruent.
 pub(crate) fn is_lighter(ends: &Ends, low: &Case, high: &Case) -> bool {
-    weight_of(ends, &high.items) < weight_of(ends, &low.items)
+    weight_of(ends, &high.items).is_below(weight_of(ends, &low.items))
 }

@@ -95,7 +95,10 @@ fn add_under(lists: &mut [Places], number: usize, pair_side: PairSide) -> Result
 
 // Returns the number of queries whose set had the term.
 fn uses_of(uses: &[usize], term: TermId) -> usize {
-    uses.get(term.number()).copied().unwrap_or(0)
+    match uses.get(term.number()) {
+        Some(count) => *count,
+        None => 0,
+    }
 }
 
 impl PairIndex {

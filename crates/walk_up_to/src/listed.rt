@@ -1,5 +1,7 @@
 //! The pairs that a walk has listed. Congruence is by these pairs.
 ghost use Rattle.std.specs.Prelude.{◌≡◌, ◌<◌, ◌++◌, ◌∷◌, [], true, false, length, slice_index_or, OnOk, OnErr};
+ghost use Rattle.walk_pairs.specs.declared.items.Side.TheVariants.{Left as OnLeft, Right as OnRight};
+ghost use Rattle.walk_up_to.specs.Working.Indices.{StandsUnder, KeepsPlaces};
 ghost use Rattle.walk_up_to.specs.Working.Marks.{AllMarked, Stays};
 
 use crate::index::PairIndex;
@@ -11,7 +13,6 @@ use term_store::TermId;
 
 /// The listed pairs in order, a mark for each term in them, their index, the universal term, if there is one, and the
 /// limit on the number of pairs, if there is one. All ids are below the count.
-#[derive(Drop)]
 pub(crate) struct ListedPairs {
     pairs: Vec<ListedPair>,
     members: Vec<bool>,
@@ -19,6 +20,20 @@ pub(crate) struct ListedPairs {
     universal: Option<TermId>,
     count: usize,
     limit: Option<usize>,
+}
+
+// Explicit, so that it is proved once and not at each end of each function that owns listed pairs.
+impl Drop for ListedPairs {
+    fn drop(self) {
+        let ListedPairs {
+            pairs: _pairs,
+            members: _members,
+            index: _index,
+            universal: _,
+            count: _,
+            limit: _,
+        } = self;
+    }
 }
 
 impl Model for ListedPairs {
@@ -63,6 +78,26 @@ fn note_all(marks: &mut Vec<bool>, terms: &[TermId]) -> Result<(), NoMemory>
         note(marks, *term)?;
     }
     Ok(())
+}
+
+// Marks the members of the pair at `place`, and indexes its sets. Existing marks and sets remain.
+fn note_pair(
+    alloc: Global,
+    uses: &[usize],
+    members: &mut Vec<bool>,
+    index: &mut PairIndex,
+    pair: &ListedPair,
+    place: usize,
+) -> Result<(), NoMemory>
+    ensures noted { OnOk result (AllMarked members.new.items pair.now.left × AllMarked members.new.items pair.now.right) }
+    ensures left { OnOk result (StandsUnder index.new pair.now.left place OnLeft) }
+    ensures right { OnOk result (StandsUnder index.new pair.now.right place OnRight) }
+    ensures marks { Stays members.old.items members.new.items }
+    ensures places { KeepsPlaces index.old index.new }
+{
+    note_all(members, pair.left.as_slice())?;
+    note_all(members, pair.right.as_slice())?;
+    index.add(alloc, uses, pair, place)
 }
 
 impl ListedPairs {
@@ -149,7 +184,10 @@ impl ListedPairs {
         ensures value { result ≡ slice_index_or self.now.members term false }
         ensures members { AreMembers self.now }
     {
-        self.members.get(term.number()).copied().unwrap_or(false)
+        match self.members.get(term.number()) {
+            Some(mark) => *mark,
+            None => false,
+        }
     }
 
     /// Lists a pair. `uses` has the number of queries of each term and affects only speed.
@@ -166,10 +204,15 @@ impl ListedPairs {
         ensures limit { self.new.limit ≡ self.old.limit }
         ensures members { AreMembers self.new }
     {
-        note_all(&mut self.members, pair.left.as_slice())?;
-        note_all(&mut self.members, pair.right.as_slice())?;
         let place = self.pairs.len();
-        self.index.add(alloc, uses, &pair, place)?;
+        note_pair(
+            alloc,
+            uses,
+            &mut self.members,
+            &mut self.index,
+            &pair,
+            place,
+        )?;
         self.pairs.push(pair)?;
         Ok(())
     }

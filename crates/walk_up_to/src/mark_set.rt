@@ -22,12 +22,23 @@ const CASE_COST: usize = 50;
 
 /// The marks, the marked terms, for each id the number of queries whose set had its term, as far as counted, and the
 /// cost of the walk so far.
-#[derive(Drop)]
 pub(crate) struct MarkSet {
     marks: Vec<bool>,
     terms: Vec<TermId>,
     uses: Vec<usize>,
     cost: usize,
+}
+
+// Explicit, so that it is proved once and not at each end of each function that owns a set.
+impl Drop for MarkSet {
+    fn drop(self) {
+        let MarkSet {
+            marks: _marks,
+            terms: _terms,
+            uses: _uses,
+            cost: _,
+        } = self;
+    }
 }
 
 impl Model for MarkSet {
@@ -154,7 +165,10 @@ impl MarkSet {
     pub(crate) fn has(&self, term: TermId) -> bool
         ensures { result ≡ slice_index_or self.now.marks term false }
     {
-        self.marks.get(term.number()).copied().unwrap_or(false)
+        match self.marks.get(term.number()) {
+            Some(mark) => *mark,
+            None => false,
+        }
     }
 
     /// Marks the term, if it has a mark. Returns whether it is new.

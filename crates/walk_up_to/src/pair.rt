@@ -26,11 +26,21 @@ impl Model for StepOrigin {
 
 /// A pair of sets of terms, and the step that led to it. The ids of each set are in ascending order. The first pair of
 /// a walk has no origin.
-#[derive(Drop)]
 pub(crate) struct ListedPair {
     pub left: Items<TermId>,
     pub right: Items<TermId>,
     pub origin: Option<StepOrigin>,
+}
+
+// Explicit, so that it is proved once and not at each end of each function that owns a pair.
+impl Drop for ListedPair {
+    fn drop(self) {
+        let ListedPair {
+            left: _left,
+            right: _right,
+            origin: _origin,
+        } = self;
+    }
 }
 
 impl Model for ListedPair {
@@ -67,7 +77,7 @@ impl ListedPair {
 
 /// One set of a listed pair, by the place of the pair, with one of its members as an optional witness. A set of terms
 /// without the witness does not contain the set.
-#[derive(Clone, Copy, Debug)]
+#[derive(Clone, Copy)]
 pub(crate) struct PairSide {
     pub place: usize,
     pub side: Side,
@@ -81,6 +91,19 @@ fn copy_ids(alloc: Global, ids: &[TermId]) -> Result<Items<TermId>, NoMemory>
     Ok(Items::of(Vec::from_slice(alloc, ids)?))
 }
 
+// Returns the pair as a pair of a certificate, without a test.
+fn stored_pair_of(alloc: Global, pair: &ListedPair) -> Result<StoredPair, NoMemory>
+    ensures { IfOk result (λ stored. stored ≡ untested_of pair.now) }
+{
+    let left = copy_ids(alloc, pair.left.as_slice())?;
+    let right = copy_ids(alloc, pair.right.as_slice())?;
+    Ok(StoredPair {
+        left,
+        right,
+        test: None,
+    })
+}
+
 /// Returns the listed pairs as pairs of a certificate, without tests.
 pub(crate) fn stored_pairs_of(
     alloc: Global,
@@ -90,11 +113,7 @@ pub(crate) fn stored_pairs_of(
 {
     let mut list = Vec::new(alloc);
     for pair in pairs {
-        list.push(StoredPair {
-            left: copy_ids(alloc, pair.left.as_slice())?,
-            right: copy_ids(alloc, pair.right.as_slice())?,
-            test: None,
-        })?;
+        list.push(stored_pair_of(alloc, pair)?)?;
     }
     Ok(list)
 }

@@ -17,7 +17,10 @@ use walk_pairs::Side;
 fn is_universal(marked: &MarkSet, universal: Option<TermId>) -> bool
     ensures { result ≡ option_map_or (λ u. slice_index_or marked.now.marks u false) universal false }
 {
-    universal.is_some_and(|term| marked.has(term))
+    match universal {
+        Some(term) => marked.has(term),
+        None => false,
+    }
 }
 
 // Whether the universal term is marked, or all targets are.
@@ -31,7 +34,10 @@ fn is_reached(marked: &MarkSet, universal: Option<TermId>, targets: &[TermId]) -
 fn lacks(marked: &MarkSet, witness: Option<TermId>) -> bool
     ensures { result ≡ option_map_or (λ w. not (slice_index_or marked.now.marks w false)) witness false }
 {
-    witness.is_some_and(|term| !marked.has(term))
+    match witness {
+        Some(term) => !marked.has(term),
+        None => false,
+    }
 }
 
 // Adds the other set of the pair if the set contains this one. Returns whether a term is new.
@@ -211,7 +217,10 @@ fn round(marked: &mut MarkSet, listed: &ListedPairs, targets: &[TermId]) -> Resu
 fn has_universal(listed: &ListedPairs, universal: Option<TermId>) -> bool
     ensures { result ≡ option_map_or (λ u. slice_index_or listed.now.members u false) universal false }
 {
-    universal.is_some_and(|term| listed.has_member(term))
+    match universal {
+        Some(term) => listed.has_member(term),
+        None => false,
+    }
 }
 
 // Whether each target is marked or a member of a pair.

@@ -1,5 +1,5 @@
 //! The walk over the listed pairs, in order.
-ghost use Rattle.std.specs.Prelude.{◌≡◌, ◌≢◌, ◌<◌, ◌+◌, ◌∷◌, [], ℕ, length, IfOk, OnOk, MatchOption, Some, Err, IsSome, slice_get};
+ghost use Rattle.std.specs.Prelude.{◌≡◌, ◌≢◌, ◌<◌, ◌+◌, ◌∷◌, [], ℕ, length, IfOk, OnOk, MatchOption, Some, None, Err, IsSome, slice_get};
 ghost use Rattle.kat_model.specs.Problems.{ProblemParts, IsProblem};
 ghost use Rattle.kat_model.specs.Closed.{closed};
 ghost use Rattle.std.specs.Option.{option_map};
@@ -26,11 +26,21 @@ use test_diagrams::Diagrams;
 use walk_pairs::{BothSteps, Difference, actions_in_order, differing_atom, items_of};
 
 /// The state of a walk: the listed pairs, and the derivatives of terms with their diagrams.
-#[derive(Drop)]
 pub(crate) struct Worklist {
     listed: ListedPairs,
     diagrams: Diagrams,
     derivatives: Derivatives,
+}
+
+// Explicit, so that it is proved once and not at each end of each function that owns a walk.
+impl Drop for Worklist {
+    fn drop(self) {
+        let Worklist {
+            listed: _listed,
+            diagrams: _diagrams,
+            derivatives: _derivatives,
+        } = self;
+    }
 }
 
 // Returns the set of one term.
@@ -38,6 +48,19 @@ fn single(alloc: Global, term: TermId) -> Result<Items<TermId>, NoMemory>
     ensures { IfOk result (λ set. set ≡ term ∷ []) }
 {
     Ok(Items::of(vec![in alloc; term]?))
+}
+
+// Returns the pair of two terms.
+fn first_pair(alloc: Global, left: TermId, right: TermId) -> Result<ListedPair, NoMemory>
+    ensures { IfOk result (λ pair. pair ≡ record { left = left ∷ []; right = right ∷ []; origin = None }) }
+{
+    let left = single(alloc, left)?;
+    let right = single(alloc, right)?;
+    Ok(ListedPair {
+        left,
+        right,
+        origin: None,
+    })
 }
 
 impl Worklist {
@@ -60,16 +83,9 @@ impl Worklist {
             → option_map (tree_at store) universal ≡ (closed q).universal
             → IsUnderWay q store w 0) }
     {
+        let pair = first_pair(alloc, left, right)?;
         let mut listed = ListedPairs::new(alloc, universal, count, limit);
-        listed.list(
-            alloc,
-            &[],
-            ListedPair {
-                left: single(alloc, left)?,
-                right: single(alloc, right)?,
-                origin: None,
-            },
-        )?;
+        listed.list(alloc, &[], pair)?;
         Ok(Worklist {
             listed,
             diagrams: Diagrams::new(alloc, tests)?,

@@ -1,5 +1,5 @@
 -- Walks as the program stores them, as ids of terms, and the effect of the cases of one action on them.
-use Rattle.std.specs.Prelude.{◌≡◌, ◌<◌, ℕ, Bool, List, length, slice_get, Option, Some}
+use Rattle.std.specs.Prelude.{◌≡◌, ◌<◌, ◌⊎◌, ℕ, Bool, List, length, slice_get, Option, Some}
 use Rattle.std.specs.Option.{option_map}
 use Rattle.kat_model.specs.Members.{Has, SameMembers}
 use Rattle.kat_model.specs.Steps.{Atom, set_next}
@@ -8,7 +8,7 @@ use Rattle.kat_model.specs.Closed.{closed}
 use Rattle.kat_model.specs.Pairs.{SetPair}
 use Rattle.term_nodes.specs.NodeLists.{NodeParts, AreNodes}
 use Rattle.term_nodes.specs.NodeTrees.{tree_at}
-use Rattle.test_diagrams.specs.Functions.{DiagramsParts}
+use Rattle.test_diagrams.specs.Functions.{DiagramsParts, KeepsFunctions}
 use Rattle.partial_derivs.specs.Moves.{IsTermOf}
 use Rattle.walk_up_to.specs.Walks.{Entry, IsWalk}
 use Rattle.walk_up_to.specs.Working.Visits.{IsVisited}
@@ -73,3 +73,25 @@ PassesLimit d source decided items old =
     → slice_get (entries_of store old.pairs) source.place ≡ Some from
     → StandFor q store d items from.pair source.act decided
     → IsPastLimit q old.limit
+
+-- two cases are visited one after the other
+pub record VisitsInTurn (d : DiagramsParts) (source : StepSource) (first_decided : List (Option Bool)) (first : List Item) (second_decided : List (Option Bool)) (second : List Item) (old new : ListedPairsParts) : Type 0 where
+  pub between : DiagramsParts
+  pub middle : ListedPairsParts
+  pub kept : KeepsFunctions d between
+  pub visits_first : Visits d source first_decided first old middle
+  pub visits_second : Visits between source second_decided second middle new
+
+-- the first of two cases is visited, and then the second needs more pairs than may be listed
+pub record PassesAfter (d : DiagramsParts) (source : StepSource) (first_decided : List (Option Bool)) (first : List Item) (second_decided : List (Option Bool)) (second : List Item) (old : ListedPairsParts) : Type 0 where
+  pub between : DiagramsParts
+  pub middle : ListedPairsParts
+  pub kept : KeepsFunctions d between
+  pub limit : middle.limit ≡ old.limit
+  pub visits_first : Visits d source first_decided first old middle
+  pub passes : PassesLimit between source second_decided second middle
+
+-- one of two cases that are visited one after the other needs more pairs than may be listed
+abbrev pub PassesInTurn : DiagramsParts → StepSource → List (Option Bool) → List Item → List (Option Bool) → List Item → ListedPairsParts → Type 0
+PassesInTurn d source first_decided first second_decided second old =
+    PassesLimit d source first_decided first old ⊎ PassesAfter d source first_decided first second_decided second old
