@@ -27,6 +27,16 @@ module _ (most : ℕ) where
   append_all-append table [] ys = refl
   append_all-append table (x ∷ xs) ys = append_all-append (cond (is_appended most table x) (table ++ x ∷ []) table) xs ys
 
+  -- one step of a loop that appends the comparisons of each element
+  pub appended_more : {X : Type 0} (g : X → List Atomic) (xs : List X) (i : ℕ) (x : X) → i < length xs → x ≡ get_or xs i x → (rows new : List Atomic) →
+      new ≡ append_all most rows (g x) → append_all most new (flat_map g (drop (i + 1) xs)) ≡ append_all most rows (flat_map g (drop i xs))
+  appended_more g xs i x lt e rows new f =
+      let left : drop i xs ≡ x ∷ drop (i + 1) xs = drop_more xs i x lt ∙ ap (λ y. y ∷ drop (i + 1) xs) (sym e) in
+      rw (f, left) (sym (append_all-append rows (g x) (flat_map g (drop (i + 1) xs))))
+
+  pub appended_all : {X : Type 0} (g : X → List Atomic) (xs : List X) (i : ℕ) → length xs ≤ i → (rows end : List Atomic) → append_all most rows (flat_map g (drop i xs)) ≡ end → rows ≡ end
+  appended_all g xs i le rows end e = ap (λ l. append_all most rows (flat_map g l)) (sym (drop_all i xs le)) ∙ e
+
   -- the reasons why a comparison is not appended
   abbrev Refused : List Atomic → Atomic → Type 0
   Refused table a = (list_any (is_same_comparison a) table ≡ true) ⊎ ((nat_le (atomic_nodes a) MAX_APPENDED_NODES ≡ false) ⊎ (most ≤ length table))
@@ -161,10 +171,7 @@ module _ (most : ℕ) where
     pub substitutions_go_on : (bs : List Assignment) (fresh : List Atomic) (i : ℕ) (a : Assignment) → i < length bs → a ≡ get_or bs i a → (rows new : List Atomic) →
         new ≡ append_all most rows (flat_map (λ phi. atomics (substituted m a.var a.form phi)) fresh) →
         append_all most new (substitutions m (drop (i + 1) bs) fresh) ≡ append_all most rows (substitutions m (drop i bs) fresh)
-    substitutions_go_on bs fresh i a lt e rows new f =
-        let g : Atomic → List Atomic = λ phi. atomics (substituted m a.var a.form phi) in
-        let left : drop i bs ≡ a ∷ drop (i + 1) bs = drop_more bs i a lt ∙ ap (λ y. y ∷ drop (i + 1) bs) (sym e) in
-        rw (f, left) (sym (append_all-append rows (flat_map g fresh) (substitutions m (drop (i + 1) bs) fresh)))
+    substitutions_go_on bs fresh i a lt e rows new f = appended_more (λ b. flat_map (λ phi. atomics (substituted m b.var b.form phi)) fresh) bs i a lt e rows new f
 
     -- one step of a loop of rounds
     pub rounds_go_on : (count i done : ℕ) (first rows fresh new : List Atomic) → i < count → fresh ≡ drop done rows → AllRefused rows (substitutions m assigned (take done rows)) →

@@ -4,6 +4,8 @@ pub mod AppendedRows
 pub mod FlowLists
 pub mod ConstantForms
 pub mod NumberedRows
+pub mod GatheredRows
+pub mod SharedTests
 pub mod JoinedHypotheses
 pub mod ShownRows
 pub mod TestRanges

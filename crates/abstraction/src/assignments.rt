@@ -31,6 +31,21 @@ pub(crate) fn assigned_form(
     Ok(AssignedForm { var, form })
 }
 
+// Adds the assignment of an expression to a variable.
+fn add_assignment(
+    alloc: Global,
+    width: Width,
+    most: usize,
+    var: usize,
+    expr: &Expr,
+    rows: &mut Vec<AssignedForm>,
+) -> Result<(), NoMemory>
+    ensures { OnOk result (rows.new.items ≡ with_all_new_within most is_same_assignment rows.old.items (record { var = var; form = normal_form (modulus width) (expr_tree expr.now) } ∷ [])) }
+{
+    let assigned = assigned_form(alloc, width, var, expr)?;
+    add_row(rows, most, assigned)
+}
+
 #[cycle(assignments)]
 fn add_stmt(
     alloc: Global,
@@ -47,8 +62,7 @@ fn add_stmt(
             if rows.len() > most {
                 return Ok(());
             }
-            let assigned = assigned_form(alloc, width, *x, e)?;
-            add_row(rows, most, assigned)
+            add_assignment(alloc, width, most, *x, e, rows)
         }
         Stmt::If(_, p, q) => {
             add_prog(alloc, width, most, p, rows)?;
@@ -103,11 +117,7 @@ fn add_goal(
     ensures { OnOk result (rows.new.items ≡ with_all_new_within most is_same_assignment rows.old.items (goal_assignments (modulus width) (goal_tree goal.now))) }
 {
     match goal {
-        Goal::Equal(left, right) => {
-            add_side(alloc, width, most, left, rows)?;
-            add_side(alloc, width, most, right, rows)
-        }
-        Goal::Below(left, right) => {
+        Goal::Equal(left, right) | Goal::Below(left, right) => {
             add_side(alloc, width, most, left, rows)?;
             add_side(alloc, width, most, right, rows)
         }

@@ -11,7 +11,7 @@ ghost use Rattle.linear_forms.specs.Sameness.{is_same_comparison};
 ghost use Rattle.unique_rows.specs.UniqueRows.{with_all_new_within};
 
 use file_parts::{Goal, Side};
-use kat_model::{Cond, NoMemory, Width};
+use kat_model::{Cond, Expr, NoMemory, Rel, Width};
 use linear_forms::{Atomic, CondForm, normal_cond};
 use std::alloc::Global;
 use unique_rows::add_row;
@@ -23,9 +23,24 @@ fn add_atomic(cond: CondForm, most: usize, rows: &mut Vec<Atomic>) -> Result<(),
 {
     match cond {
         CondForm::True | CondForm::False => Ok(()),
-        CondForm::Pos(atomic) => add_row(rows, most, atomic),
-        CondForm::Neg(atomic) => add_row(rows, most, atomic),
+        CondForm::Pos(atomic) | CondForm::Neg(atomic) => add_row(rows, most, atomic),
     }
+}
+
+// Adds the comparison of two expressions, unless it is constant.
+fn add_comparison(
+    alloc: Global,
+    width: Width,
+    most: usize,
+    rel: Rel,
+    left: &Expr,
+    right: &Expr,
+    rows: &mut Vec<Atomic>,
+) -> Result<(), NoMemory>
+    ensures { OnOk result (rows.new.items ≡ with_all_new_within most is_same_comparison rows.old.items (atomics (comparison_form (modulus width) rel (expr_tree left.now) (expr_tree right.now)))) }
+{
+    let form = normal_cond(alloc, width, rel, left, right)?;
+    add_atomic(form, most, rows)
 }
 
 fn add_cond(
@@ -43,15 +58,10 @@ fn add_cond(
             if rows.len() > most {
                 return Ok(());
             }
-            let form = normal_cond(alloc, width, *rel, e, f)?;
-            add_atomic(form, most, rows)
+            add_comparison(alloc, width, most, *rel, e, f, rows)
         }
         Cond::Not(b) => add_cond(alloc, width, most, b, rows),
-        Cond::And(b, c) => {
-            add_cond(alloc, width, most, b, rows)?;
-            add_cond(alloc, width, most, c, rows)
-        }
-        Cond::Or(b, c) => {
+        Cond::And(b, c) | Cond::Or(b, c) => {
             add_cond(alloc, width, most, b, rows)?;
             add_cond(alloc, width, most, c, rows)
         }
@@ -128,11 +138,7 @@ fn add_goal(
     ensures { OnOk result (rows.new.items ≡ with_all_new_within most is_same_comparison rows.old.items (goal_comparisons (modulus width) (goal_tree goal.now))) }
 {
     match goal {
-        Goal::Equal(left, right) => {
-            add_side(alloc, width, most, left, rows)?;
-            add_side(alloc, width, most, right, rows)
-        }
-        Goal::Below(left, right) => {
+        Goal::Equal(left, right) | Goal::Below(left, right) => {
             add_side(alloc, width, most, left, rows)?;
             add_side(alloc, width, most, right, rows)
         }

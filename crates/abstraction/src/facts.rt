@@ -1,12 +1,13 @@
 //! Facts of arithmetic about some comparisons together, each as a term that relates no stores.
-ghost use Rattle.std.specs.Prelude.{◌≡◌, [], ◌∷◌, ◌++◌, ◌||◌, Option, IfOk, OnOk};
+ghost use Rattle.std.specs.Prelude.{◌≡◌, [], ◌∷◌, ◌++◌, ◌&&◌, ◌||◌, nat_lt, Option, IfOk, OnOk};
 ghost use Rattle.kat_model.specs.Stores.{modulus};
-ghost use Rattle.kat_model.specs.Trees.{prim, complement, test, kat_tree};
+ghost use Rattle.kat_model.specs.Trees.{prim, complement, test, product, kat_tree};
 ghost use Rattle.linear_forms.specs.Arithmetic.{form_sum, form_difference};
 ghost use Rattle.linear_forms.specs.Comparisons.{canonical};
 ghost use Rattle.linear_forms.specs.Sameness.{is_same_form};
 ghost use Rattle.abstraction.specs.Facts.{excludes, implies, one_holds, is_nonzero, are_less, fact_one, fact_two, fact_three, fact_four, decided_by, fact_five, fact_six};
 ghost use Rattle.abstraction.specs.Working.ConstantForms.{constant_value};
+ghost use Rattle.abstraction.specs.Working.PairTests.{are_opposite, are_strict_and_equal};
 
 use crate::rows::Rule;
 use kat_model::{Kat, NoMemory, Test, Width};
@@ -15,10 +16,19 @@ use std::alloc::Global;
 use std::marker::Model;
 
 /// A term that is stated or derived to be 0, and the reason.
-#[derive(Drop)]
 pub(crate) struct RuledTerm {
     pub(crate) rule: Rule,
     pub(crate) term: Kat,
+}
+
+// Explicit, so that it is proved once and not at each end of each function that owns one.
+impl Drop for RuledTerm {
+    fn drop(self) {
+        let RuledTerm {
+            rule: _,
+            term: _term,
+        } = self;
+    }
 }
 
 impl Model for RuledTerm {
@@ -32,6 +42,19 @@ impl Model for RuledTerm {
     ghost coded = { Prim.hlevel (codes, coded_term) };
 
     ghost view = { λ h. record { rule = h.rule; term = kat_tree h.term } };
+}
+
+impl RuledTerm {
+    ghost use Rattle.std.specs.Prelude.{◌≡◌};
+    ghost use Rattle.kat_model.specs.Trees.{kat_tree};
+
+    pub(crate) fn into_parts(self) -> (Rule, Kat)
+        ensures rule { result.0 ≡ self.rule }
+        ensures term { kat_tree result.1 ≡ self.term }
+    {
+        let RuledTerm { rule, term } = self;
+        (rule, term)
+    }
 }
 
 /// A comparison with its number among the tests.
@@ -79,14 +102,20 @@ fn implies(alloc: Global, i: usize, j: usize) -> Result<Kat, NoMemory>
     Kat::new_seq(alloc, Kat::Test(Test::Prim(i)), fails)
 }
 
+fn neither(alloc: Global, i: usize, j: usize) -> Result<Kat, NoMemory>
+    ensures { IfOk result (λ e. kat_tree e ≡ product (test (complement (prim i))) (test (complement (prim j)))) }
+{
+    let first = opposite(alloc, i)?;
+    let second = opposite(alloc, j)?;
+    Kat::new_seq(alloc, first, second)
+}
+
 fn one_holds(alloc: Global, i: usize, j: usize, k: usize) -> Result<Kat, NoMemory>
     ensures { IfOk result (λ e. kat_tree e ≡ one_holds i j k) }
 {
     let first = opposite(alloc, i)?;
-    let second = opposite(alloc, j)?;
-    let third = opposite(alloc, k)?;
-    let end = Kat::new_seq(alloc, second, third)?;
-    Kat::new_seq(alloc, first, end)
+    let others = neither(alloc, j, k)?;
+    Kat::new_seq(alloc, first, others)
 }
 
 // Returns the number of a constant form.
@@ -151,6 +180,49 @@ fn is_difference(
     Ok(is_same_form(zero, &canonical))
 }
 
+// Appends that tests i and j exclude one another.
+fn add_exclusion(
+    alloc: Global,
+    rule: Rule,
+    i: usize,
+    j: usize,
+    hyps: &mut Vec<RuledTerm>,
+) -> Result<(), NoMemory>
+    ensures { OnOk result (hyps.new.items ≡ hyps.old.items ++ record { rule = rule; term = excludes i j } ∷ []) }
+{
+    push_hyp(hyps, rule, excludes(alloc, i, j)?)
+}
+
+// Appends that test i implies test j.
+fn add_implication(
+    alloc: Global,
+    rule: Rule,
+    i: usize,
+    j: usize,
+    hyps: &mut Vec<RuledTerm>,
+) -> Result<(), NoMemory>
+    ensures { OnOk result (hyps.new.items ≡ hyps.old.items ++ record { rule = rule; term = implies i j } ∷ []) }
+{
+    push_hyp(hyps, rule, implies(alloc, i, j)?)
+}
+
+// Whether test i comes before test j, and their forms are not both 0.
+fn is_fact_one(
+    alloc: Global,
+    width: Width,
+    i: usize,
+    j: usize,
+    left: &Form,
+    right: &Form,
+) -> Result<bool, NoMemory>
+    ensures { IfOk result (λ b. b ≡ (nat_lt i j && (is_nonzero (form_difference (modulus width) left.now right.now) || is_nonzero (form_sum (modulus width) left.now right.now)))) }
+{
+    if i >= j {
+        return Ok(false);
+    }
+    are_apart(alloc, width, left, right)
+}
+
 /// F1: two forms are not both 0.
 pub(crate) fn add_fact_one(
     alloc: Global,
@@ -166,13 +238,41 @@ pub(crate) fn add_fact_one(
     };
     let i = first.number;
     let j = second.number;
-    if i >= j || !are_apart(alloc, width, f, g)? {
+    if !is_fact_one(alloc, width, i, j, f, g)? {
         return Ok(());
     }
-    push_hyp(hyps, Rule::F1(i, j), excludes(alloc, i, j)?)
+    add_exclusion(alloc, Rule::F1(i, j), i, j, hyps)
+}
+
+// Whether the first comparison comes before the second, and they are `f < g` and `g < f`.
+fn are_opposite(first: &NumberedTest<'_>, second: &NumberedTest<'_>) -> bool
+    ensures { result ≡ are_opposite first.now second.now }
+{
+    match (first.atomic, second.atomic) {
+        (Atomic::Less(f, g), Atomic::Less(d, e)) => {
+            first.number < second.number && is_same_form(f, e) && is_same_form(g, d)
+        }
+        _ => false,
+    }
+}
+
+// Whether the comparisons are `f < g` and `f == g`.
+fn are_strict_and_equal(
+    alloc: Global,
+    width: Width,
+    first: &NumberedTest<'_>,
+    second: &NumberedTest<'_>,
+) -> Result<bool, NoMemory>
+    ensures { IfOk result (λ b. b ≡ are_strict_and_equal (modulus width) first.now second.now) }
+{
+    match (first.atomic, second.atomic) {
+        (Atomic::Less(f, g), Atomic::Zero(z)) => is_difference(alloc, width, z, f, g),
+        _ => Ok(false),
+    }
 }
 
 /// F2: `f < g` and `g < f` exclude one another.
+#[tactic(auto, using(crate::proofs::SharedTests::two_by_test))]
 pub(crate) fn add_fact_two(
     alloc: Global,
     first: &NumberedTest<'_>,
@@ -181,18 +281,16 @@ pub(crate) fn add_fact_two(
 ) -> Result<(), NoMemory>
     ensures { OnOk result (hyps.new.items ≡ hyps.old.items ++ fact_two first.now second.now) }
 {
-    let (Atomic::Less(f, g), Atomic::Less(d, e)) = (first.atomic, second.atomic) else {
-        return Ok(());
-    };
-    let i = first.number;
-    let j = second.number;
-    if i >= j || !is_same_form(f, e) || !is_same_form(g, d) {
+    if !are_opposite(first, second) {
         return Ok(());
     }
-    push_hyp(hyps, Rule::F2(i, j), excludes(alloc, i, j)?)
+    let i = first.number;
+    let j = second.number;
+    add_exclusion(alloc, Rule::F2(i, j), i, j, hyps)
 }
 
 /// F3: `f < g` and `f == g` exclude one another.
+#[tactic(auto, using(crate::proofs::SharedTests::three_by_test))]
 pub(crate) fn add_fact_three(
     alloc: Global,
     width: Width,
@@ -202,15 +300,12 @@ pub(crate) fn add_fact_three(
 ) -> Result<(), NoMemory>
     ensures { OnOk result (hyps.new.items ≡ hyps.old.items ++ fact_three (modulus width) first.now second.now) }
 {
-    let (Atomic::Less(f, g), Atomic::Zero(z)) = (first.atomic, second.atomic) else {
-        return Ok(());
-    };
-    let i = first.number;
-    let j = second.number;
-    if !is_difference(alloc, width, z, f, g)? {
+    if !are_strict_and_equal(alloc, width, first, second)? {
         return Ok(());
     }
-    push_hyp(hyps, Rule::F3(i, j), excludes(alloc, i, j)?)
+    let i = first.number;
+    let j = second.number;
+    add_exclusion(alloc, Rule::F3(i, j), i, j, hyps)
 }
 
 /// F4: `f < c` implies `f < d` if c is less than d.
@@ -230,7 +325,7 @@ pub(crate) fn add_fact_four(
     if !is_same_form(f, g) || !are_less(c, d) {
         return Ok(());
     }
-    push_hyp(hyps, Rule::F4(i, j), implies(alloc, i, j)?)
+    add_implication(alloc, Rule::F4(i, j), i, j, hyps)
 }
 
 // Appends that test i implies or excludes test j, which compares `form` with `bound` where test i holds, if both forms
@@ -248,9 +343,9 @@ fn add_decided(
     match (constant_value(form), constant_value(bound)) {
         (Some(c), Some(d)) => {
             if c < d {
-                push_hyp(hyps, Rule::F5(i, j), implies(alloc, i, j)?)
+                add_implication(alloc, Rule::F5(i, j), i, j, hyps)
             } else {
-                push_hyp(hyps, Rule::F5(i, j), excludes(alloc, i, j)?)
+                add_exclusion(alloc, Rule::F5(i, j), i, j, hyps)
             }
         }
         _ => Ok(()),
@@ -278,7 +373,21 @@ pub(crate) fn add_fact_five(
     add_decided(alloc, i, j, &total, d, hyps)
 }
 
+// Appends that one of tests i, j and k holds.
+fn add_choice(
+    alloc: Global,
+    i: usize,
+    j: usize,
+    k: usize,
+    hyps: &mut Vec<RuledTerm>,
+) -> Result<(), NoMemory>
+    ensures { OnOk result (hyps.new.items ≡ hyps.old.items ++ record { rule = Rule.F6 i j k; term = one_holds i j k } ∷ []) }
+{
+    push_hyp(hyps, Rule::F6(i, j, k), one_holds(alloc, i, j, k)?)
+}
+
 /// F6: one of `f < g`, `g < f` and `f == g` holds.
+#[tactic(auto, using(crate::proofs::SharedTests::six_by_tests))]
 pub(crate) fn add_fact_six(
     alloc: Global,
     width: Width,
@@ -289,21 +398,11 @@ pub(crate) fn add_fact_six(
 ) -> Result<(), NoMemory>
     ensures { OnOk result (hyps.new.items ≡ hyps.old.items ++ fact_six (modulus width) first.now second.now third.now) }
 {
-    let (Atomic::Less(f, g), Atomic::Less(d, e), Atomic::Zero(z)) = (
-        first.atomic,
-        second.atomic,
-        third.atomic,
-    ) else {
-        return Ok(());
-    };
-    let i = first.number;
-    let j = second.number;
-    let k = third.number;
-    if i >= j || !is_same_form(f, e) || !is_same_form(g, d) {
+    if !are_opposite(first, second) {
         return Ok(());
     }
-    if !is_difference(alloc, width, z, f, g)? {
+    if !are_strict_and_equal(alloc, width, first, third)? {
         return Ok(());
     }
-    push_hyp(hyps, Rule::F6(i, j, k), one_holds(alloc, i, j, k)?)
+    add_choice(alloc, first.number, second.number, third.number, hyps)
 }

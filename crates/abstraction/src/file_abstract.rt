@@ -69,8 +69,7 @@ fn action_rows(
 {
     let mut rows = declared_actions(alloc, declared)?;
     for assigned in assignments {
-        let AssignedForm { var, form } = assigned;
-        rows.push(ActionRow::Assign(var, form))?;
+        rows.push(assigned.into_row())?;
     }
     Ok(rows)
 }
@@ -80,7 +79,7 @@ fn push_parts(rules: &mut Vec<Rule>, terms: &mut Vec<Kat>, hyp: RuledTerm) -> Re
     ensures rule { OnOk result (rules.new.items ≡ rules.old.items ++ hyp.rule ∷ []) }
     ensures term { OnOk result (map kat_tree terms.new.items ≡ map kat_tree terms.old.items ++ hyp.term ∷ []) }
 {
-    let RuledTerm { rule, term } = hyp;
+    let (rule, term) = hyp.into_parts();
     rules.push(rule)?;
     Ok(terms.push(term)?)
 }

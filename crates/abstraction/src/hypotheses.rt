@@ -16,7 +16,7 @@ use crate::facts::{
 use crate::rows::Rule;
 use crate::tables::{AssignedForm, RowTables};
 use kat_model::{Kat, NoMemory, Test, Width};
-use linear_forms::subst;
+use linear_forms::{CondForm, subst};
 use std::alloc::Global;
 use std::marker::Model;
 
@@ -60,6 +60,31 @@ fn stated_hyps(alloc: Global, terms: &[Kat]) -> Result<Vec<RuledTerm>, NoMemory>
     Ok(hyps)
 }
 
+// Builds the term of the runs of action i that begin in one test and end in another.
+fn runs_between(alloc: Global, start: Test, i: usize, end: Test) -> Result<Kat, NoMemory>
+    ensures { IfOk result (λ e. kat_tree e ≡ product (test (test_tree start)) (product (act i) (test (test_tree end)))) }
+{
+    let run = Kat::new_seq(alloc, Kat::Act(i), Kat::Test(end))?;
+    Kat::new_seq(alloc, Kat::Test(start), run)
+}
+
+// Builds the term of the runs of action i from psi that end outside test j.
+fn leaving(alloc: Global, i: usize, j: usize, psi: &Test) -> Result<Kat, NoMemory>
+    ensures { IfOk result (λ e. kat_tree e ≡ product (test (test_tree psi.now)) (product (act i) (test (complement (prim j))))) }
+{
+    let holds = psi.copy(alloc)?;
+    let outside = Test::new_not(alloc, Test::Prim(j))?;
+    runs_between(alloc, holds, i, outside)
+}
+
+// Builds the term of the runs of action i from the complement of psi that end in test j.
+fn entering(alloc: Global, i: usize, j: usize, psi: Test) -> Result<Kat, NoMemory>
+    ensures { IfOk result (λ e. kat_tree e ≡ product (test (complement (test_tree psi))) (product (act i) (test (prim j)))) }
+{
+    let fails = Test::new_not(alloc, psi)?;
+    runs_between(alloc, fails, i, Test::Prim(j))
+}
+
 // Appends that no run of action i from psi ends outside test j, and that no run from the complement of psi ends in it.
 fn add_kept(
     alloc: Global,
@@ -70,21 +95,26 @@ fn add_kept(
 ) -> Result<(), NoMemory>
     ensures { OnOk result (hyps.new.items ≡ hyps.old.items ++ keeps_before i j (Some (test_tree psi))) }
 {
-    let holds = Kat::Test(psi.copy(alloc)?);
-    let left = Kat::Test(Test::new_not(alloc, Test::Prim(j))?);
-    let leaving = Kat::new_seq(alloc, Kat::Act(i), left)?;
-    push_hyp(
-        hyps,
-        Rule::Assign(i, j),
-        Kat::new_seq(alloc, holds, leaving)?,
-    )?;
-    let fails = Kat::Test(Test::new_not(alloc, psi)?);
-    let entering = Kat::new_seq(alloc, Kat::Act(i), Kat::Test(Test::Prim(j)))?;
-    push_hyp(
-        hyps,
-        Rule::Assign(i, j),
-        Kat::new_seq(alloc, fails, entering)?,
-    )
+    let rule = Rule::Assign(i, j);
+    push_hyp(hyps, rule, leaving(alloc, i, j, &psi)?)?;
+    push_hyp(hyps, rule, entering(alloc, i, j, psi)?)
+}
+
+// Appends the hypotheses from action i and test j, which holds after the action exactly when `before` holds before it.
+fn add_kept_if_test(
+    alloc: Global,
+    tables: &RowTables,
+    i: usize,
+    j: usize,
+    before: &CondForm,
+    hyps: &mut Vec<RuledTerm>,
+) -> Result<(), NoMemory>
+    ensures { OnOk result (hyps.new.items ≡ hyps.old.items ++ keeps_before i j (form_test tables.now before.now)) }
+{
+    match form_test(alloc, tables, before)? {
+        Some(psi) => add_kept(alloc, i, j, psi, hyps),
+        None => Ok(()),
+    }
 }
 
 // Appends the hypotheses from an assignment and a comparison.
@@ -105,10 +135,7 @@ fn add_assignment_facts(
         assigned.var,
         &assigned.form,
     )?;
-    match form_test(alloc, tables, &before)? {
-        Some(psi) => add_kept(alloc, action.number, row.number, psi, hyps),
-        None => Ok(()),
-    }
+    add_kept_if_test(alloc, tables, action.number, row.number, &before, hyps)
 }
 
 fn add_facts_of_assignment(

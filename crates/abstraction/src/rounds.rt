@@ -29,8 +29,7 @@ fn append_atomic(rows: &mut Vec<Atomic>, most: usize, cond: CondForm) -> Result<
 {
     match cond {
         CondForm::True | CondForm::False => Ok(()),
-        CondForm::Pos(atomic) => append_comparison(rows, most, atomic),
-        CondForm::Neg(atomic) => append_comparison(rows, most, atomic),
+        CondForm::Pos(atomic) | CondForm::Neg(atomic) => append_comparison(rows, most, atomic),
     }
 }
 

@@ -2,7 +2,6 @@
 use linear_forms::{Atomic, Form};
 
 /// The meaning of an action.
-#[derive(Drop)]
 pub enum ActionRow {
     /// A declared action, by its number in the file.
     Named(usize),
@@ -10,8 +9,17 @@ pub enum ActionRow {
     Assign(usize, Form),
 }
 
+// Explicit, so that it is proved once and not at each end of each function that owns a row.
+impl Drop for ActionRow {
+    fn drop(self) {
+        match self {
+            ActionRow::Named(_) => {}
+            ActionRow::Assign(_, _form) => {}
+        }
+    }
+}
+
 /// The meaning of a test.
-#[derive(Drop)]
 pub enum TestRow {
     /// A declared test, by its number in the file.
     Named(usize),
@@ -19,10 +27,20 @@ pub enum TestRow {
     Compare(Atomic),
 }
 
+// Explicit, as for the meaning of an action.
+impl Drop for TestRow {
+    fn drop(self) {
+        match self {
+            TestRow::Named(_) => {}
+            TestRow::Compare(_atomic) => {}
+        }
+    }
+}
+
 /// The reason for a hypothesis: the text states it, under this number; a comparison holds after an action exactly when
 /// the substituted one holds before it; or comparisons, given by their numbers among the tests, exclude or imply one
 /// another.
-#[derive(Clone, Copy, PartialEq, Eq, Debug)]
+#[derive(Clone, Copy, PartialEq, Eq)]
 pub enum Rule {
     Stated(usize),
     /// The numbers of an action and of a test.

@@ -1,16 +1,26 @@
 //! The tables of an abstraction: the comparisons that are its tests, and the assignments that are its actions.
 ghost use Rattle.std.specs.Prelude.{◌≡◌, option_map};
 
+use crate::rows::ActionRow;
 use kat_model::Width;
 use linear_forms::{Atomic, Form, same_form};
 use std::marker::Model;
 use unique_rows::{TableRow, place_of};
 
 /// An assignment of a form to a variable, by its number.
-#[derive(Drop)]
 pub(crate) struct AssignedForm {
     pub(crate) var: usize,
     pub(crate) form: Form,
+}
+
+// Explicit, so that it is proved once and not at each end of each function that owns one.
+impl Drop for AssignedForm {
+    fn drop(self) {
+        let AssignedForm {
+            var: _,
+            form: _form,
+        } = self;
+    }
 }
 
 impl Model for AssignedForm {
@@ -27,6 +37,14 @@ impl Model for AssignedForm {
 
 impl AssignedForm {
     ghost use Rattle.abstraction.specs.Tables.{is_same_assignment};
+
+    /// Makes it the meaning of an action.
+    pub(crate) fn into_row(self) -> ActionRow
+        ensures { result ≡ ActionRow.Assign self.var self.form }
+    {
+        let AssignedForm { var, form } = self;
+        ActionRow::Assign(var, form)
+    }
 
     /// Whether it assigns this form to this variable.
     pub(crate) fn assigns(&self, var: usize, form: &Form) -> bool

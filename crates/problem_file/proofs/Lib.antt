@@ -1,6 +1,8 @@
 pub mod Lists
 pub mod Results
 pub mod NameWalks
+pub mod ReadFaults
+pub mod ItemParts
 pub mod PhraseFronts
 pub mod Appends
 pub mod FoundItems

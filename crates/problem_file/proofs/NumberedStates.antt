@@ -34,7 +34,7 @@ use Rattle.problem_file.specs.Sound.{with_test, with_action, with_var, grown, Ea
 use Rattle.file_parts.specs.Ranges.{IsExprInRange, IsCondInRange, IsProgInRange, AreProgsInRange, IsSideInRange, IsGoalInRange, AreNamed, AreNamesOfProgs, IsNumbered}
 use Rattle.problem_file.specs.Reads.{Says}
 use Rattle.problem_file.specs.Laws.{AreInRanges, AreAllInRanges}
-use Rattle.problem_file.proofs.Numbering.{empty_numbered, test_numbered, action_numbered, var_numbered, prog_numbered, term_numbered}
+use Rattle.problem_file.proofs.Numbering.{same_bound, next_bound, empty_numbered, test_numbered, action_numbered, var_numbered, prog_numbered, term_numbered}
 use Rattle.problem_file.proofs.InRanges.{DefinedInRange, test_of_in, term_in, cond_in}
 use Rattle.problem_file.proofs.BlockRanges.{block_in}
 
@@ -193,16 +193,19 @@ start_ranged limit = record {
   no_name : (i : ℕ) (name : List ℕ) → slice_get [] i ≡ Some name → ⊥
   no_name i name e = let none : slice_get [] i ≡ None = slice_get_past [] i (omega arith) in none-some name (sym none ∙ e)
 
+next_within : (n most : ℕ) → n < most → n + 1 ≤ most
+next_within n most lt = omega arith
+
 test_ranged : (s : State) (l : Leaf) (t : State) → DeclaresTest s l t → Ranged s → Ranged t
 test_ranged s l t made r =
     let m = Test s.tests in
-    let same : s.tests ≤ s.tests + 1 = omega arith in
-    let a : s.actions ≤ s.actions = omega arith in
-    let v : s.vars ≤ s.vars = omega arith in
+    let same = next_bound s.tests in
+    let a = same_bound s.actions in
+    let v = same_bound s.vars in
     subst Ranged (sym made.2) (record {
       numbers = test_numbered s.world s.tests s.actions s.vars (length s.progs) r.numbers (with_test s l.text).world l.text refl;
       defined = defined_more s.tests s.actions s.vars (s.tests + 1) s.actions s.vars same a v s.world r.defined;
-      tests = omega (arith, made.1);
+      tests = next_within s.tests MAX_TESTS made.1;
       actions = r.actions;
       vars = r.vars;
       named_tests = next_named s.world l.text m made.0 Test s.tests refl r.named_tests;
@@ -218,14 +221,14 @@ test_ranged s l t made r =
 action_ranged : (s : State) (l : Leaf) (t : State) → DeclaresAction s l t → Ranged s → Ranged t
 action_ranged s l t made r =
     let m = Action s.actions in
-    let same : s.tests ≤ s.tests = omega arith in
-    let a : s.actions ≤ s.actions + 1 = omega arith in
-    let v : s.vars ≤ s.vars = omega arith in
+    let same = same_bound s.tests in
+    let a = next_bound s.actions in
+    let v = same_bound s.vars in
     subst Ranged (sym made.2) (record {
       numbers = action_numbered s.world s.tests s.actions s.vars (length s.progs) r.numbers (with_action s l.text).world l.text refl;
       defined = defined_more s.tests s.actions s.vars s.tests (s.actions + 1) s.vars same a v s.world r.defined;
       tests = r.tests;
-      actions = omega (arith, made.1);
+      actions = next_within s.actions MAX_ACTIONS made.1;
       vars = r.vars;
       named_tests = more_named s.world l.text m made.0 Test s.tests r.named_tests;
       named_actions = next_named s.world l.text m made.0 Action s.actions refl r.named_actions;
@@ -240,15 +243,15 @@ action_ranged s l t made r =
 var_ranged : (s : State) (l : Leaf) (t : State) → DeclaresVar s l t → Ranged s → Ranged t
 var_ranged s l t made r =
     let m = Var s.vars in
-    let same : s.tests ≤ s.tests = omega arith in
-    let a : s.actions ≤ s.actions = omega arith in
-    let v : s.vars ≤ s.vars + 1 = omega arith in
+    let same = same_bound s.tests in
+    let a = same_bound s.actions in
+    let v = next_bound s.vars in
     subst Ranged (sym made.2) (record {
       numbers = var_numbered s.world s.tests s.actions s.vars (length s.progs) r.numbers (with_var s l.text).world l.text refl;
       defined = r.defined;
       tests = r.tests;
       actions = r.actions;
-      vars = omega (arith, made.1);
+      vars = next_within s.vars MAX_VARS made.1;
       named_tests = more_named s.world l.text m made.0 Test s.tests r.named_tests;
       named_actions = more_named s.world l.text m made.0 Action s.actions r.named_actions;
       named_vars = next_named s.world l.text m made.0 Var s.vars refl r.named_vars;
@@ -272,7 +275,7 @@ prog_ranged : (s : State) (n : ℕ) (name : List ℕ) (tree : ProgTree) (levels 
 prog_ranged s n name tree levels new h r =
     let m = Prog (length s.progs) in
     let d : ProgParts = record { tree = tree; nesting = levels } in
-    let more : length (s.progs ++ d ∷ []) ≡ length s.progs + 1 = omega (arith, length-append s.progs (d ∷ [])) in
+    let more : length (s.progs ++ d ∷ []) ≡ length s.progs + 1 = length-append s.progs (d ∷ []) in
     record {
       numbers = subst (AreNumbered (declared s.world name m) s.tests s.actions s.vars) (sym more) (prog_numbered s.world s.tests s.actions s.vars (length s.progs) r.numbers (declared s.world name m) name refl);
       defined = r.defined;
@@ -282,7 +285,7 @@ prog_ranged s n name tree levels new h r =
       named_tests = more_named s.world name m new Test s.tests r.named_tests;
       named_actions = more_named s.world name m new Action s.actions r.named_actions;
       named_vars = more_named s.world name m new Var s.vars r.named_vars;
-      counted = omega (arith, length-append s.prog_names (name ∷ []), more, r.counted);
+      counted = length-append s.prog_names (name ∷ []) ∙ ap (λ k. k + 1) r.counted ∙ sym more;
       named_progs = next_name s.world name s.progs s.prog_names new r.counted r.named_progs;
       hyps = r.hyps;
       progs = progs_last s.tests s.actions s.vars s.progs d r.progs h;

@@ -10,6 +10,22 @@ use Rattle.text_scopes.specs.ScopeParts.{Definition, ScopeParts, Means, empty_sc
 use Rattle.text_scopes.proofs.Inverse.{insert_extends}
 use Rattle.problem_file.specs.Working.Numbers.{AreNumbered}
 
+-- ---- bounds
+
+pub same_bound : (n : ℕ) → n ≤ n
+same_bound n = omega arith
+
+pub next_bound : (n : ℕ) → n ≤ n + 1
+next_bound n = omega arith
+
+below_more : (k n m : ℕ) → k < n → n ≤ m → k < m
+below_more k n m lt le = omega arith
+
+last_below : (n k : ℕ) → n ≡ k → k < n + 1
+last_below n k same = omega arith
+
+-- ---- names
+
 -- after a declaration, a name stands for the new meaning or for its earlier meaning
 pub new_or_old : (w : ScopeParts) (name : List ℕ) (m : Meaning) (a : List ℕ) (x : Meaning) → Means (declared w name m) a x → (m ≡ x) ⊎ Means w a x
 new_or_old w name m a x e =
@@ -48,27 +64,27 @@ module _ (w : ScopeParts) (t a v p : ℕ) (numbered : AreNumbered w t a v p) whe
   still_numbered : (u : ScopeParts) (name : List ℕ) (m : Meaning) (s b x q : ℕ) → u ≡ declared w name m → t ≤ s → a ≤ b → v ≤ x → p ≤ q →
       ((k : ℕ) → m ≡ Test k → k < s) → ((k : ℕ) → m ≡ Action k → k < b) → ((k : ℕ) → m ≡ Var k → k < x) → ((k : ℕ) → m ≡ Prog k → k < q) → AreNumbered u s b x q
   still_numbered u name m s b x q same mt ma mv mp test action var prog = rw same (record {
-    named_tests = λ n k e. ⊎_elim (λ h. test k h) (λ old. let below : k < t = numbered.named_tests n k old in omega (arith, mt)) (new_or_old w name m n (Test k) e);
-    named_actions = λ n k e. ⊎_elim (λ h. action k h) (λ old. let below : k < a = numbered.named_actions n k old in omega (arith, ma)) (new_or_old w name m n (Action k) e);
-    named_vars = λ n k e. ⊎_elim (λ h. var k h) (λ old. let below : k < v = numbered.named_vars n k old in omega (arith, mv)) (new_or_old w name m n (Var k) e);
-    named_progs = λ n k e. ⊎_elim (λ h. prog k h) (λ old. let below : k < p = numbered.named_progs n k old in omega (arith, mp)) (new_or_old w name m n (Prog k) e);
+    named_tests = λ n k e. ⊎_elim (λ h. test k h) (λ old. below_more k t s (numbered.named_tests n k old) mt) (new_or_old w name m n (Test k) e);
+    named_actions = λ n k e. ⊎_elim (λ h. action k h) (λ old. below_more k a b (numbered.named_actions n k old) ma) (new_or_old w name m n (Action k) e);
+    named_vars = λ n k e. ⊎_elim (λ h. var k h) (λ old. below_more k v x (numbered.named_vars n k old) mv) (new_or_old w name m n (Var k) e);
+    named_progs = λ n k e. ⊎_elim (λ h. prog k h) (λ old. below_more k p q (numbered.named_progs n k old) mp) (new_or_old w name m n (Prog k) e);
   })
 
   pub test_numbered : (u : ScopeParts) (name : List ℕ) → u ≡ declared w name (Test t) → AreNumbered u (t + 1) a v p
-  test_numbered u name same = still_numbered u name (Test t) (t + 1) a v p same (omega arith) (omega arith) (omega arith) (omega arith)
-      (λ k h. let number : t ≡ k = same_test t k h in omega (arith, number)) (λ k h. absurd cc) (λ k h. absurd cc) (λ k h. absurd cc)
+  test_numbered u name same = still_numbered u name (Test t) (t + 1) a v p same (next_bound t) (same_bound a) (same_bound v) (same_bound p)
+      (λ k h. last_below t k (same_test t k h)) (λ k h. absurd cc) (λ k h. absurd cc) (λ k h. absurd cc)
 
   pub action_numbered : (u : ScopeParts) (name : List ℕ) → u ≡ declared w name (Action a) → AreNumbered u t (a + 1) v p
-  action_numbered u name same = still_numbered u name (Action a) t (a + 1) v p same (omega arith) (omega arith) (omega arith) (omega arith)
-      (λ k h. absurd cc) (λ k h. let number : a ≡ k = same_action a k h in omega (arith, number)) (λ k h. absurd cc) (λ k h. absurd cc)
+  action_numbered u name same = still_numbered u name (Action a) t (a + 1) v p same (same_bound t) (next_bound a) (same_bound v) (same_bound p)
+      (λ k h. absurd cc) (λ k h. last_below a k (same_action a k h)) (λ k h. absurd cc) (λ k h. absurd cc)
 
   pub var_numbered : (u : ScopeParts) (name : List ℕ) → u ≡ declared w name (Var v) → AreNumbered u t a (v + 1) p
-  var_numbered u name same = still_numbered u name (Var v) t a (v + 1) p same (omega arith) (omega arith) (omega arith) (omega arith)
-      (λ k h. absurd cc) (λ k h. absurd cc) (λ k h. let number : v ≡ k = same_var v k h in omega (arith, number)) (λ k h. absurd cc)
+  var_numbered u name same = still_numbered u name (Var v) t a (v + 1) p same (same_bound t) (same_bound a) (next_bound v) (same_bound p)
+      (λ k h. absurd cc) (λ k h. absurd cc) (λ k h. last_below v k (same_var v k h)) (λ k h. absurd cc)
 
   pub prog_numbered : (u : ScopeParts) (name : List ℕ) → u ≡ declared w name (Prog p) → AreNumbered u t a v (p + 1)
-  prog_numbered u name same = still_numbered u name (Prog p) t a v (p + 1) same (omega arith) (omega arith) (omega arith) (omega arith)
-      (λ k h. absurd cc) (λ k h. absurd cc) (λ k h. absurd cc) (λ k h. let number : p ≡ k = same_prog p k h in omega (arith, number))
+  prog_numbered u name same = still_numbered u name (Prog p) t a v (p + 1) same (same_bound t) (same_bound a) (same_bound v) (next_bound p)
+      (λ k h. absurd cc) (λ k h. absurd cc) (λ k h. absurd cc) (λ k h. last_below p k (same_prog p k h))
 
   pub term_numbered : (u : ScopeParts) (name : List ℕ) (d : Definition) → u ≡ defined w name d → AreNumbered u t a v p
   term_numbered u name d same = rw same (record {

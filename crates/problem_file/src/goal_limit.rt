@@ -4,7 +4,7 @@ use text_tokens::TextFault;
 
 // The limit on the number of goals of a text. One reader reads texts with one goal and texts with up to `MAX_GOALS`. What
 // bytes say, their first fault and the law that they have one answer are stated for each limit.
-#[derive(Clone, Copy, Debug, PartialEq, Eq)]
+#[derive(Clone, Copy)]
 pub(crate) enum GoalLimit {
     // One goal; a second is `TwoGoals`.
     One,

@@ -12,7 +12,7 @@ use crate::phrase::{Measured, MeasuredSides, MeasuredTriple};
 use text_tokens::{TextFault, Token};
 
 // The kinds of names that an item may declare.
-#[derive(Clone, Copy, Debug, PartialEq, Eq)]
+#[derive(Clone, Copy)]
 pub(crate) enum Declared {
     Test,
     Action,
@@ -20,14 +20,14 @@ pub(crate) enum Declared {
 }
 
 // The settings, each of which a text sets at most once, to a number.
-#[derive(Clone, Copy, Debug, PartialEq, Eq)]
+#[derive(Clone, Copy)]
 pub(crate) enum Setting {
     Rounds,
     Width,
 }
 
 // How a goal compares its sides.
-#[derive(Clone, Copy, Debug, PartialEq, Eq)]
+#[derive(Clone, Copy)]
 pub(crate) enum Comparison {
     Equal,
     Below,

@@ -5,6 +5,3 @@ use Rattle.abstraction.proofs.comparisons.+add_cond.Goals as goal
 
 pub returns-in_ok-add_cond-in-And : goal.returns-in_ok-add_cond-in-And
 returns-in_ok-add_cond-in-And t c = search (rules, IfOk-equal, with_all_new_within-append)
-
-pub returns-in_ok-add_cond-in-Or : goal.returns-in_ok-add_cond-in-Or
-returns-in_ok-add_cond-in-Or t c = search (rules, IfOk-equal, with_all_new_within-append)

@@ -6,8 +6,5 @@ use Rattle.abstraction.proofs.comparisons.add_goal.Goals as goal
 pub returns-in_ok-add_side-in-Equal : goal.returns-in_ok-add_side-in-Equal
 returns-in_ok-add_side-in-Equal c = search (rules, IfOk-equal, with_all_new_within-append)
 
-pub returns-in_ok-add_side-in-Below : goal.returns-in_ok-add_side-in-Below
-returns-in_ok-add_side-in-Below c = search (rules, IfOk-equal, with_all_new_within-append)
-
 pub returns-in_ok-add_side-in-Triple : goal.returns-in_ok-add_side-in-Triple
 returns-in_ok-add_side-in-Triple c = search (rules, IfOk-equal, with_all_new_within-append)

@@ -1,0 +1,86 @@
+-- The results of items by the results of their parts.
+use Rattle.std.proofs.Common.{◌≡◌, ℕ, List, drop, Result, Ok, Err, refl}
+use Rattle.text_tokens.specs.declared.fault.TextFault.{TextFault}
+use Rattle.text_grammar.specs.declared.terminal.Terminal.TheVariants.{Separator, Zero}
+use Rattle.text_grammar.specs.declared.terminal.Separator.TheVariants.{Semicolon, Equals}
+use Rattle.text_grammar.specs.Lexemes.{Lexeme, is_terminal}
+use Rattle.text_grammar.specs.Parsed.{Parsed, wants}
+use Rattle.text_grammar.specs.Phrases.{Leaf}
+use Rattle.problem_file.specs.Numbers.{until}
+use Rattle.problem_file.specs.ItemActions.{Measurement, ItemActions}
+use Rattle.problem_file.specs.Items.{name_at, term_by, meaning_by, block_by, definition_by, prog_by, zero_by, then_ask}
+
+module _ {S X : Type 0} (g : ItemActions S X) (s : S) (at : ℕ) (ts us : List Lexeme) (next : drop 1 ts ≡ us) where
+  module _ (l : Leaf) (n : name_at ts ≡ Ok l) where
+    pub prog_old : (e : TextFault) → g.check_new s l.at l.text ≡ Err e → prog_by g s at ts ≡ Err e
+    prog_old e h = rw (n, h) refl
+
+    module _ (u : Unit {0}) (new : g.check_new s l.at l.text ≡ Ok u) where
+      pub prog_unmeasured : (e : TextFault) → block_by g s us ≡ Err e → prog_by g s at ts ≡ Err e
+      prog_unmeasured e h = rw (n, new, next, h) refl
+
+      module _ (x : Measurement X × List Lexeme) (b : block_by g s us ≡ Ok x) where
+        pub prog_wide : (e : TextFault) → g.check_numbers s (until ts x.1) ≡ Err e → prog_by g s at ts ≡ Err e
+        prog_wide e h = rw (n, new, next, b, h) refl
+
+        pub prog_refused : (v : Unit {0}) (e : TextFault) → g.check_numbers s (until ts x.1) ≡ Ok v → g.define_prog s at l.text x.0 ≡ Err e → prog_by g s at ts ≡ Err e
+        prog_refused v e w h = rw (n, new, next, b, w, h) refl
+
+        pub prog_made : (v : Unit {0}) (t : S) → g.check_numbers s (until ts x.1) ≡ Ok v → g.define_prog s at l.text x.0 ≡ Ok t → prog_by g s at ts ≡ Ok (t, x.1)
+        prog_made v t w h = rw (n, new, next, b, w, h) refl
+
+      module _ (x : Measurement X × List Lexeme) (b : meaning_by g s us ≡ Ok x) where
+        pub definition_refused : (e : TextFault) → g.define s at l.text x.0 ≡ Err e → definition_by g s at ts ≡ Err e
+        definition_refused e h = rw (n, new, next, b, h) refl
+
+        pub definition_made : (t : S) → g.define s at l.text x.0 ≡ Ok t → definition_by g s at ts ≡ Ok (t, x.1)
+        definition_made t h = rw (n, new, next, b, h) refl
+
+      pub definition_unmeasured : (e : TextFault) → meaning_by g s us ≡ Err e → definition_by g s at ts ≡ Err e
+      definition_unmeasured e h = rw (n, new, next, h) refl
+
+    pub definition_old : (e : TextFault) → g.check_new s l.at l.text ≡ Err e → definition_by g s at ts ≡ Err e
+    definition_old e h = rw (n, h) refl
+
+module _ {S X : Type 0} (g : ItemActions S X) (s : S) (at : ℕ) (ts : List Lexeme) where
+  pub zero_unmeasured : (e : TextFault) → term_by g s ts ≡ Err e → zero_by g s at ts ≡ Err e
+  zero_unmeasured e h = rw (h) refl
+
+  module _ (x : Measurement X × List Lexeme) (m : term_by g s ts ≡ Ok x) where
+    pub zero_unequal : (e : TextFault) → wants (is_terminal (Separator Equals)) x.1 ≡ Err e → zero_by g s at ts ≡ Err e
+    zero_unequal e h = rw (m, h) refl
+
+    module _ (us : List Lexeme) (equals : wants (is_terminal (Separator Equals)) x.1 ≡ Ok us) where
+      pub zero_other : (e : TextFault) → wants (is_terminal Zero) us ≡ Err e → zero_by g s at ts ≡ Err e
+      zero_other e h = rw (m, equals, h) refl
+
+      module _ (vs : List Lexeme) (zero : wants (is_terminal Zero) us ≡ Ok vs) where
+        pub zero_open : (e : TextFault) → wants (is_terminal (Separator Semicolon)) vs ≡ Err e → zero_by g s at ts ≡ Err e
+        zero_open e h = rw (m, equals, zero, h) refl
+
+        module _ (ws : List Lexeme) (end : wants (is_terminal (Separator Semicolon)) vs ≡ Ok ws) where
+          pub zero_refused : (e : TextFault) → g.state_zero s at x.0 ≡ Err e → zero_by g s at ts ≡ Err e
+          zero_refused e h = rw (m, equals, zero, end, h) refl
+
+          pub zero_made : (t : S) → g.state_zero s at x.0 ≡ Ok t → zero_by g s at ts ≡ Ok (t, ws)
+          zero_made t h = rw (m, equals, zero, end, h) refl
+
+-- a question, by the parts that it is about
+module _ {S X M : Type 0} (g : ItemActions S X) (s : S) (ts : List Lexeme) (f : M → Result S TextFault) (m : Parsed M) where
+  pub ask_unmeasured : (e : TextFault) → m ≡ Err e → then_ask g s ts f m ≡ Err e
+  ask_unmeasured e h = rw (h) refl
+
+  module _ (x : M × List Lexeme) (k : m ≡ Ok x) where
+    pub ask_open : (e : TextFault) → wants (is_terminal (Separator Semicolon)) x.1 ≡ Err e → then_ask g s ts f m ≡ Err e
+    ask_open e h = rw (k, h) refl
+
+    module _ (us : List Lexeme) (end : wants (is_terminal (Separator Semicolon)) x.1 ≡ Ok us) where
+      pub ask_wide : (e : TextFault) → g.check_numbers s (until ts us) ≡ Err e → then_ask g s ts f m ≡ Err e
+      ask_wide e h = rw (k, end, h) refl
+
+      module _ (v : Unit {0}) (narrow : g.check_numbers s (until ts us) ≡ Ok v) where
+        pub ask_refused : (e : TextFault) → f x.0 ≡ Err e → then_ask g s ts f m ≡ Err e
+        ask_refused e h = rw (k, end, narrow, h) refl
+
+        pub ask_made : (t : S) → f x.0 ≡ Ok t → then_ask g s ts f m ≡ Ok (t, us)
+        ask_made t h = rw (k, end, narrow, h) refl

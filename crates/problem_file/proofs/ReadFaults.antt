@@ -1,0 +1,44 @@
+-- A fault of a part of an item is the fault of the item, and the functions that read the item return it.
+use Rattle.std.proofs.Common.{◌≡◌, ℕ, List, Result, Ok, Err, sym, subst, ap, ◌∙◌}
+use Rattle.std.specs.Result.{IsErrAnd}
+use Rattle.std.proofs.lemmas.Result.{err_from_is_err_and}
+use Rattle.text_tokens.specs.declared.fault.TextFault.{TextFault}
+use Rattle.text_tokens.specs.declared.fault.TextFault.TheVariants.{NoMemory}
+use Rattle.text_grammar.specs.Lexemes.{Lexeme}
+use Rattle.text_grammar.specs.Parsed.{Parsed, Makes, Reads}
+use Rattle.text_grammar.proofs.NamedFaults.{IsNamedFault, IsNamed}
+use Rattle.problem_file.specs.Working.Walks.{StepEnds, Does}
+
+-- ---- the faults of parts
+
+pub named_fault : {A : Type 0} (m : Result A TextFault) (e : TextFault) → IsNamed m → m ≡ Err e → IsNamedFault e × (m ≡ Err e)
+named_fault m e h same = (subst IsNamed same h, same)
+
+pub read_fault : {V W : Type 0} (means : V → W) (ts : List Lexeme) (part : Parsed W) (e : TextFault) → Reads ⊥ means ts (Err e) part → IsNamedFault e × (part ≡ Err e)
+read_fault means ts part NoMemory h = elim h [ ]
+read_fault means ts part e h = (tt, h)
+
+pub check_fault : (part : Result (Unit {0}) TextFault) (e : TextFault) → Makes {V = Unit {0}} ⊥ (λ u. u) (Err e) part → IsNamedFault e × (part ≡ Err e)
+check_fault part NoMemory h = elim h [ ]
+check_fault part e h = (tt, h)
+
+-- ---- what a function returns then
+
+returned : {A : Type 0} (r : Result A TextFault) (e : TextFault) → IsErrAnd r (λ y. y ≡ e) → r ≡ Err e
+returned r e h = let a = err_from_is_err_and r h in a.1 ∙ ap (λ (f : TextFault). Err f) a.2
+
+module _ {S : Type 0} (memory : Type 0) (ts : List Lexeme) (s : S) (whole : Parsed S) (e : TextFault) (r : Result ℕ TextFault) (same : IsErrAnd r (λ y. y ≡ e)) where
+  pub fault_ends : IsNamedFault e → whole ≡ Err e → StepEnds memory ts r s whole
+  fault_ends h k = subst (λ x. StepEnds memory ts x s whole) (sym (returned r e same)) (ends e h k)
+    where
+      ends : (f : TextFault) → IsNamedFault f → whole ≡ Err f → StepEnds memory ts (Err f) s whole
+      ends NoMemory h k = elim h [ ]
+      ends f h k = k
+
+  -- an action refuses the item, or memory runs out
+  pub refusal_ends : (m : Result S TextFault) → Does {X = Unit {0}} memory (Err e) s m → (m ≡ Err e → whole ≡ Err e) → StepEnds memory ts r s whole
+  refusal_ends m h k = subst (λ x. StepEnds memory ts x s whole) (sym (returned r e same)) (ends e h k)
+    where
+      ends : (f : TextFault) → Does {X = Unit {0}} memory (Err f) s m → (m ≡ Err f → whole ≡ Err f) → StepEnds memory ts (Err f) s whole
+      ends NoMemory h k = h
+      ends f h k = k h

@@ -1,0 +1,65 @@
+use Rattle.std.proofs.Common.{drop}
+use Rattle.text_grammar.specs.declared.terminal.Terminal.TheVariants.{Separator}
+use Rattle.text_grammar.specs.declared.terminal.Separator.TheVariants.{Semicolon}
+use Rattle.text_grammar.specs.Lexemes.{lexemes, is_terminal}
+use Rattle.text_grammar.specs.Parsed.{wants}
+use Rattle.text_grammar.proofs.NamedFaults.{wants_named}
+use Rattle.problem_file.specs.Items.{sides_by, comparison_by}
+use Rattle.problem_file.specs.Numbers.{until}
+use Rattle.problem_file.specs.Working.Walks.{sides_of}
+use Rattle.problem_file.proofs.ReadFaults.{named_fault, read_fault, check_fault, fault_ends, refusal_ends}
+use Rattle.problem_file.proofs.ItemParts.{ask_unmeasured, ask_open, ask_wide, ask_refused, ask_made}
+use Rattle.problem_file.proofs.items.read_comparison.Goals as goal
+
+pub returns-in_err-sides-clause-value : goal.returns-in_err-sides-clause-value
+returns-in_err-sides-clause-value g c =
+    let a = g.R.ItemReading.actions in
+    let s = g.R.ItemReading.state c.args.reading.now in
+    let all = lexemes c.args.toks.now in
+    let ts = drop c.args.from all in
+    let told = read_fault (sides_of all) all (sides_by a s ts) c.in_err-sides.field-0.0 c.in_err-sides.ensures.value in
+    fault_ends g.R.ItemReading.memory all s (comparison_by a c.args.comparison s c.args.at ts) c.in_err-sides.field-0.0 c.from_residual.result c.from_residual.ensures.1 told.0
+    (ask_unmeasured a s ts (a.ask_sides c.args.comparison s c.args.at) (sides_by a s ts) c.in_err-sides.field-0.0 told.1)
+
+pub returns-in_err-end-clause-value : goal.returns-in_err-end-clause-value
+returns-in_err-end-clause-value g c =
+    let a = g.R.ItemReading.actions in
+    let s = g.R.ItemReading.state c.args.reading.now in
+    let all = lexemes c.args.toks.now in
+    let ts = drop c.args.from all in
+    let p = is_terminal (Separator Semicolon) in
+    let us = drop c.in_ok-sides.end all in
+    let told = named_fault (wants p us) c.in_err-end.field-0.0 (wants_named p us) c.in_err-end.ensures.value in
+    fault_ends g.R.ItemReading.memory all s (comparison_by a c.args.comparison s c.args.at ts) c.in_err-end.field-0.0 c.from_residual-in_err-end.result c.from_residual-in_err-end.ensures.1 told.0
+    (ask_open a s ts (a.ask_sides c.args.comparison s c.args.at) (sides_by a s ts) (sides_of all c.in_ok-sides.sides, drop c.in_ok-sides.end all) c.in_ok-sides.ensures.value c.in_err-end.field-0.0 told.1)
+
+pub returns-in_err-check_numbers-clause-value : goal.returns-in_err-check_numbers-clause-value
+returns-in_err-check_numbers-clause-value g c =
+    let a = g.R.ItemReading.actions in
+    let s = g.R.ItemReading.state c.args.reading.now in
+    let all = lexemes c.args.toks.now in
+    let ts = drop c.args.from all in
+    let told = check_fault (a.check_numbers s (until ts (drop c.in_ok-end.end all))) c.in_err-check_numbers.field-0.0 c.in_err-check_numbers.ensures in
+    fault_ends g.R.ItemReading.memory all s (comparison_by a c.args.comparison s c.args.at ts) c.in_err-check_numbers.field-0.0 c.from_residual-in_err-check_numbers.result c.from_residual-in_err-check_numbers.ensures.1 told.0
+    (ask_wide a s ts (a.ask_sides c.args.comparison s c.args.at) (sides_by a s ts) (sides_of all c.in_ok-sides.sides, drop c.in_ok-sides.end all) c.in_ok-sides.ensures.value
+    (drop c.in_ok-end.end all) c.in_ok-end.ensures.value c.in_err-check_numbers.field-0.0 told.1)
+
+pub returns-in_err-ask_sides-clause-value : goal.returns-in_err-ask_sides-clause-value
+returns-in_err-ask_sides-clause-value g c =
+    let a = g.R.ItemReading.actions in
+    let s = g.R.ItemReading.state c.args.reading.now in
+    let all = lexemes c.args.toks.now in
+    let ts = drop c.args.from all in
+    refusal_ends g.R.ItemReading.memory all (g.R.ItemReading.state c.ask_sides.new.self) (comparison_by a c.args.comparison s c.args.at ts) c.in_err-ask_sides.field-0.0 c.from_residual-in_err-ask_sides.result c.from_residual-in_err-ask_sides.ensures.1
+    (a.ask_sides c.args.comparison s c.args.at (sides_of all c.in_ok-sides.sides)) c.in_err-ask_sides.ensures
+    (ask_refused a s ts (a.ask_sides c.args.comparison s c.args.at) (sides_by a s ts) (sides_of all c.in_ok-sides.sides, drop c.in_ok-sides.end all) c.in_ok-sides.ensures.value
+    (drop c.in_ok-end.end all) c.in_ok-end.ensures.value c.in_ok-check_numbers.field-0 c.in_ok-check_numbers.ensures c.in_err-ask_sides.field-0.0)
+
+pub returns-clause-value : goal.returns-clause-value
+returns-clause-value g c =
+    let a = g.R.ItemReading.actions in
+    let s = g.R.ItemReading.state c.args.reading.now in
+    let all = lexemes c.args.toks.now in
+    let ts = drop c.args.from all in
+    ask_made a s ts (a.ask_sides c.args.comparison s c.args.at) (sides_by a s ts) (sides_of all c.in_ok-sides.sides, drop c.in_ok-sides.end all) c.in_ok-sides.ensures.value
+    (drop c.in_ok-end.end all) c.in_ok-end.ensures.value c.in_ok-check_numbers.field-0 c.in_ok-check_numbers.ensures (g.R.ItemReading.state c.ask_sides.new.self) c.in_ok-ask_sides.ensures
