@@ -10,7 +10,7 @@ ghost use Rattle.gkat_front.specs.Working.Declarations.{declare_by};
 use text_tokens::{TextFault, Token};
 
 // The kinds of declared names.
-#[derive(Clone, Copy, Debug, PartialEq, Eq)]
+#[derive(Clone, Copy)]
 pub(crate) enum GkatDeclared {
     Test,
     Action,

@@ -15,7 +15,7 @@ use term_store::{Store, TermId};
 use test_diagrams::{DiagramId, Diagrams};
 
 /// The action and the target term of a move.
-#[derive(Clone, Copy, Debug, PartialEq, Eq, Hash)]
+#[derive(Clone, Copy, PartialEq, Eq, Hash)]
 pub(crate) struct Target {
     act: usize,
     to: TermId,

@@ -32,7 +32,7 @@ const NEVER: DiagramId = DiagramId { index: 0 };
 const ALWAYS: DiagramId = DiagramId { index: 1 };
 
 // A constant, or a choice by a test: `low` if the test is false, `high` if it is true.
-#[derive(Clone, Copy, Debug, PartialEq, Eq, Hash)]
+#[derive(Clone, Copy, PartialEq, Eq, Hash)]
 enum Node {
     Constant(bool),
     Branch {
@@ -43,7 +43,7 @@ enum Node {
 }
 
 // An operation and its operands. `Fix` sets a test to a value.
-#[derive(Clone, Copy, Debug, PartialEq, Eq, Hash)]
+#[derive(Clone, Copy, PartialEq, Eq, Hash)]
 enum Operation {
     And(DiagramId, DiagramId),
     Or(DiagramId, DiagramId),
