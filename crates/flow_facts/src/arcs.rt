@@ -6,7 +6,7 @@ ghost use Rattle.flow_facts.specs.ArcViews.{arc_of, span_of};
 
 use kat_model::Width;
 
-/// The numbers from a start on, as many as the size says.
+/// `size` successive numbers of a width, from `start` on; after the greatest number comes 0.
 #[derive(Clone, Copy)]
 pub(crate) struct Arc {
     pub(crate) start: u64,

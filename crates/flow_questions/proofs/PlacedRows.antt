@@ -40,7 +40,7 @@ filter-pushed p (y ∷ xs) x = by_test (p y) (filter-pushed p xs x)
     by_test true e = ap (λ zs. y ∷ zs) e
     by_test false e = e
 
--- the places among one block more
+-- the places among n + 1 blocks
 pub one_more : (p : ℕ → Bool) (n : ℕ) → filter p (range_with_len 0 (n + 1)) ≡ filter p (range_with_len 0 n) ++ (if p n then n ∷ [] else [])
 one_more p n =
     let next : n + 1 ≡ suc n = omega arith in

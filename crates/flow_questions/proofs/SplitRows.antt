@@ -18,14 +18,14 @@ long_later : (rows more : List (List Edge)) → HasLongRow more → HasLongRow (
 long_later [] more h = h
 long_later (r ∷ rows) more h = inr (long_later rows more h)
 
--- a row more, and a row that is too long
+-- another row, short or too long
 pub short_then : (old new : List (List Edge)) (row : List Edge) → new ≡ old ++ row ∷ [] → AreShort old → length row ≤ MAX_WAYS → AreShort new
 short_then old new row e h k = subst AreShort (sym e) (one_more_short old row h k)
 
 pub long_then : (old rest all : List (List Edge)) (row : List Edge) → old ++ row ∷ rest ≡ all → MAX_WAYS < length row → HasLongRow all
 long_then old rest all row e h = subst HasLongRow e (long_later old (row ∷ rest) (inl h))
 
--- one row more is split
+-- the next row is split
 pub row_split : (old mid rest all : List (List Edge)) (row new : List Edge) → old ++ row ∷ rest ≡ all → new ≡ row → mid ≡ old ++ new ∷ [] → mid ++ rest ≡ all
 row_split old mid rest all row new e same m = ap (λ rows. rows ++ rest) m ∙ append_assoc old (new ∷ []) rest ∙ ap (λ r. old ++ r ∷ rest) same ∙ e
 

@@ -1,4 +1,4 @@
--- The problem of a question, and why there is none.
+-- The problem of a question, and the faults for which there is none.
 use Rattle.std.proofs.Common.{◌≡◌, ℕ, ◌≤◌, inl, inr, ⊎_elim, List, length, map, Some, None, Ok, refl, sym, ◌∙◌, ap, subst, arith}
 use Rattle.std.proofs.lemmas.Bool.{le-ltb, cases_lt}
 use mathlib.Core.Path.{ap₂}

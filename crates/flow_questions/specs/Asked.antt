@@ -1,4 +1,4 @@
--- What is asked of two graphs of the program, and why there is no problem.
+-- What is asked of two graphs of a file, and the faults for which there is no problem.
 use Rattle.std.specs.Prelude.{◌≡◌, ◌<◌, ◌⊎◌, ℕ, ◌-◌, Bool, true, false, List, length, map}
 use Rattle.kat_model.specs.Members.{Has}
 use Rattle.kat_model.specs.declared.limits.TheConstants.{MAX_TESTS, MAX_ACTIONS, MAX_TERM_NODES, MAX_HYPS}
@@ -19,7 +19,7 @@ use Rattle.flow_tables.specs.GraphRows.{edge_rows}
 use Rattle.flow_questions.specs.declared.fault.FlowFault.{FlowFault}
 use Rattle.flow_questions.specs.declared.fault.FlowFault.TheVariants.{NoMemory, UncutLoop, TooManyPaths, TooLarge, TooManyTests, TooManyActions, ProblemTooLarge}
 
--- two graphs of the program over variables of these sorts, with so many rounds, and with or without splits
+-- two graphs of a file over variables of these sorts, with a number of rounds, and with or without splits
 pub record Asked : Type 0 where
   pub sorts : List Sort
   pub before : List Block

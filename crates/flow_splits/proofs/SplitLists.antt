@@ -27,7 +27,7 @@ no_tests bs action target = ap (λ cs. record { tests = cs; action = action; tar
 pub more_tests : (e : Edge) (bs cs : List FlowCondTree) (action : FlowActionTree) → bs ≡ e.tests ++ cs → ◌≡◌ {A = Edge} (record { tests = bs; action = action; target = e.target }) (with_action cs action e)
 more_tests e bs cs action h = ap (λ ds. record { tests = ds; action = action; target = e.target }) h
 
--- what one edge more is split into
+-- what the last edge of a list is split into
 flat_map-pushed : {X Y Z : Type 0} (f : Y → List Z) (g : X → Y) (xs : List X) (x : X) → flat_map f (map g (xs ++ x ∷ [])) ≡ flat_map f (map g xs) ++ f (g x)
 flat_map-pushed f g [] x = append-nil (f (g x))
 flat_map-pushed f g (y ∷ xs) x =

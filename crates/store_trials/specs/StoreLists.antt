@@ -14,7 +14,7 @@ abbrev pub nth_store : List ℕ → ℕ → ℕ → Store
 nth_store ns zero i = []
 nth_store ns (suc vars) i = slice_index_or ns (i % length ns) 0 ∷ nth_store ns vars (i / length ns)
 
--- the number of stores over so many numbers, if it is below the limit, and the limit otherwise
+-- the number of stores whose variables have values of a list of numbers, at most the limit
 abbrev pub store_count : ℕ → ℕ → ℕ
 store_count numbers zero = 1
 store_count numbers (suc vars) = min MAX_LISTED (numbers * store_count numbers vars)

@@ -38,7 +38,7 @@ fn nth_store(alloc: Global, numbers: &[u64], vars: usize, i: u64) -> Result<Stor
     Ok(Store { values })
 }
 
-// Returns the number of stores over so many numbers, at most `MAX_LISTED`.
+// Returns the number of stores whose variables have values of a list of numbers, at most `MAX_LISTED`.
 fn store_count(numbers: usize, vars: usize) -> u64
     ensures number { result ≡ store_count numbers vars }
     ensures limit { result ≤ MAX_LISTED }
