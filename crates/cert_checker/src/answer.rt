@@ -8,7 +8,6 @@ use kat_model::Items;
 /// reasons of the least failing pair. For this pair, the least atom at which it fails comes first (atoms are compared
 /// from test 0, false before true). At this atom `Output` precedes `Missing` and `MissingTo`, which name the least
 /// action and, for it, the least atom after the action.
-#[derive(Drop)]
 pub enum Reason {
     /// There is no pair, or the first pair is not the two closed sides, each as a set of one term, or its test is false
     /// at an allowed atom.
@@ -31,6 +30,23 @@ pub enum Reason {
     TestNode(usize),
     /// The action of this term node is out of range.
     TermNode(usize),
+}
+
+// Explicit, so that it is proved once and not at each end of each function that owns one.
+impl Drop for Reason {
+    fn drop(self) {
+        match self {
+            Reason::FirstPair => {}
+            Reason::Output(_, _items_1) => {}
+            Reason::Missing(_, _items_1, _) => {}
+            Reason::MissingTo(_, _items_1, _, _items_3) => {}
+            Reason::Shape(_) => {}
+            Reason::HypBroken(_, _, _) => {}
+            Reason::EndsAgree => {}
+            Reason::TestNode(_) => {}
+            Reason::TermNode(_) => {}
+        }
+    }
 }
 
 /// The verdict of the checker on evidence.

@@ -2,7 +2,7 @@
 ghost use Rattle.std.specs.Prelude.{◌≡◌, ◌<◌, ◌≤◌, ◌++◌, ℕ, Some, IsTrue, IfOk, OnOk, length, map};
 ghost use Rattle.std.specs.Option.{option_map};
 ghost use Rattle.kat_model.specs.Members.{Has};
-ghost use Rattle.kat_model.specs.Degrees.{short_hyps as short_hyps'};
+ghost use Rattle.kat_model.specs.Degrees.{short_hyps as short_hypotheses};
 ghost use Rattle.kat_model.specs.Problems.{IsProblem};
 ghost use Rattle.kat_model.specs.Steps.{set_out};
 ghost use Rattle.term_nodes.specs.NumberSets.{are_below, terms_of};
@@ -133,7 +133,7 @@ fn sides_in(tables: &mut Tables, closed: &Closed) -> Result<(usize, usize, Optio
 fn all_short(tables: &mut Tables, problem: &Problem) -> Result<Vec<usize>, NoMemory>
     requires tables { AreTables tables.old }
     requires width { problem.now.tests ≡ tables.old.width }
-    ensures terms { IfOk result (λ v. terms_of (nodes_in tables.new) v.items ≡ short_hyps' problem.now) }
+    ensures terms { IfOk result (λ v. terms_of (nodes_in tables.new) v.items ≡ short_hypotheses problem.now) }
     ensures there { IfOk result (λ v. IsTrue (are_below (length tables.new.terms) v.items)) }
     ensures grows { TablesGrow tables.old tables.new }
 {

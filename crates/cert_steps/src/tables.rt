@@ -10,12 +10,23 @@ use std::marker::Model;
 
 /// Distinct nodes: those of a certificate with their numbers, followed by the guards of steps and the terms that steps
 /// lead to. Equal terms have one number.
-#[derive(Drop)]
 pub struct Tables {
     alloc: Global,
     width: usize,
     tests: IndexSet<TestNode>,
     terms: IndexSet<TermNode>,
+}
+
+// Explicit, so that it is proved once and not at each end of each function that owns one.
+impl Drop for Tables {
+    fn drop(self) {
+        let Tables {
+            alloc: _,
+            width: _,
+            tests: _tests,
+            terms: _terms,
+        } = self;
+    }
 }
 
 impl Model for Tables {

@@ -9,12 +9,23 @@ use std::marker::Model;
 /// earlier nodes of its list; `Test` names a test node. No node occurs twice in a list. The sets of a pair name term
 /// nodes, in strictly ascending order. The test of a pair names a test node in the style `Under`; in the other styles a
 /// pair has no test.
-#[derive(Drop)]
 pub struct Cert {
     style: Style,
     test_nodes: Vec<TestNode>,
     term_nodes: Vec<TermNode>,
     pairs: Vec<Pair>,
+}
+
+// Explicit, so that it is proved once and not at each end of each function that owns one.
+impl Drop for Cert {
+    fn drop(self) {
+        let Cert {
+            style: _,
+            test_nodes: _test_nodes,
+            term_nodes: _term_nodes,
+            pairs: _pairs,
+        } = self;
+    }
 }
 
 impl Model for Cert {

@@ -20,7 +20,6 @@ use std::collections::BTreeSet;
 use term_nodes::is_ascending;
 
 // The entries so far. The sets contain the nodes as well, for a fast search of equal nodes.
-#[derive(Drop)]
 pub(crate) struct Draft {
     style: Style,
     test_nodes: Vec<TestNode>,
@@ -28,6 +27,20 @@ pub(crate) struct Draft {
     pairs: Vec<Pair>,
     known_tests: BTreeSet<TestNode>,
     known_terms: BTreeSet<TermNode>,
+}
+
+// Explicit, so that it is proved once and not at each end of each function that owns one.
+impl Drop for Draft {
+    fn drop(self) {
+        let Draft {
+            style: _,
+            test_nodes: _test_nodes,
+            term_nodes: _term_nodes,
+            pairs: _pairs,
+            known_tests: _known_tests,
+            known_terms: _known_terms,
+        } = self;
+    }
 }
 
 // Does nothing. Its contract states the properties of the orders in which the sets keep nodes.

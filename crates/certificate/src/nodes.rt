@@ -22,12 +22,22 @@ pub type TestNode = term_nodes::TestNode<usize>;
 pub type TermNode = term_nodes::TermNode<usize, usize>;
 
 /// Two sets of terms, by the numbers of their nodes.
-#[derive(Drop)]
 pub struct Pair {
     pub left: Items<usize>,
     pub right: Items<usize>,
     /// A test node, only in the style `Under`: both sets must accept alike at the atoms that satisfy it.
     pub test: Option<usize>,
+}
+
+// Explicit, so that it is proved once and not at each end of each function that owns one.
+impl Drop for Pair {
+    fn drop(self) {
+        let Pair {
+            left: _left,
+            right: _right,
+            test: _,
+        } = self;
+    }
 }
 
 impl Model for Pair {

@@ -47,7 +47,6 @@ impl Drop for Goal {
 
 /// The contents of a text. Tests, actions, variables, terms and programs are numbered from 0 in the order of their
 /// declaration.
-#[derive(Drop)]
 pub struct File {
     /// The meaning of each name.
     pub scope: Scope,
@@ -68,6 +67,24 @@ pub struct File {
     pub goal: Goal,
     /// The width of the numbers in programs; 64 bits if the text has none.
     pub width: Width,
+}
+
+// Explicit, so that it is proved once and not at each end of each function that owns one.
+impl Drop for File {
+    fn drop(self) {
+        let File {
+            scope: _scope,
+            tests: _,
+            actions: _,
+            vars: _,
+            terms: _,
+            progs: _progs,
+            hyps: _hyps,
+            rounds: _,
+            goal: _goal,
+            width: _,
+        } = self;
+    }
 }
 
 impl Model for File {

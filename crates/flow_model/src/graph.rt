@@ -20,7 +20,6 @@ pub enum ExprNode {
 }
 
 /// A node of a condition. A comparison has both expressions.
-#[derive(Drop)]
 pub enum CondNode {
     Always,
     Never,
@@ -31,16 +30,39 @@ pub enum CondNode {
     Either,
 }
 
+// Explicit, so that it is proved once and not at each end of each function that owns one.
+impl Drop for CondNode {
+    fn drop(self) {
+        match self {
+            CondNode::Always => {}
+            CondNode::Never => {}
+            CondNode::Compared(_, _vec_1, _vec_2) => {}
+            CondNode::ComparedSigned(_, _, _vec_2, _vec_3) => {}
+            CondNode::Negation => {}
+            CondNode::Both => {}
+            CondNode::Either => {}
+        }
+    }
+}
+
 /// A statement of a block.
-#[derive(Drop)]
 pub enum Statement {
     /// The variables that are set at once, and their values.
     Assign(Vec<usize>, Vec<Vec<ExprNode>>),
     Claim(Vec<CondNode>),
 }
 
+// Explicit, so that it is proved once and not at each end of each function that owns one.
+impl Drop for Statement {
+    fn drop(self) {
+        match self {
+            Statement::Assign(_vec_0, _vec_1) => {}
+            Statement::Claim(_vec) => {}
+        }
+    }
+}
+
 /// How a block ends. Blocks are numbered in the order of the graph.
-#[derive(Drop)]
 pub enum Jump {
     Goto(usize),
     Branch(Vec<CondNode>, usize, usize),
@@ -48,10 +70,32 @@ pub enum Jump {
     Abort,
 }
 
+// Explicit, so that it is proved once and not at each end of each function that owns one.
+impl Drop for Jump {
+    fn drop(self) {
+        match self {
+            Jump::Goto(_) => {}
+            Jump::Branch(_vec_0, _, _) => {}
+            Jump::Return(_vec) => {}
+            Jump::Abort => {}
+        }
+    }
+}
+
 /// A block, with its mark as a cut.
-#[derive(Drop)]
 pub struct Block {
     pub is_cut: bool,
     pub statements: Vec<Statement>,
     pub jump: Jump,
+}
+
+// Explicit, so that it is proved once and not at each end of each function that owns one.
+impl Drop for Block {
+    fn drop(self) {
+        let Block {
+            is_cut: _,
+            statements: _statements,
+            jump: _jump,
+        } = self;
+    }
 }

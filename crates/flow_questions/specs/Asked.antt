@@ -1,4 +1,4 @@
--- What is asked of two graphs of a file, and the faults for which there is no problem.
+-- What is asked of two graphs of a file, and each fault for which no problem is made.
 use Rattle.std.specs.Prelude.{◌≡◌, ◌<◌, ◌⊎◌, ℕ, ◌-◌, Bool, true, false, List, length, map}
 use Rattle.kat_model.specs.Members.{Has}
 use Rattle.kat_model.specs.declared.limits.TheConstants.{MAX_TESTS, MAX_ACTIONS, MAX_TERM_NODES, MAX_HYPS}

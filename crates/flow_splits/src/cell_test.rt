@@ -13,12 +13,23 @@ use kat_model::{NoMemory, Width};
 use std::alloc::Global;
 
 /// A test that a cell of a width is a number.
-#[derive(Drop)]
 pub(crate) struct CellTest {
     pub(crate) comparison: FlowComparison,
     pub(crate) width: Width,
     pub(crate) cell: FlowForm,
     pub(crate) number: u64,
+}
+
+// Explicit, so that it is proved once and not at each end of each function that owns one.
+impl Drop for CellTest {
+    fn drop(self) {
+        let CellTest {
+            comparison: _comparison,
+            width: _,
+            cell: _cell,
+            number: _,
+        } = self;
+    }
 }
 
 fn bits(width: Width) -> u32

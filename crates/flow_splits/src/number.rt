@@ -14,10 +14,19 @@ use kat_model::NoMemory;
 use std::alloc::Global;
 
 /// The variables with a new one, which has the number of a test: their sorts and forms.
-#[derive(Drop)]
 pub(crate) struct WithNumber {
     pub(crate) sorts: Vec<Sort>,
     pub(crate) forms: Vec<FlowForm>,
+}
+
+// Explicit, so that it is proved once and not at each end of each function that owns one.
+impl Drop for WithNumber {
+    fn drop(self) {
+        let WithNumber {
+            sorts: _sorts,
+            forms: _forms,
+        } = self;
+    }
 }
 
 /// What ways are split by: the sorts of the variables, a test, and the variables with its number.

@@ -17,11 +17,21 @@ use kat_model::NoMemory;
 use std::alloc::Global;
 
 /// A run with forms: the forms of the variables, what is known of comparisons, and the tests so far.
-#[derive(Drop)]
 pub(crate) struct Course {
     pub(crate) forms: Vec<FlowForm>,
     pub(crate) facts: Vec<Known>,
     pub(crate) tests: Vec<FlowCond>,
+}
+
+// Explicit, so that it is proved once and not at each end of each function that owns one.
+impl Drop for Course {
+    fn drop(self) {
+        let Course {
+            forms: _forms,
+            facts: _facts,
+            tests: _tests,
+        } = self;
+    }
 }
 
 #[tactic(auto, using(crate::proofs::CourseLists::map_pushed))]

@@ -8,11 +8,21 @@ use kat_model::{Kat, NoMemory, Problem, sum_of};
 use std::alloc::Global;
 
 /// The terms that are compared in place of the sides of a problem, and the universal term if there are hypotheses.
-#[derive(Drop)]
 pub struct Closed {
     pub left: Kat,
     pub right: Kat,
     pub universal: Option<Kat>,
+}
+
+// Explicit, so that it is proved once and not at each end of each function that owns one.
+impl Drop for Closed {
+    fn drop(self) {
+        let Closed {
+            left: _left,
+            right: _right,
+            universal: _universal,
+        } = self;
+    }
 }
 
 // Returns the actions below the count, in order.

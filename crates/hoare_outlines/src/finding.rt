@@ -30,12 +30,23 @@ use while_lang::{Flow, Flows};
 
 // The state of the finder: the diagrams, the allowed atoms, the sets at the places so far, and the loops by the places
 // of their invariants.
-#[derive(Drop)]
 struct Finder {
     diagrams: StepDiagrams,
     allowed: DiagramId,
     notes: Vec<DiagramId>,
     loops: IndexMap<usize, FoundLoop>,
+}
+
+// Explicit, so that it is proved once and not at each end of each function that owns one.
+impl Drop for Finder {
+    fn drop(self) {
+        let Finder {
+            diagrams: _diagrams,
+            allowed: _,
+            notes: _notes,
+            loops: _loops,
+        } = self;
+    }
 }
 
 // A set before a loop, and the invariant found from it.

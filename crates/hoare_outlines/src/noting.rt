@@ -11,10 +11,19 @@ use outline_notes::{NoteNode, Notes};
 use std::alloc::Global;
 
 // The nodes so far, and the known nodes of diagrams.
-#[derive(Drop)]
 struct NodeWriter {
     nodes: IndexSet<NoteNode>,
     known: IndexMap<DiagramId, usize>,
+}
+
+// Explicit, so that it is proved once and not at each end of each function that owns one.
+impl Drop for NodeWriter {
+    fn drop(self) {
+        let NodeWriter {
+            nodes: _nodes,
+            known: _known,
+        } = self;
+    }
 }
 
 impl NodeWriter {

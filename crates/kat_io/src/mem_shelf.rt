@@ -13,7 +13,6 @@ use std::collections::BTreeMap;
 use std::marker::Model;
 
 /// Contents in memory.
-#[derive(Drop)]
 pub struct MemShelf {
     alloc: Global,
     files: BTreeMap<String, Vec<u8>>,
@@ -21,6 +20,20 @@ pub struct MemShelf {
     calls: u64,
     faults: u64,
     last: Option<String>,
+}
+
+// Explicit, so that it is proved once and not at each end of each function that owns one.
+impl Drop for MemShelf {
+    fn drop(self) {
+        let MemShelf {
+            alloc: _,
+            files: _files,
+            schedule: _schedule,
+            calls: _,
+            faults: _,
+            last: _last,
+        } = self;
+    }
 }
 
 impl Model for MemShelf {

@@ -9,7 +9,6 @@ use std::alloc::Global;
 use std::marker::Model;
 
 /// A sink that takes bytes up to its room.
-#[derive(Drop)]
 pub struct MemSink {
     bytes: Vec<u8>,
     room: usize,
@@ -17,6 +16,20 @@ pub struct MemSink {
     schedule: Vec<u64>,
     calls: u64,
     faults: u64,
+}
+
+// Explicit, so that it is proved once and not at each end of each function that owns one.
+impl Drop for MemSink {
+    fn drop(self) {
+        let MemSink {
+            bytes: _bytes,
+            room: _,
+            most: _,
+            schedule: _schedule,
+            calls: _,
+            faults: _,
+        } = self;
+    }
 }
 
 impl Model for MemSink {

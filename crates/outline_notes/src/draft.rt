@@ -15,11 +15,21 @@ use std::alloc::Global;
 use std::collections::BTreeSet;
 
 // The lines read so far. `known` has the same nodes as `nodes`, to find an equal node fast.
-#[derive(Drop)]
 pub(crate) struct Draft {
     nodes: Vec<NoteNode>,
     notes: Vec<usize>,
     known: BTreeSet<NoteNode>,
+}
+
+// Explicit, so that it is proved once and not at each end of each function that owns one.
+impl Drop for Draft {
+    fn drop(self) {
+        let Draft {
+            nodes: _nodes,
+            notes: _notes,
+            known: _known,
+        } = self;
+    }
 }
 
 // Does nothing: its contract states two facts about the order of nodes in the set.

@@ -16,10 +16,19 @@ pub enum NoteNode {
 
 /// The notes of an outline: nodes, and for each place of a program the number of its node. Nodes are numbered from 0. A
 /// branch names only earlier nodes, no node occurs twice, and each note names a node.
-#[derive(Drop)]
 pub struct Notes {
     nodes: Vec<NoteNode>,
     notes: Vec<usize>,
+}
+
+// Explicit, so that it is proved once and not at each end of each function that owns one.
+impl Drop for Notes {
+    fn drop(self) {
+        let Notes {
+            nodes: _nodes,
+            notes: _notes,
+        } = self;
+    }
 }
 
 impl Model for Notes {

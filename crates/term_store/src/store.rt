@@ -14,10 +14,19 @@ use std::alloc::Global;
 use std::marker::Model;
 
 /// The nodes of tests and terms. Each names only earlier nodes, and none occurs twice.
-#[derive(Drop)]
 pub struct Store {
     tests: IndexSet<TestShape>,
     terms: IndexSet<Shape>,
+}
+
+// Explicit, so that it is proved once and not at each end of each function that owns one.
+impl Drop for Store {
+    fn drop(self) {
+        let Store {
+            tests: _tests,
+            terms: _terms,
+        } = self;
+    }
 }
 
 impl Model for Store {

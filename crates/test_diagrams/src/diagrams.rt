@@ -54,11 +54,21 @@ enum Operation {
 /// Boolean functions of tests as decision diagrams. Tests are numbered from 0, and test 0 is at the top.
 ///
 /// Each function has one id. Results of operations are stored and never dropped.
-#[derive(Drop)]
 pub struct Diagrams {
     tests: usize,
     nodes: IndexSet<Node>,
     results: IndexMap<Operation, DiagramId>,
+}
+
+// Explicit, so that it is proved once and not at each end of each function that owns one.
+impl Drop for Diagrams {
+    fn drop(self) {
+        let Diagrams {
+            tests: _,
+            nodes: _nodes,
+            results: _results,
+        } = self;
+    }
 }
 
 impl Model for Diagrams {

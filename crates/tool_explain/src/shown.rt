@@ -12,10 +12,19 @@ use std::alloc::Global;
 use tool_inputs::{EarlyEnd, TextQuestion, abstract_in, file_of};
 
 /// A file and its abstraction.
-#[derive(Drop)]
 pub struct ShownFile {
     pub file: File,
     pub shown: Abstract,
+}
+
+// Explicit, so that it is proved once and not at each end of each function that owns one.
+impl Drop for ShownFile {
+    fn drop(self) {
+        let ShownFile {
+            file: _file,
+            shown: _shown,
+        } = self;
+    }
 }
 
 // Abstracts a file.

@@ -21,10 +21,19 @@ use std::alloc::Global;
 use tool_inputs::{EarlyEnd, Reply, TextQuestion, abstract_in, file_of, refusal};
 
 /// A problem that asks the triple of a program, and that triple.
-#[derive(Drop)]
 pub struct Triple {
     pub problem: Problem,
     pub task: Task,
+}
+
+// Explicit, so that it is proved once and not at each end of each function that owns one.
+impl Drop for Triple {
+    fn drop(self) {
+        let Triple {
+            problem: _problem,
+            task: _task,
+        } = self;
+    }
 }
 
 // Returns the task of a goal by the rows of an abstraction, or `None` if the goal is not a triple of a program.

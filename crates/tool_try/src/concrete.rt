@@ -11,10 +11,19 @@ use std::alloc::Global;
 use tool_inputs::{EarlyEnd, TextQuestion, abstract_in, file_of, refusal};
 
 /// A concrete file and its abstraction.
-#[derive(Drop)]
 pub struct ConcreteFile {
     pub file: File,
     pub shown: Abstract,
+}
+
+// Explicit, so that it is proved once and not at each end of each function that owns one.
+impl Drop for ConcreteFile {
+    fn drop(self) {
+        let ConcreteFile {
+            file: _file,
+            shown: _shown,
+        } = self;
+    }
 }
 
 // Abstracts a file. A file that is not concrete is refused.

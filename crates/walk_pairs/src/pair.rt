@@ -5,11 +5,21 @@ use term_store::{TermId, TestId};
 
 /// A pair of sets of terms, each as ids in ascending order, and the test at whose atoms the pair must hold. A pair
 /// without a test must hold at all atoms.
-#[derive(Drop)]
 pub struct StoredPair {
     pub left: Items<TermId>,
     pub right: Items<TermId>,
     pub test: Option<TestId>,
+}
+
+// Explicit, so that it is proved once and not at each end of each function that owns one.
+impl Drop for StoredPair {
+    fn drop(self) {
+        let StoredPair {
+            left: _left,
+            right: _right,
+            test: _,
+        } = self;
+    }
 }
 
 impl Model for StoredPair {
