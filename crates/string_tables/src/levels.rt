@@ -1,8 +1,9 @@
 //! The memory in which terms are evaluated.
-ghost use Rattle.std.specs.Prelude.{◌≡◌, ◌↔◌, ◌<◌, ◌≤◌, IfOk, IsTrue};
+ghost use Rattle.std.specs.Prelude.{◌≡◌, ◌↔◌, ◌<◌, ◌≤◌, length, replicate, IfOk, IsTrue};
 ghost use Rattle.kat_model.specs.Trees.{kat_tree};
 ghost use Rattle.kat_model.specs.Relations.{Relates};
 ghost use Rattle.string_tables.specs.Tables.{MayBeAsked};
+ghost use Rattle.string_tables.specs.Working.Matrices.{sizes, widths};
 
 use crate::following::follow;
 use crate::matrix::{Matrix, Row};
@@ -31,27 +32,42 @@ impl Model for Levels {
     ghost invariant = { λ l. IsEven l.top l.below.items l.spare l.set l.rows.items };
 }
 
+// Returns n matrices of that size.
+fn matrices(alloc: Global, n: usize, size: usize) -> Result<Vec<Matrix>, NoMemory>
+    ensures length { IfOk result (λ list. length list.items ≡ n) }
+    ensures sizes { IfOk result (λ list. sizes list.items ≡ replicate n size) }
+{
+    let mut list = Vec::new(alloc);
+    for _ in 0..n {
+        list.push(Matrix::new(alloc, size)?)?;
+    }
+    Ok(list)
+}
+
+// Returns n rows of that length.
+fn rows(alloc: Global, n: usize, width: usize) -> Result<Vec<Row>, NoMemory>
+    ensures { IfOk result (λ list. widths list.items ≡ replicate n width) }
+{
+    let mut list = Vec::new(alloc);
+    for _ in 0..n {
+        list.push(Row::new(alloc, width)?)?;
+    }
+    Ok(list)
+}
+
 impl Levels {
     /// Takes memory for terms of at most height `depth`, over tables of at most `states` states.
     pub(crate) fn new(alloc: Global, depth: usize, states: usize) -> Result<Levels, NoMemory>
         ensures depth { IfOk result (λ l. depth ≤ l.room.depth) }
         ensures states { IfOk result (λ l. l.room.states ≡ states) }
     {
-        let top = Matrix::new(alloc, states)?;
-        let mut below = Vec::new(alloc);
-        let mut rows = Vec::new(alloc);
-        for _ in 1..depth {
-            below.push(Matrix::new(alloc, states)?)?;
-            rows.push(Row::new(alloc, states)?)?;
-        }
-        let spare = Row::new(alloc, states)?;
-        let set = Row::new(alloc, states)?;
+        let below = depth.saturating_sub(1);
         Ok(Levels {
-            top,
-            below,
-            spare,
-            set,
-            rows,
+            top: Matrix::new(alloc, states)?,
+            below: matrices(alloc, below, states)?,
+            spare: Row::new(alloc, states)?,
+            set: Row::new(alloc, states)?,
+            rows: rows(alloc, below, states)?,
         })
     }
 

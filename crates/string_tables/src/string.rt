@@ -3,10 +3,20 @@ use kat_model::Items;
 use std::marker::Model;
 
 /// An action, numbered from 0, and the truth values of the tests after it, test 0 first.
-#[derive(Drop)]
 pub struct Move {
     pub act: usize,
     pub atom: Items<bool>,
+}
+
+// Explicit, so that this crate proves it once: a derived drop is a part of the proof of each function that owns a
+// move, at each of its ends.
+impl Drop for Move {
+    fn drop(self) {
+        let Move {
+            act: _act,
+            atom: _atom,
+        } = self;
+    }
 }
 
 impl Model for Move {
@@ -18,10 +28,19 @@ impl Model for Move {
 }
 
 /// A guarded string: the first truth values, and moves (Kaplan 1969; Kozen and Smith 1996).
-#[derive(Drop)]
 pub struct GString {
     pub first: Items<bool>,
     pub rest: Items<Move>,
+}
+
+// Explicit, as for moves.
+impl Drop for GString {
+    fn drop(self) {
+        let GString {
+            first: _first,
+            rest: _rest,
+        } = self;
+    }
 }
 
 impl Model for GString {
