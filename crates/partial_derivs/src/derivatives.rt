@@ -20,9 +20,15 @@ use test_diagrams::Diagrams;
 
 /// The derivatives computed so far, including those of parts of terms. A table belongs to the store and the collection
 /// of diagrams that filled it.
-#[derive(Drop)]
 pub struct Derivatives {
     table: IndexMap<TermId, Steps>,
+}
+
+// Explicit, so that it is proved once and not at each end of each function that owns one.
+impl Drop for Derivatives {
+    fn drop(self) {
+        let Derivatives { table: _table } = self;
+    }
 }
 
 impl Derivatives {

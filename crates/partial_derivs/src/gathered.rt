@@ -22,9 +22,15 @@ pub(crate) struct Target {
 }
 
 /// The guard of each target.
-#[derive(Drop)]
 pub(crate) struct Gathered {
     guards: IndexMap<Target, DiagramId>,
+}
+
+// Explicit, so that it is proved once and not at each end of each function that owns one.
+impl Drop for Gathered {
+    fn drop(self) {
+        let Gathered { guards: _guards } = self;
+    }
 }
 
 impl Gathered {

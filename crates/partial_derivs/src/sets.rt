@@ -14,10 +14,19 @@ use std::alloc::Global;
 use test_diagrams::{DiagramId, Diagrams};
 
 /// The atoms that the terms so far accept, and their moves.
-#[derive(Drop)]
 pub(crate) struct Union {
     accepts: DiagramId,
     gathered: Gathered,
+}
+
+// Explicit, so that it is proved once and not at each end of each function that owns one.
+impl Drop for Union {
+    fn drop(self) {
+        let Union {
+            accepts: _,
+            gathered: _gathered,
+        } = self;
+    }
 }
 
 impl Union {

@@ -1,8 +1,15 @@
 use Rattle.term_nodes.proofs.Growing.{Grows-trans}
+use Rattle.test_diagrams.proofs.Kept.{KeepsFunctions-trans}
 use Rattle.partial_derivs.proofs.Items.{has_item}
 use Rattle.partial_derivs.proofs.Kept.{Keeps-trans, IsTermOf-kept}
 use Rattle.partial_derivs.proofs.Followed.{step_followed}
 use Rattle.partial_derivs.proofs.gathered.Gathered.with_tail.Goals as goal
+
+pub add_followed-requires-clause-guards : goal.add_followed-requires-clause-guards
+add_followed-requires-clause-guards c = c.loop-guarded.invariant.follows.guards
+
+pub add_followed-requires-clause-targets : goal.add_followed-requires-clause-targets
+add_followed-requires-clause-targets c = c.loop-guarded.invariant.follows.targets
 
 pub add_followed-requires-clause-guarded : goal.add_followed-requires-clause-guarded
 add_followed-requires-clause-guarded c =
@@ -14,8 +21,15 @@ add_followed-requires-clause-to c =
     IsTermOf-kept _ _ _ _ c.loop-guarded.invariant.kept c.guarded-item.result.to
     (c.requires.targets c.guarded-item.result (has_item c.args.moves.now c.loop-guarded.guarded-index c.guarded-item.result c.loop-guarded-test.true c.guarded-item.is))
 
+pub add_followed-requires-clause-tail : goal.add_followed-requires-clause-tail
+add_followed-requires-clause-tail c = IsTermOf-kept _ _ _ _ c.loop-guarded.invariant.kept c.args.tail c.requires.tail
+
 pub returns-in_err-add_followed-clause-trees : goal.returns-in_err-add_followed-clause-trees
 returns-in_err-add_followed-clause-trees c = Grows-trans _ _ _ c.loop-guarded.invariant.kept.trees c.in_err-add_followed.ensures.trees
+
+pub returns-in_err-add_followed-clause-kept : goal.returns-in_err-add_followed-clause-kept
+returns-in_err-add_followed-clause-kept c =
+    KeepsFunctions-trans _ _ _ c.loop-guarded.invariant.kept.functions c.in_err-add_followed.ensures.kept
 
 pub loop-guarded-preserved : goal.loop-guarded-preserved
 loop-guarded-preserved c =
