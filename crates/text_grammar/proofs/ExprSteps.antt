@@ -1,12 +1,16 @@
 -- The equation of the expression parser, without a number of steps.
-use Rattle.std.proofs.Common.{◌≡◌, ℕ, zero, suc, ◌+◌, ◌*◌, ◌<◌, ◌≤◌, List, [], ◌∷◌, length, if◌then◌else◌, Ok, refl, ap, arith, drop, length-drop}
-use Rattle.text_grammar.specs.declared.terminal.Terminal.TheVariants.{RoundOpen, RoundClose, Star, Zero, One, Number, Name}
+use Rattle.std.proofs.Common.{◌≡◌, ℕ, zero, suc, ◌+◌, ◌*◌, ◌<◌, ◌≤◌, List, [], ◌∷◌, length, true, false, Result, Ok, Err, refl, ap, ◌∙◌, arith, drop, length-drop}
+use Rattle.text_tokens.specs.declared.fault.TextFault.{TextFault}
+use Rattle.text_tokens.specs.declared.fault.TextFault.TheVariants.{Syntax}
+use Rattle.text_grammar.specs.declared.terminal.Terminal.{Terminal}
+use Rattle.text_grammar.specs.declared.terminal.Terminal.TheVariants.{RoundOpen, RoundClose, Star, Zero, One, Number, WideNumber, Name}
 use Rattle.text_grammar.specs.declared.reading.Context.{Context}
 use Rattle.text_grammar.specs.declared.reading.Operator.TheVariants.{Multiply}
 use Rattle.text_grammar.specs.Lexemes.{Lexeme, lexeme, heads, is_sum, is_terminal}
-use Rattle.text_grammar.specs.Parsed.{Parsed, ◌>>=◌, change, then_wants}
+use Rattle.text_grammar.specs.Parsed.{Parsed, ◌>>=◌, place_of, change, wants, then_wants}
 use Rattle.text_grammar.specs.Actions.{ExprActions, enter}
-use Rattle.text_grammar.specs.Exprs.{operator_at, ExprAim, sums, sums_after, products, products_after, factor, ExprParser, factor_by, expr_by, rank, steps, expr_within, parse_expr}
+use Rattle.text_grammar.specs.Exprs.{operator_at, ExprAim, sums, sums_after, products, products_after, factor, ExprParser, parenthesis, factor_by, expr_by, rank, steps, expr_within, parse_expr}
+use Rattle.text_grammar.proofs.Tokens.{next_drop}
 use Rattle.text_grammar.proofs.Within.{Within, bind_within, if_within, weaken, before_within, enter_within, change_within, then_wants_within, headed, bind_same, if_same, enter_same}
 
 -- 1 if the aim may consume no token, else 0
@@ -83,21 +87,81 @@ pub expr_step : {E : Type 0} (g : ExprActions E) (x : ExprAim E) (c : Context) (
 unfolding parse_expr expr_within
 expr_step g x c ts = expr_same g (expr_within g (steps x ts)) (parse_expr g) (within_short g (steps x ts)) x c ts (λ y d us lt. enough g (steps x ts) (suc (steps y us)) y d us lt (omega arith))
 
--- the equation at each aim, for searches that shall not unfold the aims inside it
-pub sums_step : {E : Type 0} (g : ExprActions E) (c : Context) (ts : List Lexeme) → parse_expr g sums c ts ≡ (parse_expr g products c ts >>= λ x. parse_expr g (sums_after x.0) c x.1)
-sums_step g c ts = expr_step g sums c ts
+-- what a list reads, by what its parts read
 
-pub sums_after_step : {E : Type 0} (g : ExprActions E) (e : E) (c : Context) (ts : List Lexeme) → parse_expr g (sums_after e) c ts ≡ (if heads is_sum ts then (parse_expr g products c (drop 1 ts) >>= λ x. parse_expr g (sums_after (g.join (operator_at ts) e x.0)) c x.1) else Ok (e, ts))
-sums_after_step g e c ts = expr_step g (sums_after e) c ts
+pub sums_first : {E : Type 0} (g : ExprActions E) (c : Context) (ts : List Lexeme) (x : E × List Lexeme) → parse_expr g products c ts ≡ Ok x → parse_expr g (sums_after x.0) c x.1 ≡ parse_expr g sums c ts
+sums_first g c ts x h = rw (expr_step g sums c ts, h) refl
 
-pub products_step : {E : Type 0} (g : ExprActions E) (c : Context) (ts : List Lexeme) → parse_expr g products c ts ≡ (parse_expr g factor c ts >>= λ x. parse_expr g (products_after x.0) c x.1)
-products_step g c ts = expr_step g products c ts
+pub sums_fault : {E : Type 0} (g : ExprActions E) (c : Context) (ts : List Lexeme) (f : TextFault) → parse_expr g products c ts ≡ Err f → parse_expr g sums c ts ≡ Err f
+sums_fault g c ts f h = rw (expr_step g sums c ts, h) refl
 
-pub products_after_step : {E : Type 0} (g : ExprActions E) (e : E) (c : Context) (ts : List Lexeme) → parse_expr g (products_after e) c ts ≡ (if heads (is_terminal Star) ts then (parse_expr g factor c (drop 1 ts) >>= λ x. parse_expr g (products_after (g.join Multiply e x.0)) c x.1) else Ok (e, ts))
-products_after_step g e c ts = expr_step g (products_after e) c ts
+sums_more : {E : Type 0} (g : ExprActions E) (e : E) (c : Context) (n : ℕ) (ts : List Lexeme) → heads is_sum (drop n ts) ≡ true → parse_expr g (sums_after e) c (drop n ts) ≡ (parse_expr g products c (drop (n + 1) ts) >>= λ x. parse_expr g (sums_after (g.join (operator_at (drop n ts)) e x.0)) c x.1)
+sums_more g e c n ts more = rw (expr_step g (sums_after e) c (drop n ts), more, next_drop n ts) refl
 
-pub factor_step : {E : Type 0} (g : ExprActions E) (c : Context) (ts : List Lexeme) → parse_expr g factor c ts ≡ factor_by g (parse_expr g) c ts
-factor_step g c ts = expr_step g factor c ts
+pub sums_next : {E : Type 0} (g : ExprActions E) (e : E) (c : Context) (n : ℕ) (ts : List Lexeme) (x : E × List Lexeme) (v : E) → heads is_sum (drop n ts) ≡ true → parse_expr g products c (drop (n + 1) ts) ≡ Ok x → ◌≡◌ {A = Result E TextFault} (Ok (g.join (operator_at (drop n ts)) e x.0)) (Ok v) → parse_expr g (sums_after v) c x.1 ≡ parse_expr g (sums_after e) c (drop n ts)
+sums_next g e c n ts x v more h made =
+    let joined : g.join (operator_at (drop n ts)) e x.0 ≡ v = cc in
+    rw (sums_more g e c n ts more, h, joined) refl
+
+pub sums_next_fault : {E : Type 0} (g : ExprActions E) (e : E) (c : Context) (n : ℕ) (ts : List Lexeme) (f : TextFault) → heads is_sum (drop n ts) ≡ true → parse_expr g products c (drop (n + 1) ts) ≡ Err f → parse_expr g (sums_after e) c (drop n ts) ≡ Err f
+sums_next_fault g e c n ts f more h = rw (sums_more g e c n ts more, h) refl
+
+pub sums_end : {E : Type 0} (g : ExprActions E) (e : E) (c : Context) (ts : List Lexeme) → heads is_sum ts ≡ false → parse_expr g (sums_after e) c ts ≡ Ok (e, ts)
+sums_end g e c ts done = rw (expr_step g (sums_after e) c ts, done) refl
+
+pub products_first : {E : Type 0} (g : ExprActions E) (c : Context) (ts : List Lexeme) (x : E × List Lexeme) → parse_expr g factor c ts ≡ Ok x → parse_expr g (products_after x.0) c x.1 ≡ parse_expr g products c ts
+products_first g c ts x h = rw (expr_step g products c ts, h) refl
+
+pub products_fault : {E : Type 0} (g : ExprActions E) (c : Context) (ts : List Lexeme) (f : TextFault) → parse_expr g factor c ts ≡ Err f → parse_expr g products c ts ≡ Err f
+products_fault g c ts f h = rw (expr_step g products c ts, h) refl
+
+products_more : {E : Type 0} (g : ExprActions E) (e : E) (c : Context) (n : ℕ) (ts : List Lexeme) → heads (is_terminal Star) (drop n ts) ≡ true → parse_expr g (products_after e) c (drop n ts) ≡ (parse_expr g factor c (drop (n + 1) ts) >>= λ x. parse_expr g (products_after (g.join Multiply e x.0)) c x.1)
+products_more g e c n ts more = rw (expr_step g (products_after e) c (drop n ts), more, next_drop n ts) refl
+
+pub products_next : {E : Type 0} (g : ExprActions E) (e : E) (c : Context) (n : ℕ) (ts : List Lexeme) (x : E × List Lexeme) (v : E) → heads (is_terminal Star) (drop n ts) ≡ true → parse_expr g factor c (drop (n + 1) ts) ≡ Ok x → ◌≡◌ {A = Result E TextFault} (Ok (g.join Multiply e x.0)) (Ok v) → parse_expr g (products_after v) c x.1 ≡ parse_expr g (products_after e) c (drop n ts)
+products_next g e c n ts x v more h made =
+    let joined : g.join Multiply e x.0 ≡ v = cc in
+    rw (products_more g e c n ts more, h, joined) refl
+
+pub products_next_fault : {E : Type 0} (g : ExprActions E) (e : E) (c : Context) (n : ℕ) (ts : List Lexeme) (f : TextFault) → heads (is_terminal Star) (drop n ts) ≡ true → parse_expr g factor c (drop (n + 1) ts) ≡ Err f → parse_expr g (products_after e) c (drop n ts) ≡ Err f
+products_next_fault g e c n ts f more h = rw (products_more g e c n ts more, h) refl
+
+pub products_end : {E : Type 0} (g : ExprActions E) (e : E) (c : Context) (ts : List Lexeme) → heads (is_terminal Star) ts ≡ false → parse_expr g (products_after e) c ts ≡ Ok (e, ts)
+products_end g e c ts done = rw (expr_step g (products_after e) c ts, done) refl
+
+-- what a factor reads, by its first token
+
+pub factor_none : {E : Type 0} (g : ExprActions E) (c : Context) (ts : List Lexeme) → ts ≡ [] → parse_expr g factor c ts ≡ Err (Syntax (place_of ts))
+factor_none g c ts none = rw none (expr_step g factor c [])
+
+pub factor_seen : {E : Type 0} (g : ExprActions E) (c : Context) (ts : List Lexeme) (s t : Terminal) (at : ℕ) (text : List ℕ) (us : List Lexeme) → ts ≡ lexeme s at text ∷ us → s ≡ t → parse_expr g factor c ts ≡ factor_by g (parse_expr g) c (lexeme t at text ∷ us)
+factor_seen g c ts s t at text us seen is = rw (seen, is) (expr_step g factor c (lexeme t at text ∷ us))
+
+other_factor : {E : Type 0} (g : ExprActions E) (f : ExprParser E) (c : Context) (s : Terminal) (at : ℕ) (text : List ℕ) (us : List Lexeme) → (s ≡ RoundOpen → ⊥) → (s ≡ Zero → ⊥) → (s ≡ One → ⊥) → ((n : ℕ) → s ≡ Number n → ⊥) → (s ≡ WideNumber → ⊥) → (s ≡ Name → ⊥) → factor_by g f c (lexeme s at text ∷ us) ≡ Err (Syntax at)
+other_factor g f c RoundOpen at text us a b d e h i = absurd (a refl)
+other_factor g f c Zero at text us a b d e h i = absurd (b refl)
+other_factor g f c One at text us a b d e h i = absurd (d refl)
+other_factor g f c (Number n) at text us a b d e h i = absurd (e n refl)
+other_factor g f c WideNumber at text us a b d e h i = absurd (h refl)
+other_factor g f c Name at text us a b d e h i = absurd (i refl)
+other_factor g f c _ at text us a b d e h i = refl
+
+pub factor_other : {E : Type 0} (g : ExprActions E) (c : Context) (ts : List Lexeme) (s : Terminal) (at : ℕ) (text : List ℕ) (us : List Lexeme) → ts ≡ lexeme s at text ∷ us → (s ≡ RoundOpen → ⊥) → (s ≡ Zero → ⊥) → (s ≡ One → ⊥) → ((n : ℕ) → s ≡ Number n → ⊥) → (s ≡ WideNumber → ⊥) → (s ≡ Name → ⊥) → parse_expr g factor c ts ≡ Err (Syntax at)
+factor_other g c ts s at text us seen a b d e h i = rw seen (expr_step g factor c (lexeme s at text ∷ us) ∙ other_factor g (parse_expr g) c s at text us a b d e h i)
+
+-- what a parenthesis reads
+
+pub parenthesis_refused : {E : Type 0} (g : ExprActions E) (f : ExprParser E) (c : Context) (at : ℕ) (ts : List Lexeme) (e : TextFault) → enter c at ≡ Err e → parenthesis g f c at ts ≡ Err e
+parenthesis_refused g f c at ts e refused = rw refused refl
+
+pub parenthesis_fault : {E : Type 0} (g : ExprActions E) (f : ExprParser E) (c d : Context) (at : ℕ) (ts : List Lexeme) (e : TextFault) → enter c at ≡ Ok d → f sums d ts ≡ Err e → parenthesis g f c at ts ≡ Err e
+parenthesis_fault g f c d at ts e entered h = rw (entered, h) refl
+
+pub parenthesis_open : {E : Type 0} (g : ExprActions E) (f : ExprParser E) (c d : Context) (at : ℕ) (ts : List Lexeme) (x : E × List Lexeme) (e : TextFault) → enter c at ≡ Ok d → f sums d ts ≡ Ok x → wants (is_terminal RoundClose) x.1 ≡ Err e → parenthesis g f c at ts ≡ Err e
+parenthesis_open g f c d at ts x e entered h missing = rw (entered, h, missing) refl
+
+pub parenthesis_closed : {E : Type 0} (g : ExprActions E) (f : ExprParser E) (c d : Context) (at : ℕ) (ts : List Lexeme) (x : E × List Lexeme) (us : List Lexeme) (v : E) → enter c at ≡ Ok d → f sums d ts ≡ Ok x → wants (is_terminal RoundClose) x.1 ≡ Ok us → v ≡ g.enclosed x.0 → parenthesis g f c at ts ≡ Ok (v, us)
+parenthesis_closed g f c d at ts x us v entered h closed is = rw (entered, h, closed, is) refl
 
 -- the parser consumes at least one token, or none for the rest of a list
 pub expr_read_short : {E : Type 0} (g : ExprActions E) → IsShort (parse_expr g)

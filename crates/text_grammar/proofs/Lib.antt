@@ -1,4 +1,6 @@
+pub mod PartFaults
 mod Seen
+pub mod Symbols
 pub mod Words
 pub mod Numerals
 pub mod Parentheses

@@ -1,12 +1,16 @@
 -- The equation of the term parser, without a number of steps.
-use Rattle.std.proofs.Common.{◌≡◌, ℕ, zero, suc, ◌+◌, ◌*◌, ◌<◌, ◌≤◌, List, [], ◌∷◌, length, if◌then◌else◌, Ok, refl, ap, arith, drop, length-drop}
+use Rattle.std.proofs.Common.{◌≡◌, ℕ, zero, suc, ◌+◌, ◌*◌, ◌<◌, ◌≤◌, List, [], ◌∷◌, length, true, false, Result, Ok, Err, refl, ap, ◌∙◌, arith, drop, length-drop}
+use Rattle.text_tokens.specs.declared.fault.TextFault.{TextFault}
+use Rattle.text_tokens.specs.declared.fault.TextFault.TheVariants.{Syntax}
+use Rattle.text_grammar.specs.declared.terminal.Terminal.{Terminal}
 use Rattle.text_grammar.specs.declared.terminal.Terminal.TheVariants.{RoundOpen, RoundClose, SquareOpen, SquareClose, Bang, Star, Plus, Dot, Zero, One, Name}
 use Rattle.text_grammar.specs.declared.reading.Context.{Context}
 use Rattle.text_grammar.specs.Lexemes.{Lexeme, lexeme, heads, is_terminal}
-use Rattle.text_grammar.specs.Parsed.{Parsed, ◌>>=◌, before, change, then_wants, place_of}
+use Rattle.text_grammar.specs.Parsed.{Parsed, ◌>>=◌, before, place_of, change, wants, then_wants}
 use Rattle.text_grammar.specs.Actions.{Actions, enter, enter_not}
 use Rattle.text_grammar.specs.Conds.{parse_cond, disjunction}
 use Rattle.text_grammar.specs.Terms.{TermAim, choice, choice_after, sequence, sequence_after, unit, TermParser, parenthesis, bracket, negation, unit_by, star_or_not, term_by, rank, steps, term_within, parse_term}
+use Rattle.text_grammar.proofs.Tokens.{next_drop}
 use Rattle.text_grammar.proofs.Within.{Within, bind_within, if_within, weaken, before_within, enter_within, change_within, then_wants_within, headed, bind_same, if_same, enter_same}
 use Rattle.text_grammar.proofs.CondSteps.{cond_read_short}
 
@@ -109,21 +113,122 @@ pub term_step : {E B L T M : Type 0} (g : Actions E B L T M) (x : TermAim M) (c 
 unfolding parse_term term_within
 term_step g x c ts = term_same g (term_within g (steps x ts)) (parse_term g) (within_short g (steps x ts)) x c ts (λ y d us lt. enough g (steps x ts) (suc (steps y us)) y d us lt (omega arith))
 
--- the equation at each aim, for searches that shall not unfold the aims inside it
-pub choice_step : {E B L T M : Type 0} (g : Actions E B L T M) (c : Context) (ts : List Lexeme) → parse_term g choice c ts ≡ (parse_term g sequence c ts >>= λ x. parse_term g (choice_after (g.one_of x.0)) c x.1)
-choice_step g c ts = term_step g choice c ts
+-- what a list reads, by what its parts read
 
-pub choice_after_step : {E B L T M : Type 0} (g : Actions E B L T M) (m : M) (c : Context) (ts : List Lexeme) → parse_term g (choice_after m) c ts ≡ (if heads (is_terminal Plus) ts then (parse_term g sequence c (drop 1 ts) >>= λ x. parse_term g (choice_after (g.more m x.0)) c x.1) else Ok (g.sum m, ts))
-choice_after_step g m c ts = term_step g (choice_after m) c ts
+pub choice_first : {E B L T M : Type 0} (g : Actions E B L T M) (c : Context) (ts : List Lexeme) (x : T × List Lexeme) (l : M) → parse_term g sequence c ts ≡ Ok x → ◌≡◌ {A = Result M TextFault} (Ok (g.one_of x.0)) (Ok l) → parse_term g (choice_after l) c x.1 ≡ parse_term g choice c ts
+choice_first g c ts x l h made =
+    let same : g.one_of x.0 ≡ l = cc in
+    rw (term_step g choice c ts, h, same) refl
 
-pub sequence_step : {E B L T M : Type 0} (g : Actions E B L T M) (c : Context) (ts : List Lexeme) → parse_term g sequence c ts ≡ (parse_term g unit c ts >>= λ x. star_or_not g c x.0 x.1 >>= λ y. parse_term g (sequence_after (g.one_of y.0)) c y.1)
-sequence_step g c ts = term_step g sequence c ts
+pub choice_fault : {E B L T M : Type 0} (g : Actions E B L T M) (c : Context) (ts : List Lexeme) (f : TextFault) → parse_term g sequence c ts ≡ Err f → parse_term g choice c ts ≡ Err f
+choice_fault g c ts f h = rw (term_step g choice c ts, h) refl
 
-pub sequence_after_step : {E B L T M : Type 0} (g : Actions E B L T M) (m : M) (c : Context) (ts : List Lexeme) → parse_term g (sequence_after m) c ts ≡ (if heads (is_terminal Dot) ts then (parse_term g unit c (drop 1 ts) >>= λ x. star_or_not g c x.0 x.1 >>= λ y. parse_term g (sequence_after (g.more m y.0)) c y.1) else Ok (g.product m, ts))
-sequence_after_step g m c ts = term_step g (sequence_after m) c ts
+choice_more : {E B L T M : Type 0} (g : Actions E B L T M) (l : M) (c : Context) (n : ℕ) (ts : List Lexeme) → heads (is_terminal Plus) (drop n ts) ≡ true → parse_term g (choice_after l) c (drop n ts) ≡ (parse_term g sequence c (drop (n + 1) ts) >>= λ x. parse_term g (choice_after (g.more l x.0)) c x.1)
+choice_more g l c n ts more = rw (term_step g (choice_after l) c (drop n ts), more, next_drop n ts) refl
 
-pub unit_step : {E B L T M : Type 0} (g : Actions E B L T M) (c : Context) (ts : List Lexeme) → parse_term g unit c ts ≡ unit_by g (parse_term g) c ts
-unit_step g c ts = term_step g unit c ts
+pub choice_next : {E B L T M : Type 0} (g : Actions E B L T M) (l : M) (c : Context) (n : ℕ) (ts : List Lexeme) (x : T × List Lexeme) (m : M) → heads (is_terminal Plus) (drop n ts) ≡ true → parse_term g sequence c (drop (n + 1) ts) ≡ Ok x → ◌≡◌ {A = Result M TextFault} (Ok (g.more l x.0)) (Ok m) → parse_term g (choice_after m) c x.1 ≡ parse_term g (choice_after l) c (drop n ts)
+choice_next g l c n ts x m more h made =
+    let same : g.more l x.0 ≡ m = cc in
+    rw (choice_more g l c n ts more, h, same) refl
+
+pub choice_next_fault : {E B L T M : Type 0} (g : Actions E B L T M) (l : M) (c : Context) (n : ℕ) (ts : List Lexeme) (f : TextFault) → heads (is_terminal Plus) (drop n ts) ≡ true → parse_term g sequence c (drop (n + 1) ts) ≡ Err f → parse_term g (choice_after l) c (drop n ts) ≡ Err f
+choice_next_fault g l c n ts f more h = rw (choice_more g l c n ts more, h) refl
+
+pub choice_end : {E B L T M : Type 0} (g : Actions E B L T M) (l : M) (c : Context) (ts : List Lexeme) (b : T) → heads (is_terminal Plus) ts ≡ false → ◌≡◌ {A = Result T TextFault} (Ok (g.sum l)) (Ok b) → parse_term g (choice_after l) c ts ≡ Ok (b, ts)
+choice_end g l c ts b done made =
+    let same : g.sum l ≡ b = cc in
+    rw (term_step g (choice_after l) c ts, done, same) refl
+
+pub sequence_first : {E B L T M : Type 0} (g : Actions E B L T M) (c : Context) (ts : List Lexeme) (x y : T × List Lexeme) (l : M) → parse_term g unit c ts ≡ Ok x → star_or_not g c x.0 x.1 ≡ Ok y → ◌≡◌ {A = Result M TextFault} (Ok (g.one_of y.0)) (Ok l) → parse_term g (sequence_after l) c y.1 ≡ parse_term g sequence c ts
+sequence_first g c ts x y l h starred made =
+    let same : g.one_of y.0 ≡ l = cc in
+    rw (term_step g sequence c ts, h, starred, same) refl
+
+pub sequence_fault : {E B L T M : Type 0} (g : Actions E B L T M) (c : Context) (ts : List Lexeme) (f : TextFault) → parse_term g unit c ts ≡ Err f → parse_term g sequence c ts ≡ Err f
+sequence_fault g c ts f h = rw (term_step g sequence c ts, h) refl
+
+pub sequence_star_fault : {E B L T M : Type 0} (g : Actions E B L T M) (c : Context) (ts : List Lexeme) (x : T × List Lexeme) (f : TextFault) → parse_term g unit c ts ≡ Ok x → star_or_not g c x.0 x.1 ≡ Err f → parse_term g sequence c ts ≡ Err f
+sequence_star_fault g c ts x f h starred = rw (term_step g sequence c ts, h, starred) refl
+
+sequence_more : {E B L T M : Type 0} (g : Actions E B L T M) (l : M) (c : Context) (n : ℕ) (ts : List Lexeme) → heads (is_terminal Dot) (drop n ts) ≡ true → parse_term g (sequence_after l) c (drop n ts) ≡ (parse_term g unit c (drop (n + 1) ts) >>= λ x. star_or_not g c x.0 x.1 >>= λ y. parse_term g (sequence_after (g.more l y.0)) c y.1)
+sequence_more g l c n ts more = rw (term_step g (sequence_after l) c (drop n ts), more, next_drop n ts) refl
+
+pub sequence_next : {E B L T M : Type 0} (g : Actions E B L T M) (l : M) (c : Context) (n : ℕ) (ts : List Lexeme) (x y : T × List Lexeme) (m : M) → heads (is_terminal Dot) (drop n ts) ≡ true → parse_term g unit c (drop (n + 1) ts) ≡ Ok x → star_or_not g c x.0 x.1 ≡ Ok y → ◌≡◌ {A = Result M TextFault} (Ok (g.more l y.0)) (Ok m) → parse_term g (sequence_after m) c y.1 ≡ parse_term g (sequence_after l) c (drop n ts)
+sequence_next g l c n ts x y m more h starred made =
+    let same : g.more l y.0 ≡ m = cc in
+    rw (sequence_more g l c n ts more, h, starred, same) refl
+
+pub sequence_next_fault : {E B L T M : Type 0} (g : Actions E B L T M) (l : M) (c : Context) (n : ℕ) (ts : List Lexeme) (f : TextFault) → heads (is_terminal Dot) (drop n ts) ≡ true → parse_term g unit c (drop (n + 1) ts) ≡ Err f → parse_term g (sequence_after l) c (drop n ts) ≡ Err f
+sequence_next_fault g l c n ts f more h = rw (sequence_more g l c n ts more, h) refl
+
+pub sequence_next_star_fault : {E B L T M : Type 0} (g : Actions E B L T M) (l : M) (c : Context) (n : ℕ) (ts : List Lexeme) (x : T × List Lexeme) (f : TextFault) → heads (is_terminal Dot) (drop n ts) ≡ true → parse_term g unit c (drop (n + 1) ts) ≡ Ok x → star_or_not g c x.0 x.1 ≡ Err f → parse_term g (sequence_after l) c (drop n ts) ≡ Err f
+sequence_next_star_fault g l c n ts x f more h starred = rw (sequence_more g l c n ts more, h, starred) refl
+
+pub sequence_end : {E B L T M : Type 0} (g : Actions E B L T M) (l : M) (c : Context) (ts : List Lexeme) (b : T) → heads (is_terminal Dot) ts ≡ false → ◌≡◌ {A = Result T TextFault} (Ok (g.product l)) (Ok b) → parse_term g (sequence_after l) c ts ≡ Ok (b, ts)
+sequence_end g l c ts b done made =
+    let same : g.product l ≡ b = cc in
+    rw (term_step g (sequence_after l) c ts, done, same) refl
+
+-- what a unit reads, by its first token
+
+pub unit_none : {E B L T M : Type 0} (g : Actions E B L T M) (c : Context) (ts : List Lexeme) → ts ≡ [] → parse_term g unit c ts ≡ Err (Syntax (place_of ts))
+unit_none g c ts none = rw none (term_step g unit c [])
+
+pub unit_seen : {E B L T M : Type 0} (g : Actions E B L T M) (c : Context) (ts : List Lexeme) (s t : Terminal) (at : ℕ) (text : List ℕ) (us : List Lexeme) → ts ≡ lexeme s at text ∷ us → s ≡ t → parse_term g unit c ts ≡ unit_by g (parse_term g) c (lexeme t at text ∷ us)
+unit_seen g c ts s t at text us seen is = rw (seen, is) (term_step g unit c (lexeme t at text ∷ us))
+
+other_unit : {E B L T M : Type 0} (g : Actions E B L T M) (f : TermParser T M) (c : Context) (s : Terminal) (at : ℕ) (text : List ℕ) (us : List Lexeme) → (s ≡ RoundOpen → ⊥) → (s ≡ SquareOpen → ⊥) → (s ≡ Bang → ⊥) → (s ≡ Zero → ⊥) → (s ≡ One → ⊥) → (s ≡ Name → ⊥) → unit_by g f c (lexeme s at text ∷ us) ≡ Err (Syntax at)
+other_unit g f c RoundOpen at text us a b d e h i = absurd (a refl)
+other_unit g f c SquareOpen at text us a b d e h i = absurd (b refl)
+other_unit g f c Bang at text us a b d e h i = absurd (d refl)
+other_unit g f c Zero at text us a b d e h i = absurd (e refl)
+other_unit g f c One at text us a b d e h i = absurd (h refl)
+other_unit g f c Name at text us a b d e h i = absurd (i refl)
+other_unit g f c _ at text us a b d e h i = refl
+
+pub unit_other : {E B L T M : Type 0} (g : Actions E B L T M) (c : Context) (ts : List Lexeme) (s : Terminal) (at : ℕ) (text : List ℕ) (us : List Lexeme) → ts ≡ lexeme s at text ∷ us → (s ≡ RoundOpen → ⊥) → (s ≡ SquareOpen → ⊥) → (s ≡ Bang → ⊥) → (s ≡ Zero → ⊥) → (s ≡ One → ⊥) → (s ≡ Name → ⊥) → parse_term g unit c ts ≡ Err (Syntax at)
+unit_other g c ts s at text us seen a b d e h i = rw seen (term_step g unit c (lexeme s at text ∷ us) ∙ other_unit g (parse_term g) c s at text us a b d e h i)
+
+-- what a `!` and a parenthesis read
+
+pub negation_refused : {E B L T M : Type 0} (g : Actions E B L T M) (f : TermParser T M) (c : Context) (at : ℕ) (ts : List Lexeme) (e : TextFault) → enter_not c at ≡ Err e → negation g f c at ts ≡ Err e
+negation_refused g f c at ts e refused = rw refused refl
+
+pub negation_fault : {E B L T M : Type 0} (g : Actions E B L T M) (f : TermParser T M) (c d : Context) (at : ℕ) (ts : List Lexeme) (e : TextFault) → enter_not c at ≡ Ok d → f unit d ts ≡ Err e → negation g f c at ts ≡ Err e
+negation_fault g f c d at ts e entered h = rw (entered, h) refl
+
+pub negation_made : {E B L T M : Type 0} (g : Actions E B L T M) (f : TermParser T M) (c d : Context) (at : ℕ) (ts : List Lexeme) (x : T × List Lexeme) (v : T) → enter_not c at ≡ Ok d → f unit d ts ≡ Ok x → ◌≡◌ {A = Result T TextFault} (Ok (g.negated x.0)) (Ok v) → negation g f c at ts ≡ Ok (v, x.1)
+negation_made g f c d at ts x v entered h made =
+    let same : g.negated x.0 ≡ v = cc in
+    rw (entered, h, same) refl
+
+pub parenthesis_refused : {E B L T M : Type 0} (g : Actions E B L T M) (f : TermParser T M) (c : Context) (at : ℕ) (ts : List Lexeme) (e : TextFault) → enter c at ≡ Err e → parenthesis g f c at ts ≡ Err e
+parenthesis_refused g f c at ts e refused = rw refused refl
+
+pub parenthesis_fault : {E B L T M : Type 0} (g : Actions E B L T M) (f : TermParser T M) (c d : Context) (at : ℕ) (ts : List Lexeme) (e : TextFault) → enter c at ≡ Ok d → f choice d ts ≡ Err e → parenthesis g f c at ts ≡ Err e
+parenthesis_fault g f c d at ts e entered h = rw (entered, h) refl
+
+pub parenthesis_open : {E B L T M : Type 0} (g : Actions E B L T M) (f : TermParser T M) (c d : Context) (at : ℕ) (ts : List Lexeme) (x : T × List Lexeme) (e : TextFault) → enter c at ≡ Ok d → f choice d ts ≡ Ok x → wants (is_terminal RoundClose) x.1 ≡ Err e → parenthesis g f c at ts ≡ Err e
+parenthesis_open g f c d at ts x e entered h missing = rw (entered, h, missing) refl
+
+pub parenthesis_closed : {E B L T M : Type 0} (g : Actions E B L T M) (f : TermParser T M) (c d : Context) (at : ℕ) (ts : List Lexeme) (x : T × List Lexeme) (us : List Lexeme) (v : T) → enter c at ≡ Ok d → f choice d ts ≡ Ok x → wants (is_terminal RoundClose) x.1 ≡ Ok us → v ≡ g.enclosed x.0 → parenthesis g f c at ts ≡ Ok (v, us)
+parenthesis_closed g f c d at ts x us v entered h closed is = rw (entered, h, closed, is) refl
+
+-- what a bracket reads
+
+pub bracket_refused : {E B L T M : Type 0} (g : Actions E B L T M) (c : Context) (at : ℕ) (ts : List Lexeme) (e : TextFault) → enter c at ≡ Err e → bracket g c at ts ≡ Err e
+bracket_refused g c at ts e refused = rw refused refl
+
+pub bracket_fault : {E B L T M : Type 0} (g : Actions E B L T M) (c d : Context) (at : ℕ) (ts : List Lexeme) (e : TextFault) → enter c at ≡ Ok d → parse_cond g.conds disjunction d ts ≡ Err e → bracket g c at ts ≡ Err e
+bracket_fault g c d at ts e entered h = rw (entered, h) refl
+
+pub bracket_open : {E B L T M : Type 0} (g : Actions E B L T M) (c d : Context) (at : ℕ) (ts : List Lexeme) (x : B × List Lexeme) (e : TextFault) → enter c at ≡ Ok d → parse_cond g.conds disjunction d ts ≡ Ok x → wants (is_terminal SquareClose) x.1 ≡ Err e → bracket g c at ts ≡ Err e
+bracket_open g c d at ts x e entered h missing = rw (entered, h, missing) refl
+
+pub bracket_closed : {E B L T M : Type 0} (g : Actions E B L T M) (c d : Context) (at : ℕ) (ts : List Lexeme) (x : B × List Lexeme) (us : List Lexeme) (v : T) → enter c at ≡ Ok d → parse_cond g.conds disjunction d ts ≡ Ok x → wants (is_terminal SquareClose) x.1 ≡ Ok us → ◌≡◌ {A = Result T TextFault} (Ok (g.tested x.0)) (Ok v) → bracket g c at ts ≡ Ok (v, us)
+bracket_closed g c d at ts x us v entered h closed made =
+    let same : g.tested x.0 ≡ v = cc in
+    rw (entered, h, closed, same) refl
 
 -- the parser consumes at least one token, or none for the rest of a list
 pub term_read_short : {E B L T M : Type 0} (g : Actions E B L T M) → IsShort (parse_term g)

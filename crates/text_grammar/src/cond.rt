@@ -90,7 +90,6 @@ pub fn read_cond<R: Reading>(
 }
 
 #[cycle(conds)]
-#[tactic(auto, using(crate::proofs::CondSteps::cond_step, crate::proofs::Tokens::next_drop))]
 fn disjunction<R: Reading>(
     reading: &R,
     toks: &[Token],
@@ -112,7 +111,6 @@ fn disjunction<R: Reading>(
 }
 
 #[cycle(conds)]
-#[tactic(auto, using(crate::proofs::CondSteps::cond_step, crate::proofs::Tokens::next_drop))]
 fn conjunction<R: Reading>(
     reading: &R,
     toks: &[Token],
@@ -134,7 +132,6 @@ fn conjunction<R: Reading>(
 }
 
 #[cycle(conds)]
-#[tactic(auto, using(crate::proofs::CondSteps::cond_step, crate::proofs::Tokens::next_drop))]
 fn literal<R: Reading>(
     reading: &R,
     toks: &[Token],

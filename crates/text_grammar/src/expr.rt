@@ -31,7 +31,6 @@ pub fn read_expr<R: Reading>(
 }
 
 #[cycle(exprs)]
-#[tactic(auto, using(crate::proofs::ExprSteps::expr_step, crate::proofs::Tokens::next_drop))]
 fn sum<R: Reading>(
     reading: &R,
     toks: &[Token],
@@ -54,7 +53,6 @@ fn sum<R: Reading>(
 }
 
 #[cycle(exprs)]
-#[tactic(auto, using(crate::proofs::ExprSteps::expr_step, crate::proofs::Tokens::next_drop))]
 fn product<R: Reading>(
     reading: &R,
     toks: &[Token],
@@ -76,7 +74,6 @@ fn product<R: Reading>(
 }
 
 #[cycle(exprs)]
-#[tactic(auto, using(crate::proofs::ExprSteps::expr_step, crate::proofs::Tokens::next_drop))]
 fn factor<R: Reading>(
     reading: &R,
     toks: &[Token],

@@ -7,7 +7,7 @@ use kat_model::{MAX_OPEN, Rel};
 use text_tokens::TextFault;
 
 /// An operation on numbers. A list of operations groups to the left.
-#[derive(Clone, Copy, Debug, PartialEq, Eq)]
+#[derive(Clone, Copy)]
 pub enum Operator {
     /// `+`
     Add,
@@ -18,7 +18,7 @@ pub enum Operator {
 }
 
 /// The context of a place in the text.
-#[derive(Clone, Copy, Debug, PartialEq, Eq)]
+#[derive(Clone, Copy)]
 pub struct Context {
     /// The number of open constructs: each unclosed `(`, `[` or `{`, and each `!` whose operand is being read.
     pub depth: usize,

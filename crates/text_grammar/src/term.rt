@@ -26,7 +26,6 @@ pub fn read_term<R: Reading>(
 }
 
 #[cycle(terms)]
-#[tactic(auto, using(crate::proofs::TermSteps::term_step, crate::proofs::Tokens::next_drop))]
 fn choice<R: Reading>(
     reading: &R,
     toks: &[Token],
@@ -48,7 +47,6 @@ fn choice<R: Reading>(
 }
 
 #[cycle(terms)]
-#[tactic(auto, using(crate::proofs::TermSteps::term_step, crate::proofs::Tokens::next_drop))]
 fn sequence<R: Reading>(
     reading: &R,
     toks: &[Token],
@@ -89,7 +87,6 @@ fn star_or_not<R: Reading>(
 }
 
 #[cycle(terms)]
-#[tactic(auto, using(crate::proofs::TermSteps::term_step, crate::proofs::Tokens::next_drop))]
 fn unit<R: Reading>(
     reading: &R,
     toks: &[Token],

@@ -5,6 +5,7 @@ ghost use Rattle.std.specs.Char.{is_ascii_digit};
 ghost use Rattle.text_tokens.specs.TokenParts.{parts_of_tokens};
 ghost use Rattle.text_tokens.specs.declared.fault.TextFault.TheVariants.{Syntax};
 ghost use Rattle.text_grammar.specs.Terminals.{terminal_of, is_symbol, heads_symbol, keyword_terminal, number_terminal, symbol_terminal, is_digits, small_number};
+ghost use Rattle.text_grammar.specs.Working.Symbols.{symbol_of_one, symbol_of_two};
 ghost use Rattle.text_grammar.specs.Working.Words.{word_of_four, word_of_five, word_of_six, other_word};
 ghost use Rattle.text_grammar.specs.Lexemes.{lexemes, text_at, Sees, heads, is_terminal, is_sum};
 ghost use Rattle.text_grammar.specs.Parsed.{place_of, Wants, wants};
@@ -13,7 +14,7 @@ use kat_model::Rel;
 use text_tokens::{Kind, TextFault, Token};
 
 /// A keyword, spelled as its variant in lower case. `true` and `false` are [`Terminal::True`] and [`Terminal::False`].
-#[derive(Clone, Copy, Debug, PartialEq, Eq)]
+#[derive(Clone, Copy, PartialEq, Eq)]
 pub enum Keyword {
     Test,
     Action,
@@ -36,7 +37,7 @@ pub enum Keyword {
 }
 
 /// A symbol that occurs between phrases, never in one.
-#[derive(Clone, Copy, Debug, PartialEq, Eq)]
+#[derive(Clone, Copy, PartialEq, Eq)]
 pub enum Separator {
     /// `,`
     Comma,
@@ -55,7 +56,7 @@ pub enum Separator {
 }
 
 /// The terminal of a token. Numbers have several terminals, as far as the grammar distinguishes them.
-#[derive(Clone, Copy, Debug, PartialEq, Eq)]
+#[derive(Clone, Copy, PartialEq, Eq)]
 pub enum Terminal {
     /// `(`
     RoundOpen,
@@ -103,35 +104,53 @@ pub enum Terminal {
     Other,
 }
 
+fn symbol_of_one(byte: u8) -> Terminal
+    ensures { result ≡ symbol_of_one byte }
+{
+    match byte {
+        b'(' => Terminal::RoundOpen,
+        b')' => Terminal::RoundClose,
+        b'[' => Terminal::SquareOpen,
+        b']' => Terminal::SquareClose,
+        b'!' => Terminal::Bang,
+        b'*' => Terminal::Star,
+        b'+' => Terminal::Plus,
+        b'-' => Terminal::Minus,
+        b'.' => Terminal::Dot,
+        b'<' => Terminal::Compares(Rel::Lt),
+        b'>' => Terminal::Compares(Rel::Gt),
+        b',' => Terminal::Separator(Separator::Comma),
+        b';' => Terminal::Separator(Separator::Semicolon),
+        b'{' => Terminal::Separator(Separator::CurlyOpen),
+        b'}' => Terminal::Separator(Separator::CurlyClose),
+        b'=' => Terminal::Separator(Separator::Equals),
+        b'^' => Terminal::Separator(Separator::Caret),
+        _ => Terminal::Other,
+    }
+}
+
+fn symbol_of_two(first: u8, second: u8) -> Terminal
+    ensures { result ≡ symbol_of_two first second }
+{
+    match (first, second) {
+        (b'&', b'&') => Terminal::And,
+        (b'|', b'|') => Terminal::Or,
+        (b'=', b'=') => Terminal::Compares(Rel::Eq),
+        (b'!', b'=') => Terminal::Compares(Rel::Ne),
+        (b'<', b'=') => Terminal::Compares(Rel::Le),
+        (b'>', b'=') => Terminal::Compares(Rel::Ge),
+        (b':', b'=') => Terminal::Separator(Separator::Becomes),
+        _ => Terminal::Other,
+    }
+}
+
 // Matches the bytes of the text: a match on strings would compare the text with each string in turn.
 fn symbol_terminal(text: &str) -> Terminal
     ensures { result ≡ symbol_terminal text.now }
 {
     match text.as_bytes() {
-        b"(" => Terminal::RoundOpen,
-        b")" => Terminal::RoundClose,
-        b"[" => Terminal::SquareOpen,
-        b"]" => Terminal::SquareClose,
-        b"!" => Terminal::Bang,
-        b"*" => Terminal::Star,
-        b"+" => Terminal::Plus,
-        b"-" => Terminal::Minus,
-        b"." => Terminal::Dot,
-        b"&&" => Terminal::And,
-        b"||" => Terminal::Or,
-        b"==" => Terminal::Compares(Rel::Eq),
-        b"!=" => Terminal::Compares(Rel::Ne),
-        b"<" => Terminal::Compares(Rel::Lt),
-        b"<=" => Terminal::Compares(Rel::Le),
-        b">" => Terminal::Compares(Rel::Gt),
-        b">=" => Terminal::Compares(Rel::Ge),
-        b"," => Terminal::Separator(Separator::Comma),
-        b";" => Terminal::Separator(Separator::Semicolon),
-        b"{" => Terminal::Separator(Separator::CurlyOpen),
-        b"}" => Terminal::Separator(Separator::CurlyClose),
-        b"=" => Terminal::Separator(Separator::Equals),
-        b":=" => Terminal::Separator(Separator::Becomes),
-        b"^" => Terminal::Separator(Separator::Caret),
+        [byte] => symbol_of_one(*byte),
+        [first, second] => symbol_of_two(*first, *second),
         _ => Terminal::Other,
     }
 }

@@ -5,7 +5,7 @@ ghost use Rattle.text_scopes.specs.Measuring.{limited, deeper, linked, topped, n
 use kat_model::{MAX_EXPR_NODES, MAX_OPEN, MAX_TERM_NODES};
 
 /// The size and the nesting of a phrase. Each number is capped at its limit plus one.
-#[derive(Clone, Copy, Debug, PartialEq, Eq)]
+#[derive(Clone, Copy)]
 pub struct Extent {
     /// The number of nodes of its tree, at most `MAX_TERM_NODES + 1`, and that if an expression in it has more than
     /// `MAX_EXPR_NODES` nodes.

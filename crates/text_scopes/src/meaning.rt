@@ -1,7 +1,7 @@
 //! Meanings of names.
 
 /// What a name denotes, by its number within its kind.
-#[derive(Clone, Copy, Debug, PartialEq, Eq, PartialOrd, Ord)]
+#[derive(Clone, Copy, PartialEq, Eq, PartialOrd, Ord)]
 pub enum Meaning {
     /// A primitive test.
     Test(usize),

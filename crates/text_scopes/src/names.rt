@@ -10,11 +10,21 @@ use std::marker::Model;
 use text_tokens::{TextFault, Token};
 
 // A one-to-one table: each name denotes one meaning, and each meaning has at most one name.
-#[derive(Drop)]
 pub(crate) struct Names {
     alloc: Global,
     meanings: BTreeMap<String, Meaning>,
     texts: BTreeMap<Meaning, String>,
+}
+
+// Explicit, so that it is proved once and not at each end of each function that owns one.
+impl Drop for Names {
+    fn drop(self) {
+        let Names {
+            alloc: _,
+            meanings: _meanings,
+            texts: _texts,
+        } = self;
+    }
 }
 
 impl Model for Names {

@@ -17,10 +17,19 @@ use std::marker::Model;
 use text_tokens::{TextFault, Token};
 
 /// The declared names with their meanings, and the defined terms. All kinds share one name space.
-#[derive(Drop)]
 pub struct Scope {
     names: Names,
     definitions: Vec<Definition>,
+}
+
+// Explicit, so that it is proved once and not at each end of each function that owns one.
+impl Drop for Scope {
+    fn drop(self) {
+        let Scope {
+            names: _names,
+            definitions: _definitions,
+        } = self;
+    }
 }
 
 impl Model for Scope {

@@ -1,109 +1,285 @@
-use Rattle.std.proofs.Common.{arith}
-use Rattle.text_grammar.proofs.CondSteps.{literal_step, conjunction_step, conjunction_after_step, disjunction_step, disjunction_after_step}
-use Rattle.text_grammar.proofs.Tokens.{next_drop}
+use Rattle.std.proofs.Common.{◌+◌, drop, true, Ok, ap, sym, subst, ◌∙◌, nat_lt, arith}
+use Rattle.kat_model.specs.declared.limits.TheConstants.{MAX_OPEN}
+use Rattle.text_grammar.specs.declared.terminal.Terminal.TheVariants.{RoundClose, Bang, True, False}
+use Rattle.text_grammar.specs.Lexemes.{lexemes, text_at, is_terminal}
+use Rattle.text_grammar.specs.Parsed.{Parsed, place_of, before, Reads}
+use Rattle.text_grammar.specs.Actions.{context}
+use Rattle.text_grammar.specs.Conds.{begins_expr, disjunction, conjunction, literal, parse_cond, negation, parenthesis}
+use Rattle.text_grammar.proofs.PartFaults.{fault_read, fault_made, memory_lacks, fault_known, syntax_read, enter_keeps_memory, wants_keeps_memory}
+use Rattle.text_grammar.proofs.CondSteps.{disjunction_first, disjunction_fault, disjunction_next, disjunction_next_fault, disjunction_end, conjunction_first, conjunction_fault, conjunction_next, conjunction_next_fault, conjunction_end, literal_none, literal_seen, literal_other, name_compared, name_alone, round_compared, round_alone, number_compared, negation_refused, negation_fault, negation_made, parenthesis_refused, parenthesis_fault, parenthesis_open, parenthesis_closed}
 use Rattle.text_grammar.proofs.cond.+conds.Goals as goal
 
 pub literal-returns-in_default-clause-value : goal.literal-returns-in_default-clause-value
-literal-returns-in_default-clause-value g t c = grind (arith, literal_step, next_drop)
+literal-returns-in_default-clause-value g t c =
+    let x = (g.R.Reading.actions c.args.reading.now).conds in
+    let ts = lexemes c.args.toks.now in
+    let us = drop c.args.from ts in
+    let at_end = literal_none x c.args.context us c.in_default.ensures.0 in
+    syntax_read g.R.Reading.memory g.R.Reading.cond ts c.syntax_fault_at.result (place_of us) (parse_cond x literal c.args.context us) c.syntax_fault_at.ensures at_end
 
 pub literal-returns-in-True-clause-value : goal.literal-returns-in-True-clause-value
-literal-returns-in-True-clause-value g t c = grind (arith, literal_step, next_drop)
+literal-returns-in-True-clause-value g t c =
+    let x = (g.R.Reading.actions c.args.reading.now).conds in
+    let ts = lexemes c.args.toks.now in
+    let us = drop c.args.from ts in
+    let seen = literal_seen x c.args.context us c.in-Some.terminal True c.in-Some.at (text_at c.args.toks.now c.args.from) (drop (c.args.from + 1) ts) c.in-Some.ensures.0 c.in-True.is in
+    seen ∙ ap (λ v. Ok (v, (drop (c.args.from + 1) ts))) (sym c.always.ensures)
 
 pub literal-returns-in-False-clause-value : goal.literal-returns-in-False-clause-value
-literal-returns-in-False-clause-value g t c = grind (arith, literal_step, next_drop)
+literal-returns-in-False-clause-value g t c =
+    let x = (g.R.Reading.actions c.args.reading.now).conds in
+    let ts = lexemes c.args.toks.now in
+    let us = drop c.args.from ts in
+    let seen = literal_seen x c.args.context us c.in-Some.terminal False c.in-Some.at (text_at c.args.toks.now c.args.from) (drop (c.args.from + 1) ts) c.in-Some.ensures.0 c.in-False.is in
+    seen ∙ ap (λ v. Ok (v, (drop (c.args.from + 1) ts))) (sym c.never.ensures)
 
 pub literal-returns-in-Bang-clause-value : goal.literal-returns-in-Bang-clause-value
-literal-returns-in-Bang-clause-value g t c = grind (arith, literal_step, next_drop)
+literal-returns-in-Bang-clause-value g t c =
+    let x = (g.R.Reading.actions c.args.reading.now).conds in
+    let ts = lexemes c.args.toks.now in
+    let us = drop c.args.from ts in
+    let seen = literal_seen x c.args.context us c.in-Some.terminal Bang c.in-Some.at (text_at c.args.toks.now c.args.from) (drop (c.args.from + 1) ts) c.in-Some.ensures.0 c.in-Bang.is in
+    subst (λ (m : Parsed _). Reads g.R.Reading.memory g.R.Reading.cond ts c.negation.result m) (sym seen) c.negation.ensures.value
 
 pub literal-returns-then-begins_expr-clause-value : goal.literal-returns-then-begins_expr-clause-value
-literal-returns-then-begins_expr-clause-value g t c = grind (arith, literal_step, next_drop)
+literal-returns-then-begins_expr-clause-value g t c =
+    let x = (g.R.Reading.actions c.args.reading.now).conds in
+    let ts = lexemes c.args.toks.now in
+    let us = drop c.args.from ts in
+    subst (λ (m : Parsed _). Reads g.R.Reading.memory g.R.Reading.cond ts c.comparison.result m) (sym (name_compared x c.args.context us c.in-Some.terminal c.in-Some.at (text_at c.args.toks.now c.args.from) (drop (c.args.from + 1) ts) c.in-Some.ensures.0 c.in-Name.is (sym c.begins_expr.ensures ∙ c.if-begins_expr.true))) c.comparison.ensures.value
 
 pub literal-returns-in_err-named_cond-in-Name-clause-value : goal.literal-returns-in_err-named_cond-in-Name-clause-value
-literal-returns-in_err-named_cond-in-Name-clause-value g t c = grind (arith, literal_step, next_drop)
+literal-returns-in_err-named_cond-in-Name-clause-value g t c =
+    let x = (g.R.Reading.actions c.args.reading.now).conds in
+    let ts = lexemes c.args.toks.now in
+    let us = drop c.args.from ts in
+    let seen = name_alone x c.args.context us c.in-Some.terminal c.in-Some.at (text_at c.args.toks.now c.args.from) (drop (c.args.from + 1) ts) c.in-Some.ensures.0 c.in-Name.is (sym c.begins_expr.ensures ∙ c.if-begins_expr.false) in
+    fault_made g.R.Reading.memory g.R.Reading.cond g.R.Reading.cond ts c.from_residual.result c.in_err-named_cond-in-Name.field-0.0 (x.named c.args.context c.in-Some.at c.text_at.result.now) (parse_cond x literal c.args.context us) c.from_residual.ensures.1 c.in_err-named_cond-in-Name.ensures
+    (λ h. seen ∙ ap (λ name. before (drop (c.args.from + 1) ts) (x.named c.args.context c.in-Some.at name)) (sym c.text_at.ensures) ∙ ap (before (drop (c.args.from + 1) ts)) h)
 
 pub literal-returns-in_ok-named_cond-in-Name-clause-value : goal.literal-returns-in_ok-named_cond-in-Name-clause-value
-literal-returns-in_ok-named_cond-in-Name-clause-value g t c = grind (arith, literal_step, next_drop)
+literal-returns-in_ok-named_cond-in-Name-clause-value g t c =
+    let x = (g.R.Reading.actions c.args.reading.now).conds in
+    let ts = lexemes c.args.toks.now in
+    let us = drop c.args.from ts in
+    let seen = name_alone x c.args.context us c.in-Some.terminal c.in-Some.at (text_at c.args.toks.now c.args.from) (drop (c.args.from + 1) ts) c.in-Some.ensures.0 c.in-Name.is (sym c.begins_expr.ensures ∙ c.if-begins_expr.false) in
+    seen ∙ ap (λ name. before (drop (c.args.from + 1) ts) (x.named c.args.context c.in-Some.at name)) (sym c.text_at.ensures) ∙ ap (before (drop (c.args.from + 1) ts)) c.in_ok-named_cond-in-Name.ensures
 
 pub literal-returns-then-begins_expr-2-clause-value : goal.literal-returns-then-begins_expr-2-clause-value
-literal-returns-then-begins_expr-2-clause-value g t c = grind (arith, literal_step, next_drop)
+literal-returns-then-begins_expr-2-clause-value g t c =
+    let x = (g.R.Reading.actions c.args.reading.now).conds in
+    let ts = lexemes c.args.toks.now in
+    let us = drop c.args.from ts in
+    subst (λ (m : Parsed _). Reads g.R.Reading.memory g.R.Reading.cond ts c.comparison-then-begins_expr-2.result m) (sym (round_compared x c.args.context us c.in-Some.terminal c.in-Some.at (text_at c.args.toks.now c.args.from) (drop (c.args.from + 1) ts) c.in-Some.ensures.0 c.in-RoundOpen.is (ap begins_expr (sym c.after_close.ensures) ∙ sym c.begins_expr-in-RoundOpen.ensures ∙ c.if-begins_expr-2.true))) c.comparison-then-begins_expr-2.ensures.value
 
 pub literal-returns-else-begins_expr-2-clause-value : goal.literal-returns-else-begins_expr-2-clause-value
-literal-returns-else-begins_expr-2-clause-value g t c = grind (arith, literal_step, next_drop)
+literal-returns-else-begins_expr-2-clause-value g t c =
+    let x = (g.R.Reading.actions c.args.reading.now).conds in
+    let ts = lexemes c.args.toks.now in
+    let us = drop c.args.from ts in
+    subst (λ (m : Parsed _). Reads g.R.Reading.memory g.R.Reading.cond ts c.parenthesis.result m) (sym (round_alone x c.args.context us c.in-Some.terminal c.in-Some.at (text_at c.args.toks.now c.args.from) (drop (c.args.from + 1) ts) c.in-Some.ensures.0 c.in-RoundOpen.is (ap begins_expr (sym c.after_close.ensures) ∙ sym c.begins_expr-in-RoundOpen.ensures ∙ c.if-begins_expr-2.false))) c.parenthesis.ensures.value
 
 pub literal-returns-in-Zero-clause-value : goal.literal-returns-in-Zero-clause-value
-literal-returns-in-Zero-clause-value g t c = grind (arith, literal_step, next_drop)
+literal-returns-in-Zero-clause-value g t c =
+    let x = (g.R.Reading.actions c.args.reading.now).conds in
+    let ts = lexemes c.args.toks.now in
+    let us = drop c.args.from ts in
+    subst (λ (m : Parsed _). Reads g.R.Reading.memory g.R.Reading.cond ts c.comparison-in-Zero.result m) (sym (number_compared x c.args.context us c.in-Some.terminal c.in-Some.at (text_at c.args.toks.now c.args.from) (drop (c.args.from + 1) ts) c.in-Some.ensures.0 c.in-Zero.is)) c.comparison-in-Zero.ensures.value
 
 pub literal-returns-in_default-terminal-clause-value : goal.literal-returns-in_default-terminal-clause-value
-literal-returns-in_default-terminal-clause-value g t c = grind (arith, literal_step, next_drop)
+literal-returns-in_default-terminal-clause-value g t c =
+    let x = (g.R.Reading.actions c.args.reading.now).conds in
+    let ts = lexemes c.args.toks.now in
+    let us = drop c.args.from ts in
+    let other = c.in_default-terminal in
+    literal_other x c.args.context us c.in-Some.terminal c.in-Some.at (text_at c.args.toks.now c.args.from) (drop (c.args.from + 1) ts) c.in-Some.ensures.0 other.not-RoundOpen other.not-Bang other.not-Zero other.not-One other.not-Number other.not-WideNumber other.not-True other.not-False other.not-Name
 
 pub conjunction-returns-in_err-first-clause-value : goal.conjunction-returns-in_err-first-clause-value
-conjunction-returns-in_err-first-clause-value g t c = grind (arith, conjunction_step, next_drop)
+conjunction-returns-in_err-first-clause-value g t c =
+    let x = (g.R.Reading.actions c.args.reading.now).conds in
+    let ts = lexemes c.args.toks.now in
+    let us = drop c.args.from ts in
+    fault_read g.R.Reading.memory g.R.Reading.cond g.R.Reading.cond ts c.from_residual.result c.in_err-first.field-0.0 (parse_cond x literal c.args.context us) (parse_cond x conjunction c.args.context us) c.from_residual.ensures.1 c.in_err-first.ensures.value
+    (conjunction_fault x c.args.context us c.in_err-first.field-0.0)
 
 pub conjunction-returns-in_err-list-clause-value : goal.conjunction-returns-in_err-list-clause-value
-conjunction-returns-in_err-list-clause-value g t c = grind (arith, conjunction_step, next_drop)
+conjunction-returns-in_err-list-clause-value g t c =
+    let x = (g.R.Reading.actions c.args.reading.now).conds in
+    let ts = lexemes c.args.toks.now in
+    let us = drop c.args.from ts in
+    memory_lacks g.R.Reading.memory g.R.Reading.conds g.R.Reading.cond ts c.from_residual-in_err-list.result c.in_err-list.field-0.0 (x.one_of (g.R.Reading.cond c.in_ok-first.first)) (parse_cond x conjunction c.args.context us) c.from_residual-in_err-list.ensures.1 c.in_err-list.ensures
 
 pub conjunction-returns-in_err-more-clause-value : goal.conjunction-returns-in_err-more-clause-value
-conjunction-returns-in_err-more-clause-value g t c = grind (arith, conjunction_after_step, next_drop)
+conjunction-returns-in_err-more-clause-value g t c =
+    let x = (g.R.Reading.actions c.args.reading.now).conds in
+    let ts = lexemes c.args.toks.now in
+    let us = drop c.args.from ts in
+    fault_read g.R.Reading.memory g.R.Reading.cond g.R.Reading.cond ts c.from_residual-in_err-more.result c.in_err-more.field-0.0 (parse_cond x literal c.args.context (drop (c.parts.at + 1) ts)) (parse_cond x conjunction c.args.context us) c.from_residual-in_err-more.ensures.1 c.in_err-more.ensures.value
+    (λ h. sym c.parts.invariant.value ∙ conjunction_next_fault x (g.R.Reading.conds c.parts.list) c.args.context c.parts.at ts c.in_err-more.field-0.0 (sym c.is_at.ensures.value ∙ c.parts-test.true) h)
 
 pub conjunction-returns-in_err-list-2-clause-value : goal.conjunction-returns-in_err-list-2-clause-value
-conjunction-returns-in_err-list-2-clause-value g t c = grind (arith, conjunction_after_step, next_drop)
+conjunction-returns-in_err-list-2-clause-value g t c =
+    let x = (g.R.Reading.actions c.args.reading.now).conds in
+    let ts = lexemes c.args.toks.now in
+    let us = drop c.args.from ts in
+    memory_lacks g.R.Reading.memory g.R.Reading.conds g.R.Reading.cond ts c.from_residual-in_err-list-2.result c.in_err-list-2.field-0.0 (x.more (g.R.Reading.conds c.parts.list) (g.R.Reading.cond c.in_ok-more.more)) (parse_cond x conjunction c.args.context us) c.from_residual-in_err-list-2.ensures.1 c.in_err-list-2.ensures
 
 pub conjunction-returns-in_err-all-clause-value : goal.conjunction-returns-in_err-all-clause-value
-conjunction-returns-in_err-all-clause-value g t c = grind (arith, conjunction_after_step, next_drop)
+conjunction-returns-in_err-all-clause-value g t c =
+    let x = (g.R.Reading.actions c.args.reading.now).conds in
+    let ts = lexemes c.args.toks.now in
+    let us = drop c.args.from ts in
+    memory_lacks g.R.Reading.memory g.R.Reading.cond g.R.Reading.cond ts c.from_residual-in_err-all.result c.in_err-all.field-0.0 (x.all (g.R.Reading.conds c.parts.list)) (parse_cond x conjunction c.args.context us) c.from_residual-in_err-all.ensures.1 c.in_err-all.ensures
 
 pub conjunction-returns-clause-value : goal.conjunction-returns-clause-value
-conjunction-returns-clause-value g t c = grind (arith, conjunction_after_step, next_drop)
+conjunction-returns-clause-value g t c =
+    let x = (g.R.Reading.actions c.args.reading.now).conds in
+    let ts = lexemes c.args.toks.now in
+    sym c.parts.invariant.value ∙ conjunction_end x (g.R.Reading.conds c.parts.list) c.args.context (drop c.parts.at ts) (g.R.Reading.cond c.in_ok-all.field-0) (sym c.is_at.ensures.value ∙ c.parts-test.false) c.in_ok-all.ensures
 
 pub conjunction-parts-init : goal.conjunction-parts-init
-conjunction-parts-init g t c = grind (arith, conjunction_step, next_drop)
+conjunction-parts-init g t c =
+    let x = (g.R.Reading.actions c.args.reading.now).conds in
+    let ts = lexemes c.args.toks.now in
+    record {
+      place = c.in_ok-first.ensures.goes;
+      value = conjunction_first x c.args.context (drop c.args.from ts) (g.R.Reading.cond c.in_ok-first.first, drop c.in_ok-first.next ts) (g.R.Reading.conds c.in_ok-list.list) c.in_ok-first.ensures.value c.in_ok-list.ensures;
+    }
 
 pub conjunction-parts-preserved : goal.conjunction-parts-preserved
-conjunction-parts-preserved g t c = grind (arith, conjunction_after_step, next_drop)
+conjunction-parts-preserved g t c =
+    let x = (g.R.Reading.actions c.args.reading.now).conds in
+    let ts = lexemes c.args.toks.now in
+    let place = c.in_ok-more.ensures.goes in
+    record {
+      place = (omega (arith, c.parts.invariant.place.0, place.0), place.1);
+      value = conjunction_next x (g.R.Reading.conds c.parts.list) c.args.context c.parts.at ts (g.R.Reading.cond c.in_ok-more.more, drop c.in_ok-more.next ts) (g.R.Reading.conds c.in_ok-list-2.list) (sym c.is_at.ensures.value ∙ c.parts-test.true) c.in_ok-more.ensures.value c.in_ok-list-2.ensures ∙ c.parts.invariant.value;
+    }
 
 pub disjunction-returns-in_err-first-clause-value : goal.disjunction-returns-in_err-first-clause-value
-disjunction-returns-in_err-first-clause-value g t c = grind (arith, disjunction_step, next_drop)
+disjunction-returns-in_err-first-clause-value g t c =
+    let x = (g.R.Reading.actions c.args.reading.now).conds in
+    let ts = lexemes c.args.toks.now in
+    let us = drop c.args.from ts in
+    fault_read g.R.Reading.memory g.R.Reading.cond g.R.Reading.cond ts c.from_residual.result c.in_err-first.field-0.0 (parse_cond x conjunction c.args.context us) (parse_cond x disjunction c.args.context us) c.from_residual.ensures.1 c.in_err-first.ensures.value
+    (disjunction_fault x c.args.context us c.in_err-first.field-0.0)
 
 pub disjunction-returns-in_err-list-clause-value : goal.disjunction-returns-in_err-list-clause-value
-disjunction-returns-in_err-list-clause-value g t c = grind (arith, disjunction_step, next_drop)
+disjunction-returns-in_err-list-clause-value g t c =
+    let x = (g.R.Reading.actions c.args.reading.now).conds in
+    let ts = lexemes c.args.toks.now in
+    let us = drop c.args.from ts in
+    memory_lacks g.R.Reading.memory g.R.Reading.conds g.R.Reading.cond ts c.from_residual-in_err-list.result c.in_err-list.field-0.0 (x.one_of (g.R.Reading.cond c.in_ok-first.first)) (parse_cond x disjunction c.args.context us) c.from_residual-in_err-list.ensures.1 c.in_err-list.ensures
 
 pub disjunction-returns-in_err-more-clause-value : goal.disjunction-returns-in_err-more-clause-value
-disjunction-returns-in_err-more-clause-value g t c = grind (arith, disjunction_after_step, next_drop)
+disjunction-returns-in_err-more-clause-value g t c =
+    let x = (g.R.Reading.actions c.args.reading.now).conds in
+    let ts = lexemes c.args.toks.now in
+    let us = drop c.args.from ts in
+    fault_read g.R.Reading.memory g.R.Reading.cond g.R.Reading.cond ts c.from_residual-in_err-more.result c.in_err-more.field-0.0 (parse_cond x conjunction c.args.context (drop (c.parts.at + 1) ts)) (parse_cond x disjunction c.args.context us) c.from_residual-in_err-more.ensures.1 c.in_err-more.ensures.value
+    (λ h. sym c.parts.invariant.value ∙ disjunction_next_fault x (g.R.Reading.conds c.parts.list) c.args.context c.parts.at ts c.in_err-more.field-0.0 (sym c.is_at.ensures.value ∙ c.parts-test.true) h)
 
 pub disjunction-returns-in_err-list-2-clause-value : goal.disjunction-returns-in_err-list-2-clause-value
-disjunction-returns-in_err-list-2-clause-value g t c = grind (arith, disjunction_after_step, next_drop)
+disjunction-returns-in_err-list-2-clause-value g t c =
+    let x = (g.R.Reading.actions c.args.reading.now).conds in
+    let ts = lexemes c.args.toks.now in
+    let us = drop c.args.from ts in
+    memory_lacks g.R.Reading.memory g.R.Reading.conds g.R.Reading.cond ts c.from_residual-in_err-list-2.result c.in_err-list-2.field-0.0 (x.more (g.R.Reading.conds c.parts.list) (g.R.Reading.cond c.in_ok-more.more)) (parse_cond x disjunction c.args.context us) c.from_residual-in_err-list-2.ensures.1 c.in_err-list-2.ensures
 
 pub disjunction-returns-in_err-any-clause-value : goal.disjunction-returns-in_err-any-clause-value
-disjunction-returns-in_err-any-clause-value g t c = grind (arith, disjunction_after_step, next_drop)
+disjunction-returns-in_err-any-clause-value g t c =
+    let x = (g.R.Reading.actions c.args.reading.now).conds in
+    let ts = lexemes c.args.toks.now in
+    let us = drop c.args.from ts in
+    memory_lacks g.R.Reading.memory g.R.Reading.cond g.R.Reading.cond ts c.from_residual-in_err-any.result c.in_err-any.field-0.0 (x.any (g.R.Reading.conds c.parts.list)) (parse_cond x disjunction c.args.context us) c.from_residual-in_err-any.ensures.1 c.in_err-any.ensures
 
 pub disjunction-returns-clause-value : goal.disjunction-returns-clause-value
-disjunction-returns-clause-value g t c = grind (arith, disjunction_after_step, next_drop)
+disjunction-returns-clause-value g t c =
+    let x = (g.R.Reading.actions c.args.reading.now).conds in
+    let ts = lexemes c.args.toks.now in
+    sym c.parts.invariant.value ∙ disjunction_end x (g.R.Reading.conds c.parts.list) c.args.context (drop c.parts.at ts) (g.R.Reading.cond c.in_ok-any.field-0) (sym c.is_at.ensures.value ∙ c.parts-test.false) c.in_ok-any.ensures
 
 pub disjunction-parts-init : goal.disjunction-parts-init
-disjunction-parts-init g t c = grind (arith, disjunction_step, next_drop)
+disjunction-parts-init g t c =
+    let x = (g.R.Reading.actions c.args.reading.now).conds in
+    let ts = lexemes c.args.toks.now in
+    record {
+      place = c.in_ok-first.ensures.goes;
+      value = disjunction_first x c.args.context (drop c.args.from ts) (g.R.Reading.cond c.in_ok-first.first, drop c.in_ok-first.next ts) (g.R.Reading.conds c.in_ok-list.list) c.in_ok-first.ensures.value c.in_ok-list.ensures;
+    }
 
 pub disjunction-parts-preserved : goal.disjunction-parts-preserved
-disjunction-parts-preserved g t c = grind (arith, disjunction_after_step, next_drop)
+disjunction-parts-preserved g t c =
+    let x = (g.R.Reading.actions c.args.reading.now).conds in
+    let ts = lexemes c.args.toks.now in
+    let place = c.in_ok-more.ensures.goes in
+    record {
+      place = (omega (arith, c.parts.invariant.place.0, place.0), place.1);
+      value = disjunction_next x (g.R.Reading.conds c.parts.list) c.args.context c.parts.at ts (g.R.Reading.cond c.in_ok-more.more, drop c.in_ok-more.next ts) (g.R.Reading.conds c.in_ok-list-2.list) (sym c.is_at.ensures.value ∙ c.parts-test.true) c.in_ok-more.ensures.value c.in_ok-list-2.ensures ∙ c.parts.invariant.value;
+    }
 
 pub negation-returns-in_err-inside-clause-value : goal.negation-returns-in_err-inside-clause-value
-negation-returns-in_err-inside-clause-value g t c = grind arith
+negation-returns-in_err-inside-clause-value g t c =
+    let x = (g.R.Reading.actions c.args.reading.now).conds in
+    let ts = lexemes c.args.toks.now in
+    let us = drop c.args.from ts in
+    let refused = sym c.in_err-inside.ensures in
+    let k = c.args.context in
+    fault_known g.R.Reading.memory g.R.Reading.cond ts c.from_residual.result c.in_err-inside.field-0.0 (negation x (parse_cond x) c.args.context c.args.at us) c.from_residual.ensures.1 (enter_keeps_memory (nat_lt k.depth MAX_OPEN) (context (k.depth + 1) true k.compares) c.args.at c.in_err-inside.field-0.0 refused)
+    (negation_refused x (parse_cond x) k c.args.at us c.in_err-inside.field-0.0 refused)
 
 pub negation-returns-in_err-operand-clause-value : goal.negation-returns-in_err-operand-clause-value
-negation-returns-in_err-operand-clause-value g t c = grind arith
+negation-returns-in_err-operand-clause-value g t c =
+    let x = (g.R.Reading.actions c.args.reading.now).conds in
+    let ts = lexemes c.args.toks.now in
+    let us = drop c.args.from ts in
+    fault_read g.R.Reading.memory g.R.Reading.cond g.R.Reading.cond ts c.from_residual-in_err-operand.result c.in_err-operand.field-0.0 (parse_cond x literal c.in_ok-inside.inside us) (negation x (parse_cond x) c.args.context c.args.at us) c.from_residual-in_err-operand.ensures.1 c.in_err-operand.ensures.value
+    (negation_fault x (parse_cond x) c.args.context c.in_ok-inside.inside c.args.at us c.in_err-operand.field-0.0 (sym c.in_ok-inside.ensures))
 
 pub negation-returns-in_err-negated_cond-clause-value : goal.negation-returns-in_err-negated_cond-clause-value
-negation-returns-in_err-negated_cond-clause-value g t c = grind arith
+negation-returns-in_err-negated_cond-clause-value g t c =
+    let x = (g.R.Reading.actions c.args.reading.now).conds in
+    let ts = lexemes c.args.toks.now in
+    let us = drop c.args.from ts in
+    memory_lacks g.R.Reading.memory g.R.Reading.cond g.R.Reading.cond ts c.from_residual-in_err-negated_cond.result c.in_err-negated_cond.field-0.0 (x.negated (g.R.Reading.cond c.in_ok-operand.operand)) (negation x (parse_cond x) c.args.context c.args.at us) c.from_residual-in_err-negated_cond.ensures.1 c.in_err-negated_cond.ensures
 
 pub negation-returns-clause-value : goal.negation-returns-clause-value
-negation-returns-clause-value g t c = grind arith
+negation-returns-clause-value g t c =
+    let x = (g.R.Reading.actions c.args.reading.now).conds in
+    let ts = lexemes c.args.toks.now in
+    let us = drop c.args.from ts in
+    negation_made x (parse_cond x) c.args.context c.in_ok-inside.inside c.args.at us (g.R.Reading.cond c.in_ok-operand.operand, drop c.in_ok-operand.end ts) (g.R.Reading.cond c.in_ok-negated_cond.field-0) (sym c.in_ok-inside.ensures) c.in_ok-operand.ensures.value c.in_ok-negated_cond.ensures
 
 pub parenthesis-returns-in_err-inside-clause-value : goal.parenthesis-returns-in_err-inside-clause-value
-parenthesis-returns-in_err-inside-clause-value g t c = grind arith
+parenthesis-returns-in_err-inside-clause-value g t c =
+    let x = (g.R.Reading.actions c.args.reading.now).conds in
+    let ts = lexemes c.args.toks.now in
+    let us = drop c.args.from ts in
+    let refused = sym c.in_err-inside.ensures in
+    let k = c.args.context in
+    fault_known g.R.Reading.memory g.R.Reading.cond ts c.from_residual.result c.in_err-inside.field-0.0 (parenthesis x (parse_cond x) c.args.context c.args.at us) c.from_residual.ensures.1 (enter_keeps_memory (nat_lt k.depth MAX_OPEN) (context (k.depth + 1) k.negated k.compares) c.args.at c.in_err-inside.field-0.0 refused)
+    (parenthesis_refused x (parse_cond x) k c.args.at us c.in_err-inside.field-0.0 refused)
 
 pub parenthesis-returns-in_err-cond-clause-value : goal.parenthesis-returns-in_err-cond-clause-value
-parenthesis-returns-in_err-cond-clause-value g t c = grind arith
+parenthesis-returns-in_err-cond-clause-value g t c =
+    let x = (g.R.Reading.actions c.args.reading.now).conds in
+    let ts = lexemes c.args.toks.now in
+    let us = drop c.args.from ts in
+    fault_read g.R.Reading.memory g.R.Reading.cond g.R.Reading.cond ts c.from_residual-in_err-cond.result c.in_err-cond.field-0.0 (parse_cond x disjunction c.in_ok-inside.inside us) (parenthesis x (parse_cond x) c.args.context c.args.at us) c.from_residual-in_err-cond.ensures.1 c.in_err-cond.ensures.value
+    (parenthesis_fault x (parse_cond x) c.args.context c.in_ok-inside.inside c.args.at us c.in_err-cond.field-0.0 (sym c.in_ok-inside.ensures))
 
 pub parenthesis-returns-in_err-end-clause-value : goal.parenthesis-returns-in_err-end-clause-value
-parenthesis-returns-in_err-end-clause-value g t c = grind arith
+parenthesis-returns-in_err-end-clause-value g t c =
+    let x = (g.R.Reading.actions c.args.reading.now).conds in
+    let ts = lexemes c.args.toks.now in
+    let us = drop c.args.from ts in
+    let missing = c.in_err-end.ensures.value in
+    fault_known g.R.Reading.memory g.R.Reading.cond ts c.from_residual-in_err-end.result c.in_err-end.field-0.0 (parenthesis x (parse_cond x) c.args.context c.args.at us) c.from_residual-in_err-end.ensures.1 (wants_keeps_memory (is_terminal RoundClose) (drop c.in_ok-cond.end ts) c.in_err-end.field-0.0 missing)
+    (parenthesis_open x (parse_cond x) c.args.context c.in_ok-inside.inside c.args.at us (g.R.Reading.cond c.in_ok-cond.cond, drop c.in_ok-cond.end ts) c.in_err-end.field-0.0 (sym c.in_ok-inside.ensures) c.in_ok-cond.ensures.value missing)
 
 pub parenthesis-returns-clause-value : goal.parenthesis-returns-clause-value
-parenthesis-returns-clause-value g t c = grind arith
+parenthesis-returns-clause-value g t c =
+    let x = (g.R.Reading.actions c.args.reading.now).conds in
+    let ts = lexemes c.args.toks.now in
+    let us = drop c.args.from ts in
+    parenthesis_closed x (parse_cond x) c.args.context c.in_ok-inside.inside c.args.at us (g.R.Reading.cond c.in_ok-cond.cond, drop c.in_ok-cond.end ts) (drop c.in_ok-end.end ts) (g.R.Reading.cond c.enclosed_cond.result) (sym c.in_ok-inside.ensures) c.in_ok-cond.ensures.value c.in_ok-end.ensures.value c.enclosed_cond.ensures

@@ -1,85 +1,238 @@
-use Rattle.std.proofs.Common.{arith}
-use Rattle.text_grammar.proofs.ExprSteps.{factor_step, products_step, products_after_step, sums_step, sums_after_step}
-use Rattle.text_grammar.proofs.Tokens.{next_drop}
+use Rattle.std.proofs.Common.{◌+◌, drop, Ok, ap, sym, subst, ◌∙◌, nat_lt, arith}
+use Rattle.kat_model.specs.declared.limits.TheConstants.{MAX_OPEN}
+use Rattle.text_grammar.specs.declared.reading.Operator.TheVariants.{Multiply}
+use Rattle.text_grammar.specs.declared.terminal.Terminal.TheVariants.{RoundOpen, RoundClose, Zero, One, Number, WideNumber, Name}
+use Rattle.text_grammar.specs.Lexemes.{lexemes, text_at, is_terminal}
+use Rattle.text_grammar.specs.Parsed.{Parsed, place_of, before, Reads}
+use Rattle.text_grammar.specs.Actions.{context}
+use Rattle.text_grammar.specs.Exprs.{parse_expr, sums, products, factor, parenthesis}
+use Rattle.text_grammar.proofs.PartFaults.{fault_read, fault_made, memory_lacks, fault_known, syntax_read, enter_keeps_memory, wants_keeps_memory}
+use Rattle.text_grammar.proofs.ExprSteps.{sums_first, sums_fault, sums_next, sums_next_fault, sums_end, products_first, products_fault, products_next, products_next_fault, products_end, factor_none, factor_seen, factor_other, parenthesis_refused, parenthesis_fault, parenthesis_open, parenthesis_closed}
 use Rattle.text_grammar.proofs.expr.+exprs.Goals as goal
 
 pub factor-returns-in_default-clause-value : goal.factor-returns-in_default-clause-value
-factor-returns-in_default-clause-value g t c = grind (arith, factor_step, next_drop)
+factor-returns-in_default-clause-value g t c =
+    let x = (g.R.Reading.actions c.args.reading.now).conds.exprs in
+    let ts = lexemes c.args.toks.now in
+    let us = drop c.args.from ts in
+    let at_end = factor_none x c.args.context us c.in_default.ensures.0 in
+    syntax_read g.R.Reading.memory g.R.Reading.expr ts c.syntax_fault_at.result (place_of us) (parse_expr x factor c.args.context us) c.syntax_fault_at.ensures at_end
 
 pub factor-returns-in_err-number-in-Zero-clause-value : goal.factor-returns-in_err-number-in-Zero-clause-value
-factor-returns-in_err-number-in-Zero-clause-value g t c = grind (arith, factor_step, next_drop)
-
-pub factor-returns-in_err-number-in-One-clause-value : goal.factor-returns-in_err-number-in-One-clause-value
-factor-returns-in_err-number-in-One-clause-value g t c = grind (arith, factor_step, next_drop)
-
-pub factor-returns-in_err-number-in-Number-clause-value : goal.factor-returns-in_err-number-in-Number-clause-value
-factor-returns-in_err-number-in-Number-clause-value g t c = grind (arith, factor_step, next_drop)
-
-pub factor-returns-in_err-variable-in-Name-clause-value : goal.factor-returns-in_err-variable-in-Name-clause-value
-factor-returns-in_err-variable-in-Name-clause-value g t c = grind (arith, factor_step, next_drop)
+factor-returns-in_err-number-in-Zero-clause-value g t c =
+    let x = (g.R.Reading.actions c.args.reading.now).conds.exprs in
+    let ts = lexemes c.args.toks.now in
+    let us = drop c.args.from ts in
+    let seen = factor_seen x c.args.context us c.in-Some.terminal Zero c.in-Some.at (text_at c.args.toks.now c.args.from) (drop (c.args.from + 1) ts) c.in-Some.ensures.0 c.in-Zero.is in
+    fault_made g.R.Reading.memory g.R.Reading.expr g.R.Reading.expr ts c.from_residual.result c.in_err-number-in-Zero.field-0.0 (x.number c.args.context c.in-Some.at 0) (parse_expr x factor c.args.context us) c.from_residual.ensures.1 c.in_err-number-in-Zero.ensures
+    (λ h. seen ∙ ap (before (drop (c.args.from + 1) ts)) h)
 
 pub factor-returns-in_ok-number-in-Zero-clause-value : goal.factor-returns-in_ok-number-in-Zero-clause-value
-factor-returns-in_ok-number-in-Zero-clause-value g t c = grind (arith, factor_step, next_drop)
+factor-returns-in_ok-number-in-Zero-clause-value g t c =
+    let x = (g.R.Reading.actions c.args.reading.now).conds.exprs in
+    let ts = lexemes c.args.toks.now in
+    let us = drop c.args.from ts in
+    let seen = factor_seen x c.args.context us c.in-Some.terminal Zero c.in-Some.at (text_at c.args.toks.now c.args.from) (drop (c.args.from + 1) ts) c.in-Some.ensures.0 c.in-Zero.is in
+    seen ∙ ap (before (drop (c.args.from + 1) ts)) c.in_ok-number-in-Zero.ensures
+
+pub factor-returns-in_err-number-in-One-clause-value : goal.factor-returns-in_err-number-in-One-clause-value
+factor-returns-in_err-number-in-One-clause-value g t c =
+    let x = (g.R.Reading.actions c.args.reading.now).conds.exprs in
+    let ts = lexemes c.args.toks.now in
+    let us = drop c.args.from ts in
+    let seen = factor_seen x c.args.context us c.in-Some.terminal One c.in-Some.at (text_at c.args.toks.now c.args.from) (drop (c.args.from + 1) ts) c.in-Some.ensures.0 c.in-One.is in
+    fault_made g.R.Reading.memory g.R.Reading.expr g.R.Reading.expr ts c.from_residual-in_err-number-in-One.result c.in_err-number-in-One.field-0.0 (x.number c.args.context c.in-Some.at 1) (parse_expr x factor c.args.context us) c.from_residual-in_err-number-in-One.ensures.1 c.in_err-number-in-One.ensures
+    (λ h. seen ∙ ap (before (drop (c.args.from + 1) ts)) h)
 
 pub factor-returns-in_ok-number-in-One-clause-value : goal.factor-returns-in_ok-number-in-One-clause-value
-factor-returns-in_ok-number-in-One-clause-value g t c = grind (arith, factor_step, next_drop)
+factor-returns-in_ok-number-in-One-clause-value g t c =
+    let x = (g.R.Reading.actions c.args.reading.now).conds.exprs in
+    let ts = lexemes c.args.toks.now in
+    let us = drop c.args.from ts in
+    let seen = factor_seen x c.args.context us c.in-Some.terminal One c.in-Some.at (text_at c.args.toks.now c.args.from) (drop (c.args.from + 1) ts) c.in-Some.ensures.0 c.in-One.is in
+    seen ∙ ap (before (drop (c.args.from + 1) ts)) c.in_ok-number-in-One.ensures
+
+pub factor-returns-in_err-number-in-Number-clause-value : goal.factor-returns-in_err-number-in-Number-clause-value
+factor-returns-in_err-number-in-Number-clause-value g t c =
+    let x = (g.R.Reading.actions c.args.reading.now).conds.exprs in
+    let ts = lexemes c.args.toks.now in
+    let us = drop c.args.from ts in
+    let seen = factor_seen x c.args.context us c.in-Some.terminal (Number c.in-Number.n) c.in-Some.at (text_at c.args.toks.now c.args.from) (drop (c.args.from + 1) ts) c.in-Some.ensures.0 c.in-Number.is in
+    fault_made g.R.Reading.memory g.R.Reading.expr g.R.Reading.expr ts c.from_residual-in_err-number-in-Number.result c.in_err-number-in-Number.field-0.0 (x.number c.args.context c.in-Some.at c.in-Number.n) (parse_expr x factor c.args.context us) c.from_residual-in_err-number-in-Number.ensures.1 c.in_err-number-in-Number.ensures
+    (λ h. seen ∙ ap (before (drop (c.args.from + 1) ts)) h)
 
 pub factor-returns-in_ok-number-in-Number-clause-value : goal.factor-returns-in_ok-number-in-Number-clause-value
-factor-returns-in_ok-number-in-Number-clause-value g t c = grind (arith, factor_step, next_drop)
+factor-returns-in_ok-number-in-Number-clause-value g t c =
+    let x = (g.R.Reading.actions c.args.reading.now).conds.exprs in
+    let ts = lexemes c.args.toks.now in
+    let us = drop c.args.from ts in
+    let seen = factor_seen x c.args.context us c.in-Some.terminal (Number c.in-Number.n) c.in-Some.at (text_at c.args.toks.now c.args.from) (drop (c.args.from + 1) ts) c.in-Some.ensures.0 c.in-Number.is in
+    seen ∙ ap (before (drop (c.args.from + 1) ts)) c.in_ok-number-in-Number.ensures
 
-pub factor-returns-in-WideNumber-clause-value : goal.factor-returns-in-WideNumber-clause-value
-factor-returns-in-WideNumber-clause-value g t c = grind (arith, factor_step, next_drop)
+pub factor-returns-in_err-variable-in-Name-clause-value : goal.factor-returns-in_err-variable-in-Name-clause-value
+factor-returns-in_err-variable-in-Name-clause-value g t c =
+    let x = (g.R.Reading.actions c.args.reading.now).conds.exprs in
+    let ts = lexemes c.args.toks.now in
+    let us = drop c.args.from ts in
+    let seen = factor_seen x c.args.context us c.in-Some.terminal Name c.in-Some.at (text_at c.args.toks.now c.args.from) (drop (c.args.from + 1) ts) c.in-Some.ensures.0 c.in-Name.is in
+    fault_made g.R.Reading.memory g.R.Reading.expr g.R.Reading.expr ts c.from_residual-in_err-variable-in-Name.result c.in_err-variable-in-Name.field-0.0 (x.variable c.args.context c.in-Some.at c.text_at.result.now) (parse_expr x factor c.args.context us) c.from_residual-in_err-variable-in-Name.ensures.1 c.in_err-variable-in-Name.ensures
+    (λ h. seen ∙ ap (λ name. before (drop (c.args.from + 1) ts) (x.variable c.args.context c.in-Some.at name)) (sym c.text_at.ensures) ∙ ap (before (drop (c.args.from + 1) ts)) h)
 
 pub factor-returns-in_ok-variable-in-Name-clause-value : goal.factor-returns-in_ok-variable-in-Name-clause-value
-factor-returns-in_ok-variable-in-Name-clause-value g t c = grind (arith, factor_step, next_drop)
+factor-returns-in_ok-variable-in-Name-clause-value g t c =
+    let x = (g.R.Reading.actions c.args.reading.now).conds.exprs in
+    let ts = lexemes c.args.toks.now in
+    let us = drop c.args.from ts in
+    let seen = factor_seen x c.args.context us c.in-Some.terminal Name c.in-Some.at (text_at c.args.toks.now c.args.from) (drop (c.args.from + 1) ts) c.in-Some.ensures.0 c.in-Name.is in
+    seen ∙ ap (λ name. before (drop (c.args.from + 1) ts) (x.variable c.args.context c.in-Some.at name)) (sym c.text_at.ensures) ∙ ap (before (drop (c.args.from + 1) ts)) c.in_ok-variable-in-Name.ensures
+
+pub factor-returns-in-WideNumber-clause-value : goal.factor-returns-in-WideNumber-clause-value
+factor-returns-in-WideNumber-clause-value g t c =
+    let x = (g.R.Reading.actions c.args.reading.now).conds.exprs in
+    let ts = lexemes c.args.toks.now in
+    let us = drop c.args.from ts in
+    factor_seen x c.args.context us c.in-Some.terminal WideNumber c.in-Some.at (text_at c.args.toks.now c.args.from) (drop (c.args.from + 1) ts) c.in-Some.ensures.0 c.in-WideNumber.is
 
 pub factor-returns-in-RoundOpen-clause-value : goal.factor-returns-in-RoundOpen-clause-value
-factor-returns-in-RoundOpen-clause-value g t c = grind (arith, factor_step, next_drop)
+factor-returns-in-RoundOpen-clause-value g t c =
+    let x = (g.R.Reading.actions c.args.reading.now).conds.exprs in
+    let ts = lexemes c.args.toks.now in
+    let us = drop c.args.from ts in
+    let seen = factor_seen x c.args.context us c.in-Some.terminal RoundOpen c.in-Some.at (text_at c.args.toks.now c.args.from) (drop (c.args.from + 1) ts) c.in-Some.ensures.0 c.in-RoundOpen.is in
+    subst (λ (m : Parsed _). Reads g.R.Reading.memory g.R.Reading.expr ts c.parenthesis.result m) (sym seen) c.parenthesis.ensures.value
+
+pub factor-returns-in_default-terminal-clause-value : goal.factor-returns-in_default-terminal-clause-value
+factor-returns-in_default-terminal-clause-value g t c =
+    let x = (g.R.Reading.actions c.args.reading.now).conds.exprs in
+    let ts = lexemes c.args.toks.now in
+    let us = drop c.args.from ts in
+    let other = c.in_default-terminal in
+    factor_other x c.args.context us c.in-Some.terminal c.in-Some.at (text_at c.args.toks.now c.args.from) (drop (c.args.from + 1) ts) c.in-Some.ensures.0 other.not-RoundOpen other.not-Zero other.not-One other.not-Number other.not-WideNumber other.not-Name
 
 pub product-returns-in_err-first-clause-value : goal.product-returns-in_err-first-clause-value
-product-returns-in_err-first-clause-value g t c = grind (arith, products_step, next_drop)
-
-pub product-returns-in_err-more-clause-value : goal.product-returns-in_err-more-clause-value
-product-returns-in_err-more-clause-value g t c = grind (arith, products_after_step, next_drop)
-
-pub product-returns-in_err-all-clause-value : goal.product-returns-in_err-all-clause-value
-product-returns-in_err-all-clause-value g t c = grind (arith, products_after_step, next_drop)
-
-pub product-returns-clause-value : goal.product-returns-clause-value
-product-returns-clause-value g t c = grind (arith, products_after_step, next_drop)
-
-pub sum-returns-in_err-first-clause-value : goal.sum-returns-in_err-first-clause-value
-sum-returns-in_err-first-clause-value g t c = grind (arith, sums_step, next_drop)
-
-pub sum-returns-in_err-more-clause-value : goal.sum-returns-in_err-more-clause-value
-sum-returns-in_err-more-clause-value g t c = grind (arith, sums_after_step, next_drop)
-
-pub sum-returns-in_err-all-clause-value : goal.sum-returns-in_err-all-clause-value
-sum-returns-in_err-all-clause-value g t c = grind (arith, sums_after_step, next_drop)
-
-pub sum-returns-clause-value : goal.sum-returns-clause-value
-sum-returns-clause-value g t c = grind (arith, sums_after_step, next_drop)
+product-returns-in_err-first-clause-value g t c =
+    let x = (g.R.Reading.actions c.args.reading.now).conds.exprs in
+    let ts = lexemes c.args.toks.now in
+    let us = drop c.args.from ts in
+    fault_read g.R.Reading.memory g.R.Reading.expr g.R.Reading.expr ts c.from_residual.result c.in_err-first.field-0.0 (parse_expr x factor c.args.context us) (parse_expr x products c.args.context us) c.from_residual.ensures.1 c.in_err-first.ensures.value
+    (products_fault x c.args.context us c.in_err-first.field-0.0)
 
 pub product-parts-init : goal.product-parts-init
-product-parts-init g t c = grind (arith, products_step, next_drop)
+product-parts-init g t c =
+    let x = (g.R.Reading.actions c.args.reading.now).conds.exprs in
+    let ts = lexemes c.args.toks.now in
+    record {
+      place = c.in_ok-first.ensures.goes;
+      value = products_first x c.args.context (drop c.args.from ts) (g.R.Reading.expr c.in_ok-first.first, drop c.in_ok-first.next ts) c.in_ok-first.ensures.value;
+    }
+
+pub product-returns-in_err-more-clause-value : goal.product-returns-in_err-more-clause-value
+product-returns-in_err-more-clause-value g t c =
+    let x = (g.R.Reading.actions c.args.reading.now).conds.exprs in
+    let ts = lexemes c.args.toks.now in
+    let us = drop c.args.from ts in
+    fault_read g.R.Reading.memory g.R.Reading.expr g.R.Reading.expr ts c.from_residual-in_err-more.result c.in_err-more.field-0.0 (parse_expr x factor c.args.context (drop (c.parts.at + 1) ts)) (parse_expr x products c.args.context us) c.from_residual-in_err-more.ensures.1 c.in_err-more.ensures.value
+    (λ h. sym c.parts.invariant.value ∙ products_next_fault x (g.R.Reading.expr c.parts.all) c.args.context c.parts.at ts c.in_err-more.field-0.0 (sym c.is_at.ensures.value ∙ c.parts-test.true) h)
+
+pub product-returns-in_err-all-clause-value : goal.product-returns-in_err-all-clause-value
+product-returns-in_err-all-clause-value g t c =
+    let x = (g.R.Reading.actions c.args.reading.now).conds.exprs in
+    let ts = lexemes c.args.toks.now in
+    memory_lacks g.R.Reading.memory g.R.Reading.expr g.R.Reading.expr ts c.from_residual-in_err-all.result c.in_err-all.field-0.0 (x.join Multiply (g.R.Reading.expr c.parts.all) (g.R.Reading.expr c.in_ok-more.more)) (parse_expr x products c.args.context (drop c.args.from ts)) c.from_residual-in_err-all.ensures.1 c.in_err-all.ensures
 
 pub product-parts-preserved : goal.product-parts-preserved
-product-parts-preserved g t c = grind (arith, products_after_step, next_drop)
+product-parts-preserved g t c =
+    let x = (g.R.Reading.actions c.args.reading.now).conds.exprs in
+    let ts = lexemes c.args.toks.now in
+    let place = c.in_ok-more.ensures.goes in
+    record {
+      place = (omega (arith, c.parts.invariant.place.0, place.0), place.1);
+      value = products_next x (g.R.Reading.expr c.parts.all) c.args.context c.parts.at ts (g.R.Reading.expr c.in_ok-more.more, drop c.in_ok-more.next ts) (g.R.Reading.expr c.in_ok-all.all) (sym c.is_at.ensures.value ∙ c.parts-test.true) c.in_ok-more.ensures.value (c.in_ok-all.ensures) ∙ c.parts.invariant.value;
+    }
+
+pub product-returns-clause-value : goal.product-returns-clause-value
+product-returns-clause-value g t c =
+    let x = (g.R.Reading.actions c.args.reading.now).conds.exprs in
+    let ts = lexemes c.args.toks.now in
+    sym c.parts.invariant.value ∙ products_end x (g.R.Reading.expr c.parts.all) c.args.context (drop c.parts.at ts) (sym c.is_at.ensures.value ∙ c.parts-test.false)
+
+pub sum-returns-in_err-first-clause-value : goal.sum-returns-in_err-first-clause-value
+sum-returns-in_err-first-clause-value g t c =
+    let x = (g.R.Reading.actions c.args.reading.now).conds.exprs in
+    let ts = lexemes c.args.toks.now in
+    let us = drop c.args.from ts in
+    fault_read g.R.Reading.memory g.R.Reading.expr g.R.Reading.expr ts c.from_residual.result c.in_err-first.field-0.0 (parse_expr x products c.args.context us) (parse_expr x sums c.args.context us) c.from_residual.ensures.1 c.in_err-first.ensures.value
+    (sums_fault x c.args.context us c.in_err-first.field-0.0)
 
 pub sum-parts-init : goal.sum-parts-init
-sum-parts-init g t c = grind (arith, sums_step, next_drop)
+sum-parts-init g t c =
+    let x = (g.R.Reading.actions c.args.reading.now).conds.exprs in
+    let ts = lexemes c.args.toks.now in
+    record {
+      place = c.in_ok-first.ensures.goes;
+      value = sums_first x c.args.context (drop c.args.from ts) (g.R.Reading.expr c.in_ok-first.first, drop c.in_ok-first.next ts) c.in_ok-first.ensures.value;
+    }
+
+pub sum-returns-in_err-more-clause-value : goal.sum-returns-in_err-more-clause-value
+sum-returns-in_err-more-clause-value g t c =
+    let x = (g.R.Reading.actions c.args.reading.now).conds.exprs in
+    let ts = lexemes c.args.toks.now in
+    let us = drop c.args.from ts in
+    fault_read g.R.Reading.memory g.R.Reading.expr g.R.Reading.expr ts c.from_residual-in_err-more.result c.in_err-more.field-0.0 (parse_expr x products c.args.context (drop (c.parts.at + 1) ts)) (parse_expr x sums c.args.context us) c.from_residual-in_err-more.ensures.1 c.in_err-more.ensures.value
+    (λ h. sym c.parts.invariant.value ∙ sums_next_fault x (g.R.Reading.expr c.parts.all) c.args.context c.parts.at ts c.in_err-more.field-0.0 (sym c.is_sum_at.ensures.value ∙ c.parts-test.true) h)
+
+pub sum-returns-in_err-all-clause-value : goal.sum-returns-in_err-all-clause-value
+sum-returns-in_err-all-clause-value g t c =
+    let x = (g.R.Reading.actions c.args.reading.now).conds.exprs in
+    let ts = lexemes c.args.toks.now in
+    memory_lacks g.R.Reading.memory g.R.Reading.expr g.R.Reading.expr ts c.from_residual-in_err-all.result c.in_err-all.field-0.0 (x.join c.operator_at-operator.result (g.R.Reading.expr c.parts.all) (g.R.Reading.expr c.in_ok-more.more)) (parse_expr x sums c.args.context (drop c.args.from ts)) c.from_residual-in_err-all.ensures.1 c.in_err-all.ensures
 
 pub sum-parts-preserved : goal.sum-parts-preserved
-sum-parts-preserved g t c = grind (arith, sums_after_step, next_drop)
+sum-parts-preserved g t c =
+    let x = (g.R.Reading.actions c.args.reading.now).conds.exprs in
+    let ts = lexemes c.args.toks.now in
+    let place = c.in_ok-more.ensures.goes in
+    record {
+      place = (omega (arith, c.parts.invariant.place.0, place.0), place.1);
+      value = sums_next x (g.R.Reading.expr c.parts.all) c.args.context c.parts.at ts (g.R.Reading.expr c.in_ok-more.more, drop c.in_ok-more.next ts) (g.R.Reading.expr c.in_ok-all.all) (sym c.is_sum_at.ensures.value ∙ c.parts-test.true) c.in_ok-more.ensures.value (ap (λ o. Ok (x.join o (g.R.Reading.expr c.parts.all) (g.R.Reading.expr c.in_ok-more.more))) (sym c.operator_at-operator.ensures) ∙ c.in_ok-all.ensures) ∙ c.parts.invariant.value;
+    }
+
+pub sum-returns-clause-value : goal.sum-returns-clause-value
+sum-returns-clause-value g t c =
+    let x = (g.R.Reading.actions c.args.reading.now).conds.exprs in
+    let ts = lexemes c.args.toks.now in
+    sym c.parts.invariant.value ∙ sums_end x (g.R.Reading.expr c.parts.all) c.args.context (drop c.parts.at ts) (sym c.is_sum_at.ensures.value ∙ c.parts-test.false)
 
 pub parenthesis-returns-in_err-inside-clause-value : goal.parenthesis-returns-in_err-inside-clause-value
-parenthesis-returns-in_err-inside-clause-value g t c = grind arith
+parenthesis-returns-in_err-inside-clause-value g t c =
+    let x = (g.R.Reading.actions c.args.reading.now).conds.exprs in
+    let ts = lexemes c.args.toks.now in
+    let us = drop c.args.from ts in
+    let refused = sym c.in_err-inside.ensures in
+    let k = c.args.context in
+    fault_known g.R.Reading.memory g.R.Reading.expr ts c.from_residual.result c.in_err-inside.field-0.0 (parenthesis x (parse_expr x) c.args.context c.args.at us) c.from_residual.ensures.1 (enter_keeps_memory (nat_lt k.depth MAX_OPEN) (context (k.depth + 1) k.negated k.compares) c.args.at c.in_err-inside.field-0.0 refused)
+    (parenthesis_refused x (parse_expr x) k c.args.at us c.in_err-inside.field-0.0 refused)
 
 pub parenthesis-returns-in_err-expr-clause-value : goal.parenthesis-returns-in_err-expr-clause-value
-parenthesis-returns-in_err-expr-clause-value g t c = grind arith
+parenthesis-returns-in_err-expr-clause-value g t c =
+    let x = (g.R.Reading.actions c.args.reading.now).conds.exprs in
+    let ts = lexemes c.args.toks.now in
+    let us = drop c.args.from ts in
+    fault_read g.R.Reading.memory g.R.Reading.expr g.R.Reading.expr ts c.from_residual-in_err-expr.result c.in_err-expr.field-0.0 (parse_expr x sums c.in_ok-inside.inside us) (parenthesis x (parse_expr x) c.args.context c.args.at us) c.from_residual-in_err-expr.ensures.1 c.in_err-expr.ensures.value
+    (parenthesis_fault x (parse_expr x) c.args.context c.in_ok-inside.inside c.args.at us c.in_err-expr.field-0.0 (sym c.in_ok-inside.ensures))
 
 pub parenthesis-returns-in_err-end-clause-value : goal.parenthesis-returns-in_err-end-clause-value
-parenthesis-returns-in_err-end-clause-value g t c = grind arith
+parenthesis-returns-in_err-end-clause-value g t c =
+    let x = (g.R.Reading.actions c.args.reading.now).conds.exprs in
+    let ts = lexemes c.args.toks.now in
+    let us = drop c.args.from ts in
+    let missing = c.in_err-end.ensures.value in
+    fault_known g.R.Reading.memory g.R.Reading.expr ts c.from_residual-in_err-end.result c.in_err-end.field-0.0 (parenthesis x (parse_expr x) c.args.context c.args.at us) c.from_residual-in_err-end.ensures.1 (wants_keeps_memory (is_terminal RoundClose) (drop c.in_ok-expr.end ts) c.in_err-end.field-0.0 missing)
+    (parenthesis_open x (parse_expr x) c.args.context c.in_ok-inside.inside c.args.at us (g.R.Reading.expr c.in_ok-expr.expr, drop c.in_ok-expr.end ts) c.in_err-end.field-0.0 (sym c.in_ok-inside.ensures) c.in_ok-expr.ensures.value missing)
 
 pub parenthesis-returns-clause-value : goal.parenthesis-returns-clause-value
-parenthesis-returns-clause-value g t c = grind arith
+parenthesis-returns-clause-value g t c =
+    let x = (g.R.Reading.actions c.args.reading.now).conds.exprs in
+    let ts = lexemes c.args.toks.now in
+    let us = drop c.args.from ts in
+    parenthesis_closed x (parse_expr x) c.args.context c.in_ok-inside.inside c.args.at us (g.R.Reading.expr c.in_ok-expr.expr, drop c.in_ok-expr.end ts) (drop c.in_ok-end.end ts) (g.R.Reading.expr c.enclosed_expr.result) (sym c.in_ok-inside.ensures) c.in_ok-expr.ensures.value c.in_ok-end.ensures.value c.enclosed_expr.ensures

@@ -1,109 +1,290 @@
-use Rattle.std.proofs.Common.{arith}
-use Rattle.text_grammar.proofs.TermSteps.{unit_step, sequence_step, sequence_after_step, choice_step, choice_after_step}
-use Rattle.text_grammar.proofs.Tokens.{next_drop}
+use Rattle.std.proofs.Common.{◌+◌, drop, true, Ok, ap, sym, subst, ◌∙◌, nat_lt, arith}
+use Rattle.kat_model.specs.declared.limits.TheConstants.{MAX_OPEN}
+use Rattle.text_grammar.specs.declared.terminal.Terminal.TheVariants.{RoundOpen, RoundClose, SquareOpen, Bang, Zero, One, Name}
+use Rattle.text_grammar.specs.Lexemes.{lexemes, text_at, is_terminal}
+use Rattle.text_grammar.specs.Parsed.{Parsed, place_of, before, Reads}
+use Rattle.text_grammar.specs.Actions.{context}
+use Rattle.text_grammar.specs.Terms.{choice, sequence, unit, parse_term, star_or_not, negation, parenthesis}
+use Rattle.text_grammar.proofs.PartFaults.{fault_read, fault_made, memory_lacks, fault_known, syntax_read, enter_keeps_memory, wants_keeps_memory}
+use Rattle.text_grammar.proofs.TermSteps.{choice_first, choice_fault, choice_next, choice_next_fault, choice_end, sequence_first, sequence_fault, sequence_star_fault, sequence_next, sequence_next_fault, sequence_next_star_fault, sequence_end, unit_none, unit_seen, unit_other, negation_refused, negation_fault, negation_made, parenthesis_refused, parenthesis_fault, parenthesis_open, parenthesis_closed}
 use Rattle.text_grammar.proofs.term.+terms.Goals as goal
 
 pub unit-returns-in_default-clause-value : goal.unit-returns-in_default-clause-value
-unit-returns-in_default-clause-value g t c = grind (arith, unit_step, next_drop)
+unit-returns-in_default-clause-value g t c =
+    let x = (g.R.Reading.actions c.args.reading.now) in
+    let ts = lexemes c.args.toks.now in
+    let us = drop c.args.from ts in
+    let at_end = unit_none x c.args.context us c.in_default.ensures.0 in
+    syntax_read g.R.Reading.memory g.R.Reading.term ts c.syntax_fault_at.result (place_of us) (parse_term x unit c.args.context us) c.syntax_fault_at.ensures at_end
 
 pub unit-returns-in-Zero-clause-value : goal.unit-returns-in-Zero-clause-value
-unit-returns-in-Zero-clause-value g t c = grind (arith, unit_step, next_drop)
+unit-returns-in-Zero-clause-value g t c =
+    let x = (g.R.Reading.actions c.args.reading.now) in
+    let ts = lexemes c.args.toks.now in
+    let us = drop c.args.from ts in
+    let seen = unit_seen x c.args.context us c.in-Some.terminal Zero c.in-Some.at (text_at c.args.toks.now c.args.from) (drop (c.args.from + 1) ts) c.in-Some.ensures.0 c.in-Zero.is in
+    seen ∙ ap (λ v. Ok (v, (drop (c.args.from + 1) ts))) (sym c.zero.ensures)
 
 pub unit-returns-in-One-clause-value : goal.unit-returns-in-One-clause-value
-unit-returns-in-One-clause-value g t c = grind (arith, unit_step, next_drop)
-
-pub unit-returns-in_err-named_term-in-Name-clause-value : goal.unit-returns-in_err-named_term-in-Name-clause-value
-unit-returns-in_err-named_term-in-Name-clause-value g t c = grind (arith, unit_step, next_drop)
-
-pub unit-returns-in_ok-named_term-in-Name-clause-value : goal.unit-returns-in_ok-named_term-in-Name-clause-value
-unit-returns-in_ok-named_term-in-Name-clause-value g t c = grind (arith, unit_step, next_drop)
+unit-returns-in-One-clause-value g t c =
+    let x = (g.R.Reading.actions c.args.reading.now) in
+    let ts = lexemes c.args.toks.now in
+    let us = drop c.args.from ts in
+    let seen = unit_seen x c.args.context us c.in-Some.terminal One c.in-Some.at (text_at c.args.toks.now c.args.from) (drop (c.args.from + 1) ts) c.in-Some.ensures.0 c.in-One.is in
+    seen ∙ ap (λ v. Ok (v, (drop (c.args.from + 1) ts))) (sym c.one.ensures)
 
 pub unit-returns-in-Bang-clause-value : goal.unit-returns-in-Bang-clause-value
-unit-returns-in-Bang-clause-value g t c = grind (arith, unit_step, next_drop)
+unit-returns-in-Bang-clause-value g t c =
+    let x = (g.R.Reading.actions c.args.reading.now) in
+    let ts = lexemes c.args.toks.now in
+    let us = drop c.args.from ts in
+    let seen = unit_seen x c.args.context us c.in-Some.terminal Bang c.in-Some.at (text_at c.args.toks.now c.args.from) (drop (c.args.from + 1) ts) c.in-Some.ensures.0 c.in-Bang.is in
+    subst (λ (m : Parsed _). Reads g.R.Reading.memory g.R.Reading.term ts c.negation.result m) (sym seen) c.negation.ensures.value
 
 pub unit-returns-in-SquareOpen-clause-value : goal.unit-returns-in-SquareOpen-clause-value
-unit-returns-in-SquareOpen-clause-value g t c = grind (arith, unit_step, next_drop)
+unit-returns-in-SquareOpen-clause-value g t c =
+    let x = (g.R.Reading.actions c.args.reading.now) in
+    let ts = lexemes c.args.toks.now in
+    let us = drop c.args.from ts in
+    let seen = unit_seen x c.args.context us c.in-Some.terminal SquareOpen c.in-Some.at (text_at c.args.toks.now c.args.from) (drop (c.args.from + 1) ts) c.in-Some.ensures.0 c.in-SquareOpen.is in
+    subst (λ (m : Parsed _). Reads g.R.Reading.memory g.R.Reading.term ts c.bracket.result m) (sym seen) c.bracket.ensures.value
 
 pub unit-returns-in-RoundOpen-clause-value : goal.unit-returns-in-RoundOpen-clause-value
-unit-returns-in-RoundOpen-clause-value g t c = grind (arith, unit_step, next_drop)
+unit-returns-in-RoundOpen-clause-value g t c =
+    let x = (g.R.Reading.actions c.args.reading.now) in
+    let ts = lexemes c.args.toks.now in
+    let us = drop c.args.from ts in
+    let seen = unit_seen x c.args.context us c.in-Some.terminal RoundOpen c.in-Some.at (text_at c.args.toks.now c.args.from) (drop (c.args.from + 1) ts) c.in-Some.ensures.0 c.in-RoundOpen.is in
+    subst (λ (m : Parsed _). Reads g.R.Reading.memory g.R.Reading.term ts c.parenthesis.result m) (sym seen) c.parenthesis.ensures.value
+
+pub unit-returns-in_err-named_term-in-Name-clause-value : goal.unit-returns-in_err-named_term-in-Name-clause-value
+unit-returns-in_err-named_term-in-Name-clause-value g t c =
+    let x = (g.R.Reading.actions c.args.reading.now) in
+    let ts = lexemes c.args.toks.now in
+    let us = drop c.args.from ts in
+    let seen = unit_seen x c.args.context us c.in-Some.terminal Name c.in-Some.at (text_at c.args.toks.now c.args.from) (drop (c.args.from + 1) ts) c.in-Some.ensures.0 c.in-Name.is in
+    fault_made g.R.Reading.memory g.R.Reading.term g.R.Reading.term ts c.from_residual.result c.in_err-named_term-in-Name.field-0.0 (x.named c.args.context c.in-Some.at c.text_at.result.now) (parse_term x unit c.args.context us) c.from_residual.ensures.1 c.in_err-named_term-in-Name.ensures
+    (λ h. seen ∙ ap (λ name. before (drop (c.args.from + 1) ts) (x.named c.args.context c.in-Some.at name)) (sym c.text_at.ensures) ∙ ap (before (drop (c.args.from + 1) ts)) h)
+
+pub unit-returns-in_ok-named_term-in-Name-clause-value : goal.unit-returns-in_ok-named_term-in-Name-clause-value
+unit-returns-in_ok-named_term-in-Name-clause-value g t c =
+    let x = (g.R.Reading.actions c.args.reading.now) in
+    let ts = lexemes c.args.toks.now in
+    let us = drop c.args.from ts in
+    let seen = unit_seen x c.args.context us c.in-Some.terminal Name c.in-Some.at (text_at c.args.toks.now c.args.from) (drop (c.args.from + 1) ts) c.in-Some.ensures.0 c.in-Name.is in
+    seen ∙ ap (λ name. before (drop (c.args.from + 1) ts) (x.named c.args.context c.in-Some.at name)) (sym c.text_at.ensures) ∙ ap (before (drop (c.args.from + 1) ts)) c.in_ok-named_term-in-Name.ensures
 
 pub unit-returns-in_default-terminal-clause-value : goal.unit-returns-in_default-terminal-clause-value
-unit-returns-in_default-terminal-clause-value g t c = grind (arith, unit_step, next_drop)
-
-pub sequence-returns-in_err-first-clause-value : goal.sequence-returns-in_err-first-clause-value
-sequence-returns-in_err-first-clause-value g t c = grind (arith, sequence_step, next_drop)
-
-pub sequence-returns-in_err-first-2-clause-value : goal.sequence-returns-in_err-first-2-clause-value
-sequence-returns-in_err-first-2-clause-value g t c = grind (arith, sequence_step, next_drop)
-
-pub sequence-returns-in_err-list-clause-value : goal.sequence-returns-in_err-list-clause-value
-sequence-returns-in_err-list-clause-value g t c = grind (arith, sequence_step, next_drop)
-
-pub sequence-returns-in_err-more-clause-value : goal.sequence-returns-in_err-more-clause-value
-sequence-returns-in_err-more-clause-value g t c = grind (arith, sequence_after_step, next_drop)
-
-pub sequence-returns-in_err-more-2-clause-value : goal.sequence-returns-in_err-more-2-clause-value
-sequence-returns-in_err-more-2-clause-value g t c = grind (arith, sequence_after_step, next_drop)
-
-pub sequence-returns-in_err-list-2-clause-value : goal.sequence-returns-in_err-list-2-clause-value
-sequence-returns-in_err-list-2-clause-value g t c = grind (arith, sequence_after_step, next_drop)
-
-pub sequence-returns-in_err-product-clause-value : goal.sequence-returns-in_err-product-clause-value
-sequence-returns-in_err-product-clause-value g t c = grind (arith, sequence_after_step, next_drop)
-
-pub sequence-returns-clause-value : goal.sequence-returns-clause-value
-sequence-returns-clause-value g t c = grind (arith, sequence_after_step, next_drop)
-
-pub sequence-parts-init : goal.sequence-parts-init
-sequence-parts-init g t c = grind (arith, sequence_step, next_drop)
-
-pub sequence-parts-preserved : goal.sequence-parts-preserved
-sequence-parts-preserved g t c = grind (arith, sequence_after_step, next_drop)
+unit-returns-in_default-terminal-clause-value g t c =
+    let x = (g.R.Reading.actions c.args.reading.now) in
+    let ts = lexemes c.args.toks.now in
+    let us = drop c.args.from ts in
+    let other = c.in_default-terminal in
+    unit_other x c.args.context us c.in-Some.terminal c.in-Some.at (text_at c.args.toks.now c.args.from) (drop (c.args.from + 1) ts) c.in-Some.ensures.0 other.not-RoundOpen other.not-SquareOpen other.not-Bang other.not-Zero other.not-One other.not-Name
 
 pub choice-returns-in_err-first-clause-value : goal.choice-returns-in_err-first-clause-value
-choice-returns-in_err-first-clause-value g t c = grind (arith, choice_step, next_drop)
+choice-returns-in_err-first-clause-value g t c =
+    let x = (g.R.Reading.actions c.args.reading.now) in
+    let ts = lexemes c.args.toks.now in
+    let us = drop c.args.from ts in
+    fault_read g.R.Reading.memory g.R.Reading.term g.R.Reading.term ts c.from_residual.result c.in_err-first.field-0.0 (parse_term x sequence c.args.context us) (parse_term x choice c.args.context us) c.from_residual.ensures.1 c.in_err-first.ensures.value
+    (choice_fault x c.args.context us c.in_err-first.field-0.0)
 
 pub choice-returns-in_err-list-clause-value : goal.choice-returns-in_err-list-clause-value
-choice-returns-in_err-list-clause-value g t c = grind (arith, choice_step, next_drop)
+choice-returns-in_err-list-clause-value g t c =
+    let x = (g.R.Reading.actions c.args.reading.now) in
+    let ts = lexemes c.args.toks.now in
+    let us = drop c.args.from ts in
+    memory_lacks g.R.Reading.memory g.R.Reading.terms g.R.Reading.term ts c.from_residual-in_err-list.result c.in_err-list.field-0.0 (x.one_of (g.R.Reading.term c.in_ok-first.first)) (parse_term x choice c.args.context us) c.from_residual-in_err-list.ensures.1 c.in_err-list.ensures
 
 pub choice-returns-in_err-more-clause-value : goal.choice-returns-in_err-more-clause-value
-choice-returns-in_err-more-clause-value g t c = grind (arith, choice_after_step, next_drop)
+choice-returns-in_err-more-clause-value g t c =
+    let x = (g.R.Reading.actions c.args.reading.now) in
+    let ts = lexemes c.args.toks.now in
+    let us = drop c.args.from ts in
+    fault_read g.R.Reading.memory g.R.Reading.term g.R.Reading.term ts c.from_residual-in_err-more.result c.in_err-more.field-0.0 (parse_term x sequence c.args.context (drop (c.parts.at + 1) ts)) (parse_term x choice c.args.context us) c.from_residual-in_err-more.ensures.1 c.in_err-more.ensures.value
+    (λ h. sym c.parts.invariant.value ∙ choice_next_fault x (g.R.Reading.terms c.parts.list) c.args.context c.parts.at ts c.in_err-more.field-0.0 (sym c.is_at.ensures.value ∙ c.parts-test.true) h)
 
 pub choice-returns-in_err-list-2-clause-value : goal.choice-returns-in_err-list-2-clause-value
-choice-returns-in_err-list-2-clause-value g t c = grind (arith, choice_after_step, next_drop)
+choice-returns-in_err-list-2-clause-value g t c =
+    let x = (g.R.Reading.actions c.args.reading.now) in
+    let ts = lexemes c.args.toks.now in
+    let us = drop c.args.from ts in
+    memory_lacks g.R.Reading.memory g.R.Reading.terms g.R.Reading.term ts c.from_residual-in_err-list-2.result c.in_err-list-2.field-0.0 (x.more (g.R.Reading.terms c.parts.list) (g.R.Reading.term c.in_ok-more.more)) (parse_term x choice c.args.context us) c.from_residual-in_err-list-2.ensures.1 c.in_err-list-2.ensures
 
 pub choice-returns-in_err-sum-clause-value : goal.choice-returns-in_err-sum-clause-value
-choice-returns-in_err-sum-clause-value g t c = grind (arith, choice_after_step, next_drop)
+choice-returns-in_err-sum-clause-value g t c =
+    let x = (g.R.Reading.actions c.args.reading.now) in
+    let ts = lexemes c.args.toks.now in
+    let us = drop c.args.from ts in
+    memory_lacks g.R.Reading.memory g.R.Reading.term g.R.Reading.term ts c.from_residual-in_err-sum.result c.in_err-sum.field-0.0 (x.sum (g.R.Reading.terms c.parts.list)) (parse_term x choice c.args.context us) c.from_residual-in_err-sum.ensures.1 c.in_err-sum.ensures
 
 pub choice-returns-clause-value : goal.choice-returns-clause-value
-choice-returns-clause-value g t c = grind (arith, choice_after_step, next_drop)
+choice-returns-clause-value g t c =
+    let x = (g.R.Reading.actions c.args.reading.now) in
+    let ts = lexemes c.args.toks.now in
+    sym c.parts.invariant.value ∙ choice_end x (g.R.Reading.terms c.parts.list) c.args.context (drop c.parts.at ts) (g.R.Reading.term c.in_ok-sum.field-0) (sym c.is_at.ensures.value ∙ c.parts-test.false) c.in_ok-sum.ensures
 
 pub choice-parts-init : goal.choice-parts-init
-choice-parts-init g t c = grind (arith, choice_step, next_drop)
+choice-parts-init g t c =
+    let x = (g.R.Reading.actions c.args.reading.now) in
+    let ts = lexemes c.args.toks.now in
+    record {
+      place = c.in_ok-first.ensures.goes;
+      value = choice_first x c.args.context (drop c.args.from ts) (g.R.Reading.term c.in_ok-first.first, drop c.in_ok-first.next ts) (g.R.Reading.terms c.in_ok-list.list) c.in_ok-first.ensures.value c.in_ok-list.ensures;
+    }
 
 pub choice-parts-preserved : goal.choice-parts-preserved
-choice-parts-preserved g t c = grind (arith, choice_after_step, next_drop)
+choice-parts-preserved g t c =
+    let x = (g.R.Reading.actions c.args.reading.now) in
+    let ts = lexemes c.args.toks.now in
+    let place = c.in_ok-more.ensures.goes in
+    record {
+      place = (omega (arith, c.parts.invariant.place.0, place.0), place.1);
+      value = choice_next x (g.R.Reading.terms c.parts.list) c.args.context c.parts.at ts (g.R.Reading.term c.in_ok-more.more, drop c.in_ok-more.next ts) (g.R.Reading.terms c.in_ok-list-2.list) (sym c.is_at.ensures.value ∙ c.parts-test.true) c.in_ok-more.ensures.value c.in_ok-list-2.ensures ∙ c.parts.invariant.value;
+    }
+
+pub sequence-returns-in_err-first-clause-value : goal.sequence-returns-in_err-first-clause-value
+sequence-returns-in_err-first-clause-value g t c =
+    let x = (g.R.Reading.actions c.args.reading.now) in
+    let ts = lexemes c.args.toks.now in
+    let us = drop c.args.from ts in
+    fault_read g.R.Reading.memory g.R.Reading.term g.R.Reading.term ts c.from_residual.result c.in_err-first.field-0.0 (parse_term x unit c.args.context us) (parse_term x sequence c.args.context us) c.from_residual.ensures.1 c.in_err-first.ensures.value
+    (sequence_fault x c.args.context us c.in_err-first.field-0.0)
+
+pub sequence-returns-in_err-more-clause-value : goal.sequence-returns-in_err-more-clause-value
+sequence-returns-in_err-more-clause-value g t c =
+    let x = (g.R.Reading.actions c.args.reading.now) in
+    let ts = lexemes c.args.toks.now in
+    let us = drop c.args.from ts in
+    fault_read g.R.Reading.memory g.R.Reading.term g.R.Reading.term ts c.from_residual-in_err-more.result c.in_err-more.field-0.0 (parse_term x unit c.args.context (drop (c.parts.at + 1) ts)) (parse_term x sequence c.args.context us) c.from_residual-in_err-more.ensures.1 c.in_err-more.ensures.value
+    (λ h. sym c.parts.invariant.value ∙ sequence_next_fault x (g.R.Reading.terms c.parts.list) c.args.context c.parts.at ts c.in_err-more.field-0.0 (sym c.is_at.ensures.value ∙ c.parts-test.true) h)
+
+pub sequence-returns-in_err-product-clause-value : goal.sequence-returns-in_err-product-clause-value
+sequence-returns-in_err-product-clause-value g t c =
+    let x = (g.R.Reading.actions c.args.reading.now) in
+    let ts = lexemes c.args.toks.now in
+    let us = drop c.args.from ts in
+    memory_lacks g.R.Reading.memory g.R.Reading.term g.R.Reading.term ts c.from_residual-in_err-product.result c.in_err-product.field-0.0 (x.product (g.R.Reading.terms c.parts.list)) (parse_term x sequence c.args.context us) c.from_residual-in_err-product.ensures.1 c.in_err-product.ensures
+
+pub sequence-returns-in_err-list-clause-value : goal.sequence-returns-in_err-list-clause-value
+sequence-returns-in_err-list-clause-value g t c =
+    let x = (g.R.Reading.actions c.args.reading.now) in
+    let ts = lexemes c.args.toks.now in
+    let us = drop c.args.from ts in
+    memory_lacks g.R.Reading.memory g.R.Reading.terms g.R.Reading.term ts c.from_residual-in_err-list.result c.in_err-list.field-0.0 (x.one_of (g.R.Reading.term c.in_ok-first-2.first)) (parse_term x sequence c.args.context us) c.from_residual-in_err-list.ensures.1 c.in_err-list.ensures
+
+pub sequence-returns-in_err-list-2-clause-value : goal.sequence-returns-in_err-list-2-clause-value
+sequence-returns-in_err-list-2-clause-value g t c =
+    let x = (g.R.Reading.actions c.args.reading.now) in
+    let ts = lexemes c.args.toks.now in
+    let us = drop c.args.from ts in
+    memory_lacks g.R.Reading.memory g.R.Reading.terms g.R.Reading.term ts c.from_residual-in_err-list-2.result c.in_err-list-2.field-0.0 (x.more (g.R.Reading.terms c.parts.list) (g.R.Reading.term c.in_ok-more-2.more)) (parse_term x sequence c.args.context us) c.from_residual-in_err-list-2.ensures.1 c.in_err-list-2.ensures
+
+pub sequence-returns-clause-value : goal.sequence-returns-clause-value
+sequence-returns-clause-value g t c =
+    let x = (g.R.Reading.actions c.args.reading.now) in
+    let ts = lexemes c.args.toks.now in
+    sym c.parts.invariant.value ∙ sequence_end x (g.R.Reading.terms c.parts.list) c.args.context (drop c.parts.at ts) (g.R.Reading.term c.in_ok-product.field-0) (sym c.is_at.ensures.value ∙ c.parts-test.false) c.in_ok-product.ensures
+
+pub sequence-returns-in_err-first-2-clause-value : goal.sequence-returns-in_err-first-2-clause-value
+sequence-returns-in_err-first-2-clause-value g t c =
+    let x = (g.R.Reading.actions c.args.reading.now) in
+    let ts = lexemes c.args.toks.now in
+    let us = drop c.args.from ts in
+    fault_read g.R.Reading.memory g.R.Reading.term g.R.Reading.term ts c.from_residual-in_err-first-2.result c.in_err-first-2.field-0.0 (star_or_not x c.args.context (g.R.Reading.term c.in_ok-first.first) (drop c.in_ok-first.next ts)) (parse_term x sequence c.args.context us) c.from_residual-in_err-first-2.ensures.1 c.in_err-first-2.ensures.value
+    (sequence_star_fault x c.args.context us (g.R.Reading.term c.in_ok-first.first, drop c.in_ok-first.next ts) c.in_err-first-2.field-0.0 c.in_ok-first.ensures.value)
+
+pub sequence-returns-in_err-more-2-clause-value : goal.sequence-returns-in_err-more-2-clause-value
+sequence-returns-in_err-more-2-clause-value g t c =
+    let x = (g.R.Reading.actions c.args.reading.now) in
+    let ts = lexemes c.args.toks.now in
+    let us = drop c.args.from ts in
+    fault_read g.R.Reading.memory g.R.Reading.term g.R.Reading.term ts c.from_residual-in_err-more-2.result c.in_err-more-2.field-0.0 (star_or_not x c.args.context (g.R.Reading.term c.in_ok-more.more) (drop c.in_ok-more.next ts)) (parse_term x sequence c.args.context us) c.from_residual-in_err-more-2.ensures.1 c.in_err-more-2.ensures.value
+    (λ h. sym c.parts.invariant.value ∙ sequence_next_star_fault x (g.R.Reading.terms c.parts.list) c.args.context c.parts.at ts (g.R.Reading.term c.in_ok-more.more, drop c.in_ok-more.next ts) c.in_err-more-2.field-0.0 (sym c.is_at.ensures.value ∙ c.parts-test.true) c.in_ok-more.ensures.value h)
+
+pub sequence-parts-init : goal.sequence-parts-init
+sequence-parts-init g t c =
+    let x = (g.R.Reading.actions c.args.reading.now) in
+    let ts = lexemes c.args.toks.now in
+    let place = c.in_ok-first.ensures.goes in
+    record {
+      place = (omega (arith, place.0, c.in_ok-first-2.ensures.goes), c.in_ok-first-2.ensures.within place.1);
+      value = sequence_first x c.args.context (drop c.args.from ts) (g.R.Reading.term c.in_ok-first.first, drop c.in_ok-first.next ts) (g.R.Reading.term c.in_ok-first-2.first, drop c.in_ok-first-2.next ts) (g.R.Reading.terms c.in_ok-list.list) c.in_ok-first.ensures.value c.in_ok-first-2.ensures.value c.in_ok-list.ensures;
+    }
+
+pub sequence-parts-preserved : goal.sequence-parts-preserved
+sequence-parts-preserved g t c =
+    let x = (g.R.Reading.actions c.args.reading.now) in
+    let ts = lexemes c.args.toks.now in
+    let place = c.in_ok-more.ensures.goes in
+    record {
+      place = (omega (arith, c.parts.invariant.place.0, place.0, c.in_ok-more-2.ensures.goes), c.in_ok-more-2.ensures.within place.1);
+      value = sequence_next x (g.R.Reading.terms c.parts.list) c.args.context c.parts.at ts (g.R.Reading.term c.in_ok-more.more, drop c.in_ok-more.next ts) (g.R.Reading.term c.in_ok-more-2.more, drop c.in_ok-more-2.next ts) (g.R.Reading.terms c.in_ok-list-2.list) (sym c.is_at.ensures.value ∙ c.parts-test.true) c.in_ok-more.ensures.value c.in_ok-more-2.ensures.value c.in_ok-list-2.ensures ∙ c.parts.invariant.value;
+    }
 
 pub negation-returns-in_err-inside-clause-value : goal.negation-returns-in_err-inside-clause-value
-negation-returns-in_err-inside-clause-value g t c = grind arith
+negation-returns-in_err-inside-clause-value g t c =
+    let x = (g.R.Reading.actions c.args.reading.now) in
+    let ts = lexemes c.args.toks.now in
+    let us = drop c.args.from ts in
+    let refused = sym c.in_err-inside.ensures in
+    let k = c.args.context in
+    fault_known g.R.Reading.memory g.R.Reading.term ts c.from_residual.result c.in_err-inside.field-0.0 (negation x (parse_term x) c.args.context c.args.at us) c.from_residual.ensures.1 (enter_keeps_memory (nat_lt k.depth MAX_OPEN) (context (k.depth + 1) true k.compares) c.args.at c.in_err-inside.field-0.0 refused)
+    (negation_refused x (parse_term x) k c.args.at us c.in_err-inside.field-0.0 refused)
 
 pub negation-returns-in_err-operand-clause-value : goal.negation-returns-in_err-operand-clause-value
-negation-returns-in_err-operand-clause-value g t c = grind arith
+negation-returns-in_err-operand-clause-value g t c =
+    let x = (g.R.Reading.actions c.args.reading.now) in
+    let ts = lexemes c.args.toks.now in
+    let us = drop c.args.from ts in
+    fault_read g.R.Reading.memory g.R.Reading.term g.R.Reading.term ts c.from_residual-in_err-operand.result c.in_err-operand.field-0.0 (parse_term x unit c.in_ok-inside.inside us) (negation x (parse_term x) c.args.context c.args.at us) c.from_residual-in_err-operand.ensures.1 c.in_err-operand.ensures.value
+    (negation_fault x (parse_term x) c.args.context c.in_ok-inside.inside c.args.at us c.in_err-operand.field-0.0 (sym c.in_ok-inside.ensures))
 
 pub negation-returns-in_err-negated_term-clause-value : goal.negation-returns-in_err-negated_term-clause-value
-negation-returns-in_err-negated_term-clause-value g t c = grind arith
+negation-returns-in_err-negated_term-clause-value g t c =
+    let x = (g.R.Reading.actions c.args.reading.now) in
+    let ts = lexemes c.args.toks.now in
+    let us = drop c.args.from ts in
+    memory_lacks g.R.Reading.memory g.R.Reading.term g.R.Reading.term ts c.from_residual-in_err-negated_term.result c.in_err-negated_term.field-0.0 (x.negated (g.R.Reading.term c.in_ok-operand.operand)) (negation x (parse_term x) c.args.context c.args.at us) c.from_residual-in_err-negated_term.ensures.1 c.in_err-negated_term.ensures
 
 pub negation-returns-clause-value : goal.negation-returns-clause-value
-negation-returns-clause-value g t c = grind arith
+negation-returns-clause-value g t c =
+    let x = (g.R.Reading.actions c.args.reading.now) in
+    let ts = lexemes c.args.toks.now in
+    let us = drop c.args.from ts in
+    negation_made x (parse_term x) c.args.context c.in_ok-inside.inside c.args.at us (g.R.Reading.term c.in_ok-operand.operand, drop c.in_ok-operand.end ts) (g.R.Reading.term c.in_ok-negated_term.field-0) (sym c.in_ok-inside.ensures) c.in_ok-operand.ensures.value c.in_ok-negated_term.ensures
 
 pub parenthesis-returns-in_err-inside-clause-value : goal.parenthesis-returns-in_err-inside-clause-value
-parenthesis-returns-in_err-inside-clause-value g t c = grind arith
+parenthesis-returns-in_err-inside-clause-value g t c =
+    let x = (g.R.Reading.actions c.args.reading.now) in
+    let ts = lexemes c.args.toks.now in
+    let us = drop c.args.from ts in
+    let refused = sym c.in_err-inside.ensures in
+    let k = c.args.context in
+    fault_known g.R.Reading.memory g.R.Reading.term ts c.from_residual.result c.in_err-inside.field-0.0 (parenthesis x (parse_term x) c.args.context c.args.at us) c.from_residual.ensures.1 (enter_keeps_memory (nat_lt k.depth MAX_OPEN) (context (k.depth + 1) k.negated k.compares) c.args.at c.in_err-inside.field-0.0 refused)
+    (parenthesis_refused x (parse_term x) k c.args.at us c.in_err-inside.field-0.0 refused)
 
 pub parenthesis-returns-in_err-term-clause-value : goal.parenthesis-returns-in_err-term-clause-value
-parenthesis-returns-in_err-term-clause-value g t c = grind arith
+parenthesis-returns-in_err-term-clause-value g t c =
+    let x = (g.R.Reading.actions c.args.reading.now) in
+    let ts = lexemes c.args.toks.now in
+    let us = drop c.args.from ts in
+    fault_read g.R.Reading.memory g.R.Reading.term g.R.Reading.term ts c.from_residual-in_err-term.result c.in_err-term.field-0.0 (parse_term x choice c.in_ok-inside.inside us) (parenthesis x (parse_term x) c.args.context c.args.at us) c.from_residual-in_err-term.ensures.1 c.in_err-term.ensures.value
+    (parenthesis_fault x (parse_term x) c.args.context c.in_ok-inside.inside c.args.at us c.in_err-term.field-0.0 (sym c.in_ok-inside.ensures))
 
 pub parenthesis-returns-in_err-end-clause-value : goal.parenthesis-returns-in_err-end-clause-value
-parenthesis-returns-in_err-end-clause-value g t c = grind arith
+parenthesis-returns-in_err-end-clause-value g t c =
+    let x = (g.R.Reading.actions c.args.reading.now) in
+    let ts = lexemes c.args.toks.now in
+    let us = drop c.args.from ts in
+    let missing = c.in_err-end.ensures.value in
+    fault_known g.R.Reading.memory g.R.Reading.term ts c.from_residual-in_err-end.result c.in_err-end.field-0.0 (parenthesis x (parse_term x) c.args.context c.args.at us) c.from_residual-in_err-end.ensures.1 (wants_keeps_memory (is_terminal RoundClose) (drop c.in_ok-term.end ts) c.in_err-end.field-0.0 missing)
+    (parenthesis_open x (parse_term x) c.args.context c.in_ok-inside.inside c.args.at us (g.R.Reading.term c.in_ok-term.term, drop c.in_ok-term.end ts) c.in_err-end.field-0.0 (sym c.in_ok-inside.ensures) c.in_ok-term.ensures.value missing)
 
 pub parenthesis-returns-clause-value : goal.parenthesis-returns-clause-value
-parenthesis-returns-clause-value g t c = grind arith
+parenthesis-returns-clause-value g t c =
+    let x = (g.R.Reading.actions c.args.reading.now) in
+    let ts = lexemes c.args.toks.now in
+    let us = drop c.args.from ts in
+    parenthesis_closed x (parse_term x) c.args.context c.in_ok-inside.inside c.args.at us (g.R.Reading.term c.in_ok-term.term, drop c.in_ok-term.end ts) (drop c.in_ok-end.end ts) (g.R.Reading.term c.enclosed_term.result) (sym c.in_ok-inside.ensures) c.in_ok-term.ensures.value c.in_ok-end.ensures.value c.enclosed_term.ensures

@@ -1,0 +1,67 @@
+-- The results of a function that reads: a fault of one of its parts is its own fault.
+use Rattle.std.proofs.Common.{◌≡◌, ℕ, List, [], ◌∷◌, Bool, true, false, cond, Result, Ok, Err, ap, refl, ◌∙◌}
+use Rattle.std.specs.Result.{IsErrAnd}
+use Rattle.std.proofs.lemmas.Result.{err_from_is_err_and}
+use Rattle.text_tokens.specs.declared.fault.TextFault.{TextFault}
+use Rattle.text_tokens.specs.declared.fault.TextFault.TheVariants.{NoMemory, Syntax, TooDeep}
+use Rattle.text_grammar.specs.declared.reading.Context.{Context}
+use Rattle.text_grammar.specs.declared.terminal.Terminal.{Terminal}
+use Rattle.text_grammar.specs.Lexemes.{Lexeme, lexeme}
+use Rattle.text_grammar.specs.Parsed.{Parsed, wants, Makes, Reads}
+
+-- the function ends with the fault `e` of a part
+abbrev pub EndsWith : {V : Type 0} → Result V TextFault → TextFault → Type 0
+EndsWith r e = IsErrAnd r (λ f. f ≡ e)
+
+ended : {V : Type 0} (r : Result V TextFault) (e : TextFault) → EndsWith r e → r ≡ Err e
+ended r e ends = let answer = err_from_is_err_and r ends in answer.1 ∙ ap (λ (f : TextFault). Err f) answer.2
+
+at_fault_read : {V U W X : Type 0} (memory : Type 0) (means : V → W) (whole : U → X) (ts : List Lexeme) (e : TextFault) (s : Parsed W) (m : Parsed X) → Reads memory means ts (Err e) s → (s ≡ Err e → m ≡ Err e) → Reads memory whole ts (Err e) m
+at_fault_read memory means whole ts NoMemory s m h fails = h
+at_fault_read memory means whole ts _ s m h fails = fails h
+
+-- the part was read
+pub fault_read : {V U W X : Type 0} (memory : Type 0) (means : V → W) (whole : U → X) (ts : List Lexeme) (r : Result (U × ℕ) TextFault) (e : TextFault) (s : Parsed W) (m : Parsed X) → EndsWith r e → Reads memory means ts (Err e) s → (s ≡ Err e → m ≡ Err e) → Reads memory whole ts r m
+fault_read memory means whole ts r e s m ends h fails = rw (ended r e ends) (at_fault_read memory means whole ts e s m h fails)
+
+at_fault_made : {V U W X : Type 0} (memory : Type 0) (means : V → W) (whole : U → X) (ts : List Lexeme) (e : TextFault) (s : Result W TextFault) (m : Parsed X) → Makes memory means (Err e) s → (s ≡ Err e → m ≡ Err e) → Reads memory whole ts (Err e) m
+at_fault_made memory means whole ts NoMemory s m h fails = h
+at_fault_made memory means whole ts _ s m h fails = fails h
+
+-- the part was made by an action
+pub fault_made : {V U W X : Type 0} (memory : Type 0) (means : V → W) (whole : U → X) (ts : List Lexeme) (r : Result (U × ℕ) TextFault) (e : TextFault) (s : Result W TextFault) (m : Parsed X) → EndsWith r e → Makes memory means (Err e) s → (s ≡ Err e → m ≡ Err e) → Reads memory whole ts r m
+fault_made memory means whole ts r e s m ends h fails = rw (ended r e ends) (at_fault_made memory means whole ts e s m h fails)
+
+-- the action fails only for memory
+pub memory_lacks : {V U W X : Type 0} (memory : Type 0) (means : V → W) (whole : U → X) (ts : List Lexeme) (r : Result (U × ℕ) TextFault) (e : TextFault) (v : W) (m : Parsed X) → EndsWith r e → Makes memory means (Err e) (Ok v) → Reads memory whole ts r m
+memory_lacks memory means whole ts r e v m ends h = fault_made memory means whole ts r e (Ok v) m ends h (λ k. absurd cc)
+
+at_fault_known : {U X : Type 0} (memory : Type 0) (whole : U → X) (ts : List Lexeme) (e : TextFault) (m : Parsed X) → (e ≡ NoMemory → ⊥) → m ≡ Err e → Reads memory whole ts (Err e) m
+at_fault_known memory whole ts NoMemory m other is = absurd (other refl)
+at_fault_known memory whole ts _ m other is = is
+
+pub fault_known : {U X : Type 0} (memory : Type 0) (whole : U → X) (ts : List Lexeme) (r : Result (U × ℕ) TextFault) (e : TextFault) (m : Parsed X) → EndsWith r e → (e ≡ NoMemory → ⊥) → m ≡ Err e → Reads memory whole ts r m
+fault_known memory whole ts r e m ends other is = rw (ended r e ends) (at_fault_known memory whole ts e m other is)
+
+pub syntax_read : {U X : Type 0} (memory : Type 0) (whole : U → X) (ts : List Lexeme) (e : TextFault) (at : ℕ) (m : Parsed X) → e ≡ Syntax at → m ≡ Err (Syntax at) → Reads memory whole ts (Err e) m
+syntax_read memory whole ts e at m is fails = rw is fails
+
+at_fault_told : {V U W X : Type 0} (memory : Type 0) (means : V → W) (whole : U → X) (ts : List Lexeme) (e : TextFault) (s : Parsed W) (m : Parsed X) → Reads ⊥ means ts (Err e) s → (s ≡ Err e → m ≡ Err e) → Reads memory whole ts (Err e) m
+at_fault_told memory means whole ts NoMemory s m h fails = absurd h
+at_fault_told memory means whole ts _ s m h fails = fails h
+
+-- the part was read without memory
+pub fault_told : {V U W X : Type 0} (memory : Type 0) (means : V → W) (whole : U → X) (ts : List Lexeme) (r : Result (U × ℕ) TextFault) (e : TextFault) (s : Parsed W) (m : Parsed X) → EndsWith r e → Reads ⊥ means ts (Err e) s → (s ≡ Err e → m ≡ Err e) → Reads memory whole ts r m
+fault_told memory means whole ts r e s m ends h fails = rw (ended r e ends) (at_fault_told memory means whole ts e s m h fails)
+
+-- what is too deep, or wanted, is no lack of memory
+pub enter_keeps_memory : (b : Bool) (d : Context) (at : ℕ) (e : TextFault) → cond b (Ok d) (Err (TooDeep at)) ≡ Err e → e ≡ NoMemory → ⊥
+enter_keeps_memory true d at e is lacks = absurd cc
+enter_keeps_memory false d at e is lacks = absurd cc
+
+pub wants_keeps_memory : (p : Terminal → Bool) (us : List Lexeme) (e : TextFault) → wants p us ≡ Err e → e ≡ NoMemory → ⊥
+wants_keeps_memory p [] e is lacks = absurd cc
+wants_keeps_memory p (lexeme s at text ∷ us) e is lacks = by_terminal (p s) is where
+  by_terminal : (b : Bool) → cond b (Ok us) (Err (Syntax at)) ≡ Err e → ⊥
+  by_terminal true h = absurd cc
+  by_terminal false h = absurd cc
