@@ -1,6 +1,8 @@
 mod Words
+mod Symbols
 pub mod GrammarExamples
 pub mod Reversed
+mod RowLists
 pub mod TokensTaken
 pub mod Stacked
 pub mod Taken

@@ -4,6 +4,7 @@
 mod action;
 mod grammar;
 mod listing;
+mod lists;
 mod making;
 mod making_bodies;
 mod making_conds;

@@ -11,6 +11,7 @@ use crate::making_conds::make_conds;
 use crate::making_exprs::make_exprs;
 use crate::making_items::make_items;
 use crate::making_names::make_names;
+use crate::stack::push;
 use crate::value::Value;
 use kat_model::NoMemory;
 use std::alloc::Global;
@@ -65,13 +66,11 @@ impl<'a> Building<'a> for Parts<'a> {
 
     #[tactic(auto, using(crate::proofs::Stacked::pushes))]
     fn shift(&mut self, token: &Token<'a>) -> Result<(), NoMemory> {
-        self.values.push(Value::Token(*token))?;
-        Ok(())
+        push(&mut self.values, Value::Token(*token))
     }
 
     #[tactic(auto, using(crate::proofs::GrammarExamples::actions_listed))]
     fn apply(&mut self, rule: usize) -> Result<(), NoMemory> {
-        apply_rule(self.alloc, &ACTIONS, rule, &mut self.values)?;
-        Ok(())
+        apply_rule(self.alloc, &ACTIONS, rule, &mut self.values)
     }
 }

@@ -5,6 +5,7 @@ ghost use Rattle.flow_syntax.specs.Syntax.{a_block};
 ghost use Rattle.flow_syntax.specs.SyntaxViews.{stack_syntax, statement_syntax, jump_syntax, block_syntax};
 
 use crate::action::BodyAction;
+use crate::lists::{append_block, append_expr, append_token};
 use crate::stack::{
     push, skip, take_blocks, take_body, take_cond, take_expr, take_exprs, take_token, take_tokens,
 };
@@ -24,8 +25,7 @@ fn add_statement<'a>(
 {
     let (mut statements, jump) = take_body(alloc, stack);
     statements.push(statement)?;
-    push(stack, Value::Body(statements, jump))?;
-    Ok(())
+    push(stack, Value::Body(statements, jump))
 }
 
 #[tactic(auto, using(crate::proofs::Stacked::pushes))]
@@ -34,12 +34,12 @@ fn assigning(alloc: Global, stack: &mut Vec<Value>) -> Result<(), NoMemory>
 {
     let target = take_token(stack);
     let mut targets = take_tokens(alloc, stack);
+    append_token(&mut targets, target)?;
     let becomes = take_token(stack);
     let value = take_expr(alloc, stack);
     let mut values = take_exprs(alloc, stack);
+    append_expr(&mut values, value)?;
     skip(stack);
-    targets.push(target)?;
-    values.push(value)?;
     add_statement(alloc, stack, Statement::Assign(targets, becomes, values))
 }
 
@@ -57,8 +57,7 @@ fn asserting(alloc: Global, stack: &mut Vec<Value>) -> Result<(), NoMemory>
 fn push_jump<'a>(alloc: Global, stack: &mut Vec<Value<'a>>, jump: Jump<'a>) -> Result<(), NoMemory>
     ensures { OnOk result (stack_syntax stack.new.items ≡ body [] (jump_syntax jump.entry) ∷ stack_syntax stack.old.items) }
 {
-    push(stack, Value::Body(Vec::new(alloc), jump))?;
-    Ok(())
+    push(stack, Value::Body(Vec::new(alloc), jump))
 }
 
 #[tactic(auto, using(crate::proofs::Stacked::pushes))]
@@ -68,8 +67,7 @@ fn going(alloc: Global, stack: &mut Vec<Value>) -> Result<(), NoMemory>
     skip(stack);
     let block = take_token(stack);
     skip(stack);
-    push_jump(alloc, stack, Jump::Goto(block))?;
-    Ok(())
+    push_jump(alloc, stack, Jump::Goto(block))
 }
 
 #[tactic(auto, using(crate::proofs::Stacked::pushes))]
@@ -83,8 +81,7 @@ fn branching(alloc: Global, stack: &mut Vec<Value>) -> Result<(), NoMemory>
     skip(stack);
     let other = take_token(stack);
     skip(stack);
-    push_jump(alloc, stack, Jump::Branch(cond, block, other))?;
-    Ok(())
+    push_jump(alloc, stack, Jump::Branch(cond, block, other))
 }
 
 #[tactic(auto, using(crate::proofs::Stacked::pushes))]
@@ -93,8 +90,7 @@ fn returning(alloc: Global, stack: &mut Vec<Value>) -> Result<(), NoMemory>
 {
     let word = take_token(stack);
     let values = take_exprs(alloc, stack);
-    push_jump(alloc, stack, Jump::Return(word, values))?;
-    Ok(())
+    push_jump(alloc, stack, Jump::Return(word, values))
 }
 
 #[tactic(auto, using(crate::proofs::Stacked::pushes))]
@@ -103,16 +99,14 @@ fn aborting(alloc: Global, stack: &mut Vec<Value>) -> Result<(), NoMemory>
 {
     skip(stack);
     skip(stack);
-    push_jump(alloc, stack, Jump::Abort)?;
-    Ok(())
+    push_jump(alloc, stack, Jump::Abort)
 }
 
 #[tactic(auto, using(crate::proofs::Stacked::pushes))]
 fn no_blocks(alloc: Global, stack: &mut Vec<Value>) -> Result<(), NoMemory>
     ensures { OnOk result (stack_syntax stack.new.items ≡ bodies_done BodyAction.NoBlocks (stack_syntax stack.old.items)) }
 {
-    push(stack, Value::Blocks(Vec::new(alloc)))?;
-    Ok(())
+    push(stack, Value::Blocks(Vec::new(alloc)))
 }
 
 // Takes the name and the body of a block off the stack.
@@ -143,9 +137,8 @@ fn add_block<'a>(
     ensures { OnOk result (stack_syntax stack.new.items ≡ blocks (block_syntax block.entry ∷ blocks_in (first (stack_syntax stack.old.items))) ∷ rest (stack_syntax stack.old.items)) }
 {
     let mut list = take_blocks(alloc, stack);
-    list.push(block)?;
-    push(stack, Value::Blocks(list))?;
-    Ok(())
+    append_block(&mut list, block)?;
+    push(stack, Value::Blocks(list))
 }
 
 // Puts a block on the stack.
@@ -158,9 +151,8 @@ fn push_block<'a>(
     ensures { OnOk result (stack_syntax stack.new.items ≡ blocks (block_syntax block.entry ∷ []) ∷ stack_syntax stack.old.items) }
 {
     let mut list = Vec::new(alloc);
-    list.push(block)?;
-    push(stack, Value::Blocks(list))?;
-    Ok(())
+    append_block(&mut list, block)?;
+    push(stack, Value::Blocks(list))
 }
 
 #[tactic(auto, using(crate::proofs::Stacked::pushes))]

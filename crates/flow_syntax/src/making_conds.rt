@@ -1,9 +1,10 @@
 //! What productions make of conditions.
 ghost use Rattle.std.specs.Prelude.{◌≡◌, [], ◌∷◌, ◌++◌, IfOk, OnOk};
-ghost use Rattle.flow_syntax.specs.Actions.{cond, conds_done, linked};
+ghost use Rattle.flow_syntax.specs.Actions.{cond, first, second, past_two, cond_in, conds_done, linked};
 ghost use Rattle.flow_syntax.specs.SyntaxViews.{stack_syntax, cond_syntax, cond_node_syntax};
 
 use crate::action::CondAction;
+use crate::lists::append_cond_node;
 use crate::stack::{push, skip, take_cond, take_expr, take_token};
 use crate::value::Value;
 use crate::written::CondNode;
@@ -19,17 +20,15 @@ fn push_node<'a>(
     ensures { OnOk result (stack_syntax stack.new.items ≡ cond (cond_node_syntax node.entry ∷ []) ∷ stack_syntax stack.old.items) }
 {
     let mut nodes = Vec::new(alloc);
-    nodes.push(node)?;
-    push(stack, Value::Cond(nodes))?;
-    Ok(())
+    append_cond_node(&mut nodes, node)?;
+    push(stack, Value::Cond(nodes))
 }
 
 #[tactic(auto, using(crate::proofs::Stacked::pushes))]
 fn no_conds(alloc: Global, stack: &mut Vec<Value>) -> Result<(), NoMemory>
     ensures { OnOk result (stack_syntax stack.new.items ≡ conds_done CondAction.NoConds (stack_syntax stack.old.items)) }
 {
-    push(stack, Value::Cond(Vec::new(alloc)))?;
-    Ok(())
+    push(stack, Value::Cond(Vec::new(alloc)))
 }
 
 // Joins a condition and those after it, if there are any, by a node.
@@ -45,30 +44,37 @@ fn link<'a>(
         return Ok(cond);
     }
     others.append(&mut cond)?;
-    others.push(node)?;
+    append_cond_node(&mut others, node)?;
     Ok(others)
+}
+
+// Replaces the condition on top of the stack and those after it by all of them, joined by a node.
+#[tactic(auto, using(crate::proofs::Stacked::pushes))]
+fn link_all<'a>(
+    alloc: Global,
+    stack: &mut Vec<Value<'a>>,
+    node: CondNode<'a>,
+) -> Result<(), NoMemory>
+    ensures { OnOk result (stack_syntax stack.new.items ≡ cond (linked (cond_node_syntax node.entry) (cond_in (first (stack_syntax stack.old.items))) (cond_in (second (stack_syntax stack.old.items)))) ∷ past_two (stack_syntax stack.old.items)) }
+{
+    let cond = take_cond(alloc, stack);
+    let others = take_cond(alloc, stack);
+    let all = link(node, cond, others)?;
+    push(stack, Value::Cond(all))
 }
 
 #[tactic(auto, using(crate::proofs::Stacked::pushes))]
 fn any(alloc: Global, stack: &mut Vec<Value>) -> Result<(), NoMemory>
     ensures { OnOk result (stack_syntax stack.new.items ≡ conds_done CondAction.Any (stack_syntax stack.old.items)) }
 {
-    let cond = take_cond(alloc, stack);
-    let others = take_cond(alloc, stack);
-    let all = link(CondNode::Either, cond, others)?;
-    push(stack, Value::Cond(all))?;
-    Ok(())
+    link_all(alloc, stack, CondNode::Either)
 }
 
 #[tactic(auto, using(crate::proofs::Stacked::pushes))]
 fn all(alloc: Global, stack: &mut Vec<Value>) -> Result<(), NoMemory>
     ensures { OnOk result (stack_syntax stack.new.items ≡ conds_done CondAction.All (stack_syntax stack.old.items)) }
 {
-    let cond = take_cond(alloc, stack);
-    let others = take_cond(alloc, stack);
-    let all = link(CondNode::Both, cond, others)?;
-    push(stack, Value::Cond(all))?;
-    Ok(())
+    link_all(alloc, stack, CondNode::Both)
 }
 
 #[tactic(auto, using(crate::proofs::Stacked::pushes))]
@@ -76,8 +82,7 @@ fn next_any(alloc: Global, stack: &mut Vec<Value>) -> Result<(), NoMemory>
     ensures { OnOk result (stack_syntax stack.new.items ≡ conds_done CondAction.NextAny (stack_syntax stack.old.items)) }
 {
     skip(stack);
-    any(alloc, stack)?;
-    Ok(())
+    any(alloc, stack)
 }
 
 #[tactic(auto, using(crate::proofs::Stacked::pushes))]
@@ -85,8 +90,7 @@ fn next_all(alloc: Global, stack: &mut Vec<Value>) -> Result<(), NoMemory>
     ensures { OnOk result (stack_syntax stack.new.items ≡ conds_done CondAction.NextAll (stack_syntax stack.old.items)) }
 {
     skip(stack);
-    all(alloc, stack)?;
-    Ok(())
+    all(alloc, stack)
 }
 
 #[tactic(auto, using(crate::proofs::Stacked::pushes))]
@@ -94,8 +98,7 @@ fn true_cond(alloc: Global, stack: &mut Vec<Value>) -> Result<(), NoMemory>
     ensures { OnOk result (stack_syntax stack.new.items ≡ conds_done CondAction.TrueCond (stack_syntax stack.old.items)) }
 {
     skip(stack);
-    push_node(alloc, stack, CondNode::Always)?;
-    Ok(())
+    push_node(alloc, stack, CondNode::Always)
 }
 
 #[tactic(auto, using(crate::proofs::Stacked::pushes))]
@@ -103,8 +106,7 @@ fn false_cond(alloc: Global, stack: &mut Vec<Value>) -> Result<(), NoMemory>
     ensures { OnOk result (stack_syntax stack.new.items ≡ conds_done CondAction.FalseCond (stack_syntax stack.old.items)) }
 {
     skip(stack);
-    push_node(alloc, stack, CondNode::Never)?;
-    Ok(())
+    push_node(alloc, stack, CondNode::Never)
 }
 
 #[tactic(auto, using(crate::proofs::Stacked::pushes))]
@@ -113,9 +115,8 @@ fn negate(alloc: Global, stack: &mut Vec<Value>) -> Result<(), NoMemory>
 {
     skip(stack);
     let mut cond = take_cond(alloc, stack);
-    cond.push(CondNode::Negation)?;
-    push(stack, Value::Cond(cond))?;
-    Ok(())
+    append_cond_node(&mut cond, CondNode::Negation)?;
+    push(stack, Value::Cond(cond))
 }
 
 #[tactic(auto, using(crate::proofs::Stacked::pushes))]
@@ -125,8 +126,7 @@ fn enclosed_cond(alloc: Global, stack: &mut Vec<Value>) -> Result<(), NoMemory>
     skip(stack);
     let cond = take_cond(alloc, stack);
     skip(stack);
-    push(stack, Value::Cond(cond))?;
-    Ok(())
+    push(stack, Value::Cond(cond))
 }
 
 #[tactic(auto, using(crate::proofs::Stacked::pushes))]
@@ -136,8 +136,7 @@ fn compare(alloc: Global, stack: &mut Vec<Value>) -> Result<(), NoMemory>
     let left = take_expr(alloc, stack);
     let relation = take_token(stack);
     let right = take_expr(alloc, stack);
-    push_node(alloc, stack, CondNode::Compared(relation, left, right))?;
-    Ok(())
+    push_node(alloc, stack, CondNode::Compared(relation, left, right))
 }
 
 #[tactic(auto, using(crate::proofs::Stacked::pushes))]
@@ -150,8 +149,7 @@ fn compare_signed(alloc: Global, stack: &mut Vec<Value>) -> Result<(), NoMemory>
     skip(stack);
     let right = take_expr(alloc, stack);
     skip(stack);
-    push_node(alloc, stack, CondNode::ComparedSigned(word, left, right))?;
-    Ok(())
+    push_node(alloc, stack, CondNode::ComparedSigned(word, left, right))
 }
 
 /// Replaces the values of the parts by that of the phrase. Fails only when out of memory.

@@ -1,10 +1,12 @@
 //! What productions make of expressions.
-ghost use Rattle.std.specs.Prelude.{◌≡◌, ◌∷◌, ◌++◌, IfOk, OnOk};
+ghost use Rattle.std.specs.Prelude.{◌≡◌, ◌∷◌, ◌++◌, length, IfOk, OnOk};
 ghost use Rattle.text_tokens.specs.TokenParts.{parts_of_token};
+ghost use Rattle.flow_syntax.specs.Syntax.{converted};
 ghost use Rattle.flow_syntax.specs.Actions.{exprs_done, call_node, call_of, joined, all_nodes, name_of, first_of, first_name};
 ghost use Rattle.flow_syntax.specs.SyntaxViews.{stack_syntax, tokens_syntax, node_syntax, expr_syntax, exprs_syntax, first_syntax, value_syntax};
 
 use crate::action::ExprAction;
+use crate::lists::{append_expr, append_node, append_token};
 use crate::stack::{
     is_no_call, pop, push, skip, take_expr, take_exprs, take_operations, take_token,
 };
@@ -18,8 +20,7 @@ use text_tokens::Token;
 fn no_exprs(alloc: Global, stack: &mut Vec<Value>) -> Result<(), NoMemory>
     ensures { OnOk result (stack_syntax stack.new.items ≡ exprs_done ExprAction.NoExprs (stack_syntax stack.old.items)) }
 {
-    push(stack, Value::Exprs(Vec::new(alloc)))?;
-    Ok(())
+    push(stack, Value::Exprs(Vec::new(alloc)))
 }
 
 #[tactic(auto, using(crate::proofs::Stacked::pushes))]
@@ -29,9 +30,8 @@ fn next_expr(alloc: Global, stack: &mut Vec<Value>) -> Result<(), NoMemory>
     skip(stack);
     let expr = take_expr(alloc, stack);
     let mut exprs = take_exprs(alloc, stack);
-    exprs.push(expr)?;
-    push(stack, Value::Exprs(exprs))?;
-    Ok(())
+    append_expr(&mut exprs, expr)?;
+    push(stack, Value::Exprs(exprs))
 }
 
 #[tactic(auto, using(crate::proofs::Stacked::pushes))]
@@ -39,8 +39,7 @@ fn ended_at_once(alloc: Global, stack: &mut Vec<Value>) -> Result<(), NoMemory>
     ensures { OnOk result (stack_syntax stack.new.items ≡ exprs_done ExprAction.EndedAtOnce (stack_syntax stack.old.items)) }
 {
     skip(stack);
-    no_exprs(alloc, stack)?;
-    Ok(())
+    no_exprs(alloc, stack)
 }
 
 #[tactic(auto, using(crate::proofs::Stacked::pushes))]
@@ -50,17 +49,15 @@ fn ended_list(alloc: Global, stack: &mut Vec<Value>) -> Result<(), NoMemory>
     let expr = take_expr(alloc, stack);
     let mut exprs = take_exprs(alloc, stack);
     skip(stack);
-    exprs.push(expr)?;
-    push(stack, Value::Exprs(exprs))?;
-    Ok(())
+    append_expr(&mut exprs, expr)?;
+    push(stack, Value::Exprs(exprs))
 }
 
 #[tactic(auto, using(crate::proofs::Stacked::pushes))]
 fn no_operations(alloc: Global, stack: &mut Vec<Value>) -> Result<(), NoMemory>
     ensures { OnOk result (stack_syntax stack.new.items ≡ exprs_done ExprAction.NoOperations (stack_syntax stack.old.items)) }
 {
-    push(stack, Value::Operations(Vec::new(alloc), Vec::new(alloc)))?;
-    Ok(())
+    push(stack, Value::Operations(Vec::new(alloc), Vec::new(alloc)))
 }
 
 // Appends the nodes of an expression to those that follow it.
@@ -82,24 +79,20 @@ fn next_operation(alloc: Global, stack: &mut Vec<Value>) -> Result<(), NoMemory>
     let operator = take_token(stack);
     let operand = take_expr(alloc, stack);
     let (mut operators, operands) = take_operations(alloc, stack);
-    operators.push(operator)?;
+    append_token(&mut operators, operator)?;
     let operands = before(operand, operands)?;
-    push(stack, Value::Operations(operators, operands))?;
-    Ok(())
+    push(stack, Value::Operations(operators, operands))
 }
 
 // Puts the operators before an expression, the first operator last.
 #[tactic(auto, using(crate::proofs::Stacked::pushes, crate::proofs::NodeLists::joined_more))]
-fn join_nodes<'a>(
-    mut operators: Vec<Token<'a>>,
-    mut nodes: Vec<Node<'a>>,
-) -> Result<Vec<Node<'a>>, NoMemory>
-    ensures { IfOk result (λ all. expr_syntax all.items ≡ joined (tokens_syntax operators.entry.items) (expr_syntax nodes.entry.items)) }
+fn join_nodes<'a>(operators: &mut Vec<Token<'a>>, nodes: &mut Vec<Node<'a>>) -> Result<(), NoMemory>
+    ensures { OnOk result (expr_syntax nodes.new.items ≡ joined (tokens_syntax operators.old.items) (expr_syntax nodes.old.items)) }
 {
     'operators: while let Some(operator) = operators.pop() {
-        nodes.push(Node::Operation(operator))?;
+        append_node(nodes, Node::Operation(operator))?;
     }
-    Ok(nodes)
+    Ok(())
 }
 
 #[tactic(auto, using(crate::proofs::Stacked::pushes))]
@@ -107,10 +100,10 @@ fn join(alloc: Global, stack: &mut Vec<Value>) -> Result<(), NoMemory>
     ensures { OnOk result (stack_syntax stack.new.items ≡ exprs_done ExprAction.Join (stack_syntax stack.old.items)) }
 {
     let expr = take_expr(alloc, stack);
-    let (operators, operands) = take_operations(alloc, stack);
-    let nodes = join_nodes(operators, before(expr, operands)?)?;
-    push(stack, Value::Expr(nodes))?;
-    Ok(())
+    let (mut operators, operands) = take_operations(alloc, stack);
+    let mut nodes = before(expr, operands)?;
+    join_nodes(&mut operators, &mut nodes)?;
+    push(stack, Value::Expr(nodes))
 }
 
 #[tactic(auto, using(crate::proofs::Stacked::pushes))]
@@ -119,9 +112,8 @@ fn numeral(alloc: Global, stack: &mut Vec<Value>) -> Result<(), NoMemory>
 {
     let token = take_token(stack);
     let mut nodes = Vec::new(alloc);
-    nodes.push(Node::Numeral(token))?;
-    push(stack, Value::Expr(nodes))?;
-    Ok(())
+    append_node(&mut nodes, Node::Numeral(token))?;
+    push(stack, Value::Expr(nodes))
 }
 
 // Returns the nodes of all expressions.
@@ -146,9 +138,23 @@ fn call_node<'a>(name: Token<'a>, is_no_call: bool, count: usize) -> Node<'a>
     Node::Called(name, count)
 }
 
-// Returns the nodes of a name, or of its call with the arguments of a value.
+// Returns the nodes of a name, or of its call with these arguments.
 #[tactic(auto, using(crate::proofs::Stacked::pushes, crate::proofs::NodeLists::exprs_length))]
 fn call_nodes<'a>(
+    alloc: Global,
+    name: Token<'a>,
+    is_no_call: bool,
+    exprs: &[Vec<Node<'a>>],
+) -> Result<Vec<Node<'a>>, NoMemory>
+    ensures { IfOk result (λ all. expr_syntax all.items ≡ call_node (parts_of_token name.entry) is_no_call (length (exprs_syntax exprs.now)) ∷ all_nodes (exprs_syntax exprs.now)) }
+{
+    let mut nodes = all_nodes(alloc, exprs)?;
+    append_node(&mut nodes, call_node(name, is_no_call, exprs.len()))?;
+    Ok(nodes)
+}
+
+// Returns the nodes of a name, or of its call with the arguments of a value.
+fn nodes_with_arguments<'a>(
     alloc: Global,
     name: Token<'a>,
     arguments: Value<'a>,
@@ -157,9 +163,7 @@ fn call_nodes<'a>(
 {
     let no_call = is_no_call(&arguments);
     let exprs = arguments.into_exprs(alloc);
-    let mut nodes = all_nodes(alloc, &exprs)?;
-    nodes.push(call_node(name, no_call, exprs.len()))?;
-    Ok(nodes)
+    call_nodes(alloc, name, no_call, &exprs)
 }
 
 #[tactic(auto, using(crate::proofs::Stacked::pushes))]
@@ -168,17 +172,15 @@ fn name_or_call(alloc: Global, stack: &mut Vec<Value>) -> Result<(), NoMemory>
 {
     let name = take_token(stack);
     let arguments = pop(stack);
-    let nodes = call_nodes(alloc, name, arguments)?;
-    push(stack, Value::Expr(nodes))?;
-    Ok(())
+    let nodes = nodes_with_arguments(alloc, name, arguments)?;
+    push(stack, Value::Expr(nodes))
 }
 
 #[tactic(auto, using(crate::proofs::Stacked::pushes))]
 fn call_nothing(stack: &mut Vec<Value>) -> Result<(), NoMemory>
     ensures { OnOk result (stack_syntax stack.new.items ≡ exprs_done ExprAction.CallNothing (stack_syntax stack.old.items)) }
 {
-    push(stack, Value::NoCall)?;
-    Ok(())
+    push(stack, Value::NoCall)
 }
 
 #[tactic(auto, using(crate::proofs::Stacked::pushes))]
@@ -187,8 +189,7 @@ fn call_list(alloc: Global, stack: &mut Vec<Value>) -> Result<(), NoMemory>
 {
     skip(stack);
     let exprs = take_exprs(alloc, stack);
-    push(stack, Value::Exprs(exprs))?;
-    Ok(())
+    push(stack, Value::Exprs(exprs))
 }
 
 // The first name or conversion that a node is, if it is one.
@@ -227,6 +228,15 @@ pub fn first_name<'a>(nodes: &[Node<'a>]) -> FirstName<'a>
     first
 }
 
+// Appends the conversion of an expression to its nodes.
+#[tactic(auto, using(crate::proofs::Stacked::pushes))]
+fn push_conversion<'a>(nodes: &mut Vec<Node<'a>>, word: Token<'a>) -> Result<(), NoMemory>
+    ensures { OnOk result (expr_syntax nodes.new.items ≡ converted (parts_of_token word.entry) (first_name (expr_syntax nodes.old.items)) ∷ expr_syntax nodes.old.items) }
+{
+    let first = first_name(nodes);
+    append_node(nodes, Node::Converted(word, first))
+}
+
 #[tactic(auto, using(crate::proofs::Stacked::pushes))]
 fn convert(alloc: Global, stack: &mut Vec<Value>) -> Result<(), NoMemory>
     ensures { OnOk result (stack_syntax stack.new.items ≡ exprs_done ExprAction.Convert (stack_syntax stack.old.items)) }
@@ -235,10 +245,8 @@ fn convert(alloc: Global, stack: &mut Vec<Value>) -> Result<(), NoMemory>
     skip(stack);
     let mut nodes = take_expr(alloc, stack);
     skip(stack);
-    let first = first_name(&nodes);
-    nodes.push(Node::Converted(word, first))?;
-    push(stack, Value::Expr(nodes))?;
-    Ok(())
+    push_conversion(&mut nodes, word)?;
+    push(stack, Value::Expr(nodes))
 }
 
 #[tactic(auto, using(crate::proofs::Stacked::pushes))]
@@ -248,8 +256,7 @@ fn enclosed_expr(alloc: Global, stack: &mut Vec<Value>) -> Result<(), NoMemory>
     skip(stack);
     let nodes = take_expr(alloc, stack);
     skip(stack);
-    push(stack, Value::Expr(nodes))?;
-    Ok(())
+    push(stack, Value::Expr(nodes))
 }
 
 /// Replaces the values of the parts by that of the phrase. Fails only when out of memory.

@@ -14,8 +14,7 @@ use std::alloc::Global;
 fn no_items(alloc: Global, stack: &mut Vec<Value>) -> Result<(), NoMemory>
     ensures { OnOk result (stack_syntax stack.new.items ≡ items_done ItemAction.NoItems (stack_syntax stack.old.items)) }
 {
-    push(stack, Value::Items(Vec::new(alloc)))?;
-    Ok(())
+    push(stack, Value::Items(Vec::new(alloc)))
 }
 
 // Puts an item before those on top of the stack.
@@ -25,8 +24,7 @@ fn add_item<'a>(alloc: Global, stack: &mut Vec<Value<'a>>, item: Item<'a>) -> Re
 {
     let mut list = take_items(alloc, stack);
     list.push(item)?;
-    push(stack, Value::Items(list))?;
-    Ok(())
+    push(stack, Value::Items(list))
 }
 
 #[tactic(auto, using(crate::proofs::Stacked::pushes))]

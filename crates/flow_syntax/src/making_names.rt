@@ -4,6 +4,7 @@ ghost use Rattle.flow_syntax.specs.Actions.{names_done};
 ghost use Rattle.flow_syntax.specs.SyntaxViews.{stack_syntax};
 
 use crate::action::NameAction;
+use crate::lists::append_token;
 use crate::stack::{push, skip, take_token, take_tokens};
 use crate::value::Value;
 use kat_model::NoMemory;
@@ -13,8 +14,7 @@ use std::alloc::Global;
 fn no_tokens(alloc: Global, stack: &mut Vec<Value>) -> Result<(), NoMemory>
     ensures { OnOk result (stack_syntax stack.new.items ≡ names_done NameAction.NoTokens (stack_syntax stack.old.items)) }
 {
-    push(stack, Value::Tokens(Vec::new(alloc)))?;
-    Ok(())
+    push(stack, Value::Tokens(Vec::new(alloc)))
 }
 
 #[tactic(auto, using(crate::proofs::Stacked::pushes))]
@@ -23,9 +23,8 @@ fn one_token(alloc: Global, stack: &mut Vec<Value>) -> Result<(), NoMemory>
 {
     let token = take_token(stack);
     let mut tokens = take_tokens(alloc, stack);
-    tokens.push(token)?;
-    push(stack, Value::Tokens(tokens))?;
-    Ok(())
+    append_token(&mut tokens, token)?;
+    push(stack, Value::Tokens(tokens))
 }
 
 #[tactic(auto, using(crate::proofs::Stacked::pushes))]
@@ -33,8 +32,7 @@ fn next_token(alloc: Global, stack: &mut Vec<Value>) -> Result<(), NoMemory>
     ensures { OnOk result (stack_syntax stack.new.items ≡ names_done NameAction.NextToken (stack_syntax stack.old.items)) }
 {
     skip(stack);
-    one_token(alloc, stack)?;
-    Ok(())
+    one_token(alloc, stack)
 }
 
 #[tactic(auto, using(crate::proofs::Stacked::pushes))]
@@ -42,8 +40,7 @@ fn no_parameters(alloc: Global, stack: &mut Vec<Value>) -> Result<(), NoMemory>
     ensures { OnOk result (stack_syntax stack.new.items ≡ names_done NameAction.NoParameters (stack_syntax stack.old.items)) }
 {
     skip(stack);
-    no_tokens(alloc, stack)?;
-    Ok(())
+    no_tokens(alloc, stack)
 }
 
 #[tactic(auto, using(crate::proofs::Stacked::pushes))]
@@ -53,9 +50,8 @@ fn some_parameters(alloc: Global, stack: &mut Vec<Value>) -> Result<(), NoMemory
     let token = take_token(stack);
     let mut tokens = take_tokens(alloc, stack);
     skip(stack);
-    tokens.push(token)?;
-    push(stack, Value::Tokens(tokens))?;
-    Ok(())
+    append_token(&mut tokens, token)?;
+    push(stack, Value::Tokens(tokens))
 }
 
 /// Replaces the values of the parts by that of the phrase. Fails only when out of memory.

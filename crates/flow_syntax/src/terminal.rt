@@ -1,5 +1,5 @@
 //! The terminals of the format, numbered after those that the reader knows.
-ghost use Rattle.std.specs.Prelude.{◌≡◌};
+ghost use Rattle.std.specs.Prelude.{◌≡◌, [], ◌∷◌};
 ghost use Rattle.text_tokens.specs.TokenParts.{parts_of_token};
 ghost use Rattle.flow_syntax.specs.Terminals.{word_terminal, symbol_terminal, number_terminal, terminal_of, spelled_number};
 ghost use Rattle.flow_syntax.specs.Working.Words.{word_of_two, comparison_word, width_of_three, word_of_three, word_of_four, word_of_five, word_of_six};
@@ -206,29 +206,47 @@ fn word_terminal(text: &str) -> usize
     }
 }
 
+fn one_byte_symbol(byte: u8) -> usize
+    ensures { result ≡ symbol_terminal (byte ∷ []) }
+{
+    match byte {
+        b'(' => OPEN_ROUND,
+        b')' => CLOSE_ROUND,
+        b',' => COMMA,
+        b';' => SEMICOLON,
+        b'{' => CURLY_OPEN,
+        b'}' => CURLY_CLOSE,
+        b'<' => LT,
+        b'>' => GT,
+        b'+' => PLUS,
+        b'-' => MINUS,
+        b'*' => STAR,
+        b'!' => BANG,
+        _ => OTHER,
+    }
+}
+
+fn two_byte_symbol(first: u8, second: u8) -> usize
+    ensures { result ≡ symbol_terminal (first ∷ second ∷ []) }
+{
+    match (first, second) {
+        (b':', b'=') => BECOMES,
+        (b'=', b'=') => EQ,
+        (b'!', b'=') => NE,
+        (b'<', b'=') => LE,
+        (b'>', b'=') => GE,
+        (b'&', b'&') => AND,
+        (b'|', b'|') => OR,
+        _ => OTHER,
+    }
+}
+
 fn symbol_terminal(text: &str) -> usize
     ensures { result ≡ symbol_terminal text.now }
 {
     match text.as_bytes() {
-        b"(" => OPEN_ROUND,
-        b")" => CLOSE_ROUND,
-        b"," => COMMA,
-        b";" => SEMICOLON,
-        b"{" => CURLY_OPEN,
-        b"}" => CURLY_CLOSE,
-        b":=" => BECOMES,
-        b"==" => EQ,
-        b"!=" => NE,
-        b"<" => LT,
-        b"<=" => LE,
-        b">" => GT,
-        b">=" => GE,
-        b"+" => PLUS,
-        b"-" => MINUS,
-        b"*" => STAR,
-        b"&&" => AND,
-        b"||" => OR,
-        b"!" => BANG,
+        [byte] => one_byte_symbol(*byte),
+        [first, second] => two_byte_symbol(*first, *second),
         _ => OTHER,
     }
 }

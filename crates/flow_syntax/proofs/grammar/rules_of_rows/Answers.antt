@@ -1,0 +1,5 @@
+use Rattle.flow_syntax.proofs.RowLists.{one_more_row}
+use Rattle.flow_syntax.proofs.grammar.rules_of_rows.Goals as goal
+
+pub loop-row-preserved : goal.loop-row-preserved
+loop-row-preserved c = one_more_row c.args.rows.now c.loop-row.row-index _ _ _ c.loop-row-test.true c.loop-row.invariant c.in_ok-push_rule.ensures

@@ -1,0 +1,7 @@
+-- The rows of the table of rules.
+use Rattle.text_reader.specs.Rules.{RuleParts, rule_parts}
+use Rattle.flow_syntax.specs.declared.grammar.RuleRow.{RuleRow}
+
+-- the rule of a row
+abbrev pub row_parts : RuleRow → RuleParts
+row_parts r = rule_parts r.phrase r.start r.parts.now
