@@ -30,7 +30,7 @@ stands_kept x y ids k side keeps s =
     (λ some. inr (some.0, some.1, some.2, some.3, keeps.under some.0 (pair_side_at k side (Some some.1)) some.4))
     s
 
-indexed_kept : (x y : IndexParts) (ps : List IdEntry) → KeepsPlaces x y → AreIndexed x ps → AreIndexed y ps
+pub indexed_kept : (x y : IndexParts) (ps : List IdEntry) → KeepsPlaces x y → AreIndexed x ps → AreIndexed y ps
 indexed_kept x y ps keeps indexed k e at =
     let both = indexed k e at in
     (stands_kept x y e.left k Left keeps both.0, stands_kept x y e.right k Right keeps both.1)

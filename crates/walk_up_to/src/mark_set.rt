@@ -133,8 +133,7 @@ impl MarkSet {
     {
         unmark_all(&mut self.marks, &self.terms);
         self.terms.clear();
-        set_count(&mut self.marks, count)?;
-        Ok(())
+        set_count(&mut self.marks, count)
     }
 
     /// Counts a query for each of the marked terms. Affects only speed.

@@ -6,7 +6,7 @@ use kat_model::NoMemory;
 use std::alloc::AllocError;
 
 /// Why a walk stops early.
-#[derive(Clone, Copy, Debug, PartialEq, Eq)]
+#[derive(Clone, Copy)]
 pub enum EarlyStop {
     /// Out of memory.
     NoMemory,

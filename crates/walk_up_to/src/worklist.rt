@@ -63,6 +63,27 @@ fn first_pair(alloc: Global, left: TermId, right: TermId) -> Result<ListedPair, 
     })
 }
 
+// Returns an atom at which exactly one of the two steps accepts, if there is one.
+fn atom_apart(
+    alloc: Global,
+    diagrams: &mut Diagrams,
+    steps: &BothSteps,
+) -> Result<Option<Vec<bool>>, NoMemory>
+    requires left { IsDiagramId diagrams.old steps.now.left.accepts }
+    requires right { IsDiagramId diagrams.old steps.now.right.accepts }
+    ensures found { IfOk result (λ found. MatchOption found (steps.now.left.accepts ≡ steps.now.right.accepts) (λ atom. IsAtomOf diagrams.old atom.items
+        × (value_of diagrams.old steps.now.left.accepts atom.items ≢ value_of diagrams.old steps.now.right.accepts atom.items))) }
+    ensures kept { KeepsFunctions diagrams.old diagrams.new }
+{
+    let left = steps.left.accepts;
+    let right = steps.right.accepts;
+    if left == right {
+        return Ok(None);
+    }
+    let atom = differing_atom(alloc, diagrams, left, right)?;
+    Ok(Some(atom))
+}
+
 impl Worklist {
     /// Returns a walk that has listed the pair of two terms. With a limit, it lists at most `limit` pairs.
     pub(crate) fn new(
@@ -161,29 +182,6 @@ impl Worklist {
         Ok(())
     }
 
-    // Returns an atom at which exactly one of the two steps accepts, if there is one.
-    fn difference(
-        &mut self,
-        alloc: Global,
-        steps: &BothSteps,
-    ) -> Result<Option<Vec<bool>>, NoMemory>
-        requires left { IsDiagramId self.old.diagrams steps.now.left.accepts }
-        requires right { IsDiagramId self.old.diagrams steps.now.right.accepts }
-        ensures found { IfOk result (λ found. MatchOption found (steps.now.left.accepts ≡ steps.now.right.accepts) (λ atom. IsAtomOf self.old.diagrams atom.items
-            × (value_of self.old.diagrams steps.now.left.accepts atom.items ≢ value_of self.old.diagrams steps.now.right.accepts atom.items))) }
-        ensures listed { self.new.listed ≡ self.old.listed }
-        ensures derivatives { self.new.derivatives ≡ self.old.derivatives }
-        ensures kept { KeepsFunctions self.old.diagrams self.new.diagrams }
-    {
-        let left = steps.left.accepts;
-        let right = steps.right.accepts;
-        if left == right {
-            return Ok(None);
-        }
-        let atom = differing_atom(alloc, &mut self.diagrams, left, right)?;
-        Ok(Some(atom))
-    }
-
     // Processes the pair at `place`. Returns an atom that exactly one of its sets accepts, if there is one.
     fn take(
         &mut self,
@@ -204,7 +202,7 @@ impl Worklist {
         ensures kept { Grows store.old store.new }
     {
         let steps = self.steps_at(alloc, store, place)?;
-        if let Some(atom) = self.difference(alloc, &steps)? {
+        if let Some(atom) = atom_apart(alloc, &mut self.diagrams, &steps)? {
             return Ok(Some(atom));
         }
         self.expand(alloc, marked, place, actions, &steps)?;

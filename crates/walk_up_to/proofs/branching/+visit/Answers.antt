@@ -1,10 +1,10 @@
-use Rattle.std.proofs.Common.{◌≡◌, ◌+◌, inl, inr, true, false, sym, ap, ◌∙◌, subst, arith, Err}
+use Rattle.std.proofs.Common.{◌≡◌, ◌+◌, inl, inr, true, false, refl, sym, ap, ◌∙◌, subst, arith, Err}
 use Rattle.std.specs.Prelude.{IsSome}
 use Rattle.std.proofs.lemmas.Result.{on_ok_weaker}
-use Rattle.test_diagrams.proofs.Kept.{KeepsFunctions-trans}
+use Rattle.test_diagrams.proofs.Kept.{KeepsFunctions-itself, KeepsFunctions-trans}
 use Rattle.walk_up_to.specs.Working.Cases.{IsNextTest, open_count}
 use Rattle.walk_up_to.specs.Working.Covers.{covers}
-use Rattle.walk_up_to.proofs.PassedOn.{passed_on, passed_cost}
+use Rattle.walk_up_to.proofs.PassedOn.{passed_on, passed_cost, no_room_full, no_room_cost}
 use Rattle.walk_up_to.proofs.Leaves.{visits_covered}
 use Rattle.walk_up_to.proofs.Splits.{next_open, case_kept, fewer_part, low_then_high, high_then_low, low_first_passes, high_first_passes}
 use Rattle.walk_up_to.proofs.branching.+visit.Goals as goal
@@ -117,3 +117,93 @@ visit_both-returns-clause-limited t c = λ is. subst IsSome c.visit.ensures.limi
 
 pub visit_both-returns-clause-kept : goal.visit_both-returns-clause-kept
 visit_both-returns-clause-kept t c = KeepsFunctions-trans c.args.diagrams.now c.visit.new.diagrams c.visit-2.new.diagrams c.in_ok-visit.ensures.kept c.visit-2.ensures.kept
+
+pub visit-returns-in_default-clause-kept : goal.visit-returns-in_default-clause-kept
+visit-returns-in_default-clause-kept t c = KeepsFunctions-itself c.args.diagrams.now
+
+pub visit-returns-in_err-count_case-clause-limit : goal.visit-returns-in_err-count_case-clause-limit
+visit-returns-in_err-count_case-clause-limit t c = refl
+
+pub visit-returns-in_err-count_case-clause-kept : goal.visit-returns-in_err-count_case-clause-kept
+visit-returns-in_err-count_case-clause-kept t c = KeepsFunctions-itself c.args.diagrams.now
+
+pub visit-returns-then-branch-clause-full : goal.visit-returns-then-branch-clause-full
+visit-returns-then-branch-clause-full t c is = absurd cc
+
+pub visit-returns-then-branch-clause-limited : goal.visit-returns-then-branch-clause-limited
+visit-returns-then-branch-clause-limited t c is = absurd cc
+
+pub visit-returns-then-branch-clause-limit : goal.visit-returns-then-branch-clause-limit
+visit-returns-then-branch-clause-limit t c = refl
+
+pub visit-returns-then-branch-clause-kept : goal.visit-returns-then-branch-clause-kept
+visit-returns-then-branch-clause-kept t c = KeepsFunctions-itself c.args.diagrams.now
+
+pub visit-returns-clause-visited : goal.visit-returns-clause-visited
+visit-returns-clause-visited t c = c.visit_split.ensures.visited
+
+pub visit-returns-clause-full : goal.visit-returns-clause-full
+visit-returns-clause-full t c = c.visit_split.ensures.full
+
+pub visit-returns-clause-limited : goal.visit-returns-clause-limited
+visit-returns-clause-limited t c = c.visit_split.ensures.limited
+
+pub visit-returns-clause-limit : goal.visit-returns-clause-limit
+visit-returns-clause-limit t c = c.visit_split.ensures.limit
+
+pub visit-returns-clause-kept : goal.visit-returns-clause-kept
+visit-returns-clause-kept t c = c.visit_split.ensures.kept
+
+pub visit_split-case_with-requires-clause-ends : goal.visit_split-case_with-requires-clause-ends
+visit_split-case_with-requires-clause-ends t c = c.ends_of-ends.ensures.ends
+
+pub visit_split-case_with-requires-clause-case : goal.visit_split-case_with-requires-clause-case
+visit_split-case_with-requires-clause-case t c = c.requires.case
+
+pub visit_split-case_with-requires-clause-open : goal.visit_split-case_with-requires-clause-open
+visit_split-case_with-requires-clause-open t c = c.requires.open
+
+pub visit_split-case_with-requires-2-clause-open : goal.visit_split-case_with-requires-2-clause-open
+visit_split-case_with-requires-2-clause-open t c = c.requires.open
+
+pub visit_split-returns-in_err-low-clause-full : goal.visit_split-returns-in_err-low-clause-full
+visit_split-returns-in_err-low-clause-full t c is = absurd (no_room_full c.from_residual.result c.from_residual.ensures.1 is)
+
+pub visit_split-returns-in_err-low-clause-limited : goal.visit_split-returns-in_err-low-clause-limited
+visit_split-returns-in_err-low-clause-limited t c is = absurd (no_room_cost c.from_residual.result c.from_residual.ensures.1 is)
+
+pub visit_split-returns-in_err-low-clause-limit : goal.visit_split-returns-in_err-low-clause-limit
+visit_split-returns-in_err-low-clause-limit t c = refl
+
+pub visit_split-returns-in_err-low-clause-kept : goal.visit_split-returns-in_err-low-clause-kept
+visit_split-returns-in_err-low-clause-kept t c = c.in_err-low.ensures.kept
+
+pub visit_split-returns-in_err-high-clause-full : goal.visit_split-returns-in_err-high-clause-full
+visit_split-returns-in_err-high-clause-full t c is = absurd (no_room_full c.from_residual-in_err-high.result c.from_residual-in_err-high.ensures.1 is)
+
+pub visit_split-returns-in_err-high-clause-limited : goal.visit_split-returns-in_err-high-clause-limited
+visit_split-returns-in_err-high-clause-limited t c is = absurd (no_room_cost c.from_residual-in_err-high.result c.from_residual-in_err-high.ensures.1 is)
+
+pub visit_split-returns-in_err-high-clause-limit : goal.visit_split-returns-in_err-high-clause-limit
+visit_split-returns-in_err-high-clause-limit t c = refl
+
+pub visit_split-returns-then-is_lighter-clause-limited : goal.visit_split-returns-then-is_lighter-clause-limited
+visit_split-returns-then-is_lighter-clause-limited t c = c.visit_both.ensures.limited
+
+pub visit_split-returns-then-is_lighter-clause-limit : goal.visit_split-returns-then-is_lighter-clause-limit
+visit_split-returns-then-is_lighter-clause-limit t c = c.visit_both.ensures.limit
+
+pub visit_split-returns-clause-limited : goal.visit_split-returns-clause-limited
+visit_split-returns-clause-limited t c = c.visit_both-2.ensures.limited
+
+pub visit_split-returns-clause-limit : goal.visit_split-returns-clause-limit
+visit_split-returns-clause-limit t c = c.visit_both-2.ensures.limit
+
+pub visit_both-returns-in_err-visit-clause-limit : goal.visit_both-returns-in_err-visit-clause-limit
+visit_both-returns-in_err-visit-clause-limit t c = c.in_err-visit.ensures.limit
+
+pub visit_both-returns-in_err-visit-clause-kept : goal.visit_both-returns-in_err-visit-clause-kept
+visit_both-returns-in_err-visit-clause-kept t c = c.in_err-visit.ensures.kept
+
+pub visit_both-returns-clause-limit : goal.visit_both-returns-clause-limit
+visit_both-returns-clause-limit t c = c.visit-2.ensures.limit ∙ c.visit.ensures.limit

@@ -1,5 +1,7 @@
-use Rattle.std.proofs.Common.{◌+◌, take, refl, sym, ap, ◌∙◌, subst, arith, false}
-use Rattle.test_diagrams.proofs.Kept.{KeepsFunctions-trans, IsDiagramOf-kept}
+use Rattle.std.proofs.Common.{◌<◌, ◌+◌, take, refl, sym, ap, ◌∙◌, subst, false}
+use Rattle.std.proofs.lemmas.Bool.{not-false, eqb-true}
+use Rattle.std.proofs.lemmas.List.{take_all}
+use Rattle.test_diagrams.proofs.Kept.{KeepsFunctions-itself, KeepsFunctions-trans, IsDiagramOf-kept}
 use Rattle.partial_derivs.proofs.Items.{has_item}
 use Rattle.walk_pairs.specs.declared.items.Item.{Item}
 use Rattle.walk_up_to.specs.Working.Cases.{AreItemsWith}
@@ -68,6 +70,18 @@ loop-item-preserved c =
             kept = kept;
             gathered = subst (λ l. AreItemsWith d end (take (i + 1) items) test value l) (sym (ap (λ v. v.items) w.list-is))
                 (with_unreached d end kept.tests test value items c.requires.items.ascending i item c.loop-item-test.true c.item-item.is list gathered c.in_ok-left.left c.in_ok-right.right never left right nowhere
-                (grind (arith, c.ne.ensures, w.if-ne.false)) (grind (arith, w.ne-else-ne.ensures, w.if-ne-2.false)));
+                (eqb-true c.in_ok-left.left never (not-false _ (sym c.ne.ensures ∙ w.if-ne.false))) (eqb-true c.in_ok-right.right never (not-false _ (sym w.ne-else-ne.ensures ∙ w.if-ne-2.false))));
           }
     ]
+
+pub returns-in_err-list-clause-kept : goal.returns-in_err-list-clause-kept
+returns-in_err-list-clause-kept c = KeepsFunctions-itself c.args.diagrams.now
+
+pub fix-requires-clause-in_range : goal.fix-requires-clause-in_range
+fix-requires-clause-in_range c = subst (λ n. c.args.test < n) (sym c.loop-item.invariant.kept.tests) c.requires.in_range
+
+pub returns-clause-items : goal.returns-clause-items
+returns-clause-items c = subst (λ l. AreItemsWith c.args.diagrams.now c.loop-item.diagrams l c.args.test c.args.value c.loop-item.list.items) (take_all c.loop-item.item-index c.args.items.now c.loop-item-test.false) c.loop-item.invariant.gathered
+
+pub returns-clause-kept : goal.returns-clause-kept
+returns-clause-kept c = c.loop-item.invariant.kept

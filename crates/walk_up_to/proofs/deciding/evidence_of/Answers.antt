@@ -3,7 +3,7 @@ use Rattle.certificate.specs.declared.nodes.Style.TheVariants.{UpTo}
 use Rattle.walk_up_to.specs.Working.Listings.{AreTraced, untested_of}
 use Rattle.walk_pairs.specs.StoredPairs.{AreStoredPairs}
 use Rattle.walk_pairs.specs.Numbering.{IsCertOf}
-use Rattle.walk_up_to.proofs.PassedOn.{passed_on, passed_cost}
+use Rattle.walk_up_to.proofs.PassedOn.{passed_on, passed_cost, no_room_full, no_room_cost}
 use Rattle.walk_up_to.proofs.PairLimits.{pairs_past}
 use Rattle.walk_up_to.proofs.Decisions.{traced, stored, certified, difference_within, refuted}
 use Rattle.walk_up_to.proofs.deciding.evidence_of.Goals as goal
@@ -47,3 +47,69 @@ returns-in_ok-cert-in-None-clause-nodes c = c.in_ok-cert-in-None.ensures.ids
 
 pub returns-in_err-difference-clause-limited : goal.returns-in_err-difference-clause-limited
 returns-in_err-difference-clause-limited c = λ is. c.in_err-difference.ensures.limited (ap Err (passed_cost c.from_residual.result c.in_err-difference.field-0.0 c.from_residual.ensures.1 is))
+
+pub returns-in_err-difference-clause-kept : goal.returns-in_err-difference-clause-kept
+returns-in_err-difference-clause-kept c = c.run-found.ensures.kept
+
+pub returns-in_err-difference-clause-store : goal.returns-in_err-difference-clause-store
+returns-in_err-difference-clause-store c = c.count.ensures.store
+
+pub returns-in_err-string-in-Some-clause-past : goal.returns-in_err-string-in-Some-clause-past
+returns-in_err-string-in-Some-clause-past c is = absurd (no_room_full c.from_residual-in_err-string-in-Some.result c.from_residual-in_err-string-in-Some.ensures.1 is)
+
+pub returns-in_err-string-in-Some-clause-limited : goal.returns-in_err-string-in-Some-clause-limited
+returns-in_err-string-in-Some-clause-limited c is = absurd (no_room_cost c.from_residual-in_err-string-in-Some.result c.from_residual-in_err-string-in-Some.ensures.1 is)
+
+pub returns-in_err-string-in-Some-clause-kept : goal.returns-in_err-string-in-Some-clause-kept
+returns-in_err-string-in-Some-clause-kept c = c.run-found.ensures.kept
+
+pub returns-in_err-string-in-Some-clause-store : goal.returns-in_err-string-in-Some-clause-store
+returns-in_err-string-in-Some-clause-store c = c.count.ensures.store
+
+pub returns-in_err-pairs-in-None-clause-past : goal.returns-in_err-pairs-in-None-clause-past
+returns-in_err-pairs-in-None-clause-past c is = absurd (no_room_full c.from_residual-in_err-pairs-in-None.result c.from_residual-in_err-pairs-in-None.ensures.1 is)
+
+pub returns-in_err-pairs-in-None-clause-limited : goal.returns-in_err-pairs-in-None-clause-limited
+returns-in_err-pairs-in-None-clause-limited c is = absurd (no_room_cost c.from_residual-in_err-pairs-in-None.result c.from_residual-in_err-pairs-in-None.ensures.1 is)
+
+pub returns-in_err-pairs-in-None-clause-kept : goal.returns-in_err-pairs-in-None-clause-kept
+returns-in_err-pairs-in-None-clause-kept c = c.run-found.ensures.kept
+
+pub returns-in_err-pairs-in-None-clause-store : goal.returns-in_err-pairs-in-None-clause-store
+returns-in_err-pairs-in-None-clause-store c = c.count.ensures.store
+
+pub returns-in_err-cert-in-None-clause-past : goal.returns-in_err-cert-in-None-clause-past
+returns-in_err-cert-in-None-clause-past c is = absurd (no_room_full c.from_residual-in_err-cert-in-None.result c.from_residual-in_err-cert-in-None.ensures.1 is)
+
+pub returns-in_err-cert-in-None-clause-limited : goal.returns-in_err-cert-in-None-clause-limited
+returns-in_err-cert-in-None-clause-limited c is = absurd (no_room_cost c.from_residual-in_err-cert-in-None.result c.from_residual-in_err-cert-in-None.ensures.1 is)
+
+pub returns-in_err-cert-in-None-clause-kept : goal.returns-in_err-cert-in-None-clause-kept
+returns-in_err-cert-in-None-clause-kept c = c.run-found.ensures.kept
+
+pub returns-in_err-cert-in-None-clause-store : goal.returns-in_err-cert-in-None-clause-store
+returns-in_err-cert-in-None-clause-store c = c.count.ensures.store
+
+pub returns-in_ok-string-in-Some-clause-past : goal.returns-in_ok-string-in-Some-clause-past
+returns-in_ok-string-in-Some-clause-past c is = absurd cc
+
+pub returns-in_ok-string-in-Some-clause-limited : goal.returns-in_ok-string-in-Some-clause-limited
+returns-in_ok-string-in-Some-clause-limited c is = absurd cc
+
+pub returns-in_ok-string-in-Some-clause-kept : goal.returns-in_ok-string-in-Some-clause-kept
+returns-in_ok-string-in-Some-clause-kept c = c.run-found.ensures.kept
+
+pub returns-in_ok-string-in-Some-clause-store : goal.returns-in_ok-string-in-Some-clause-store
+returns-in_ok-string-in-Some-clause-store c = c.count.ensures.store
+
+pub returns-in_ok-cert-in-None-clause-past : goal.returns-in_ok-cert-in-None-clause-past
+returns-in_ok-cert-in-None-clause-past c is = absurd cc
+
+pub returns-in_ok-cert-in-None-clause-limited : goal.returns-in_ok-cert-in-None-clause-limited
+returns-in_ok-cert-in-None-clause-limited c is = absurd cc
+
+pub returns-in_ok-cert-in-None-clause-kept : goal.returns-in_ok-cert-in-None-clause-kept
+returns-in_ok-cert-in-None-clause-kept c = c.run-found.ensures.kept
+
+pub returns-in_ok-cert-in-None-clause-store : goal.returns-in_ok-cert-in-None-clause-store
+returns-in_ok-cert-in-None-clause-store c = c.count.ensures.store

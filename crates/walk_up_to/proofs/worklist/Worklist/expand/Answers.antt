@@ -6,7 +6,7 @@ use Rattle.kat_model.specs.Members.{Has}
 use Rattle.kat_model.proofs.Places.{has_at}
 use Rattle.test_diagrams.proofs.Kept.{KeepsFunctions-trans}
 use Rattle.walk_pairs.specs.Items.{AreItemsOf, AreLedTo}
-use Rattle.walk_up_to.proofs.PassedOn.{passed_on, passed_cost}
+use Rattle.walk_up_to.proofs.PassedOn.{passed_on, passed_cost, no_room_full, no_room_cost}
 use Rattle.walk_up_to.proofs.Expanding.{StepsBy, steps_more, steps_pass, steps_all}
 use Rattle.walk_up_to.proofs.worklist.Worklist.expand.Goals as goal
 
@@ -60,3 +60,24 @@ returns-clause-expanded c =
 pub returns-in_err-visit_all-clause-limited : goal.returns-in_err-visit_all-clause-limited
 returns-in_err-visit_all-clause-limited c = λ is.
     subst IsSome c.loop-act.invariant.limit (c.in_err-visit_all.ensures.limited (ap Err (passed_cost c.from_residual-in_err-visit_all.result c.in_err-visit_all.field-0.0 c.from_residual-in_err-visit_all.ensures.1 is)))
+
+pub returns-in_err-actions_in_order-clause-full : goal.returns-in_err-actions_in_order-clause-full
+returns-in_err-actions_in_order-clause-full c is = λ q store e acts under_way at steps. absurd (no_room_full c.from_residual.result c.from_residual.ensures.1 is)
+
+pub returns-in_err-actions_in_order-clause-limited : goal.returns-in_err-actions_in_order-clause-limited
+returns-in_err-actions_in_order-clause-limited c is = absurd (no_room_cost c.from_residual.result c.from_residual.ensures.1 is)
+
+pub returns-in_err-actions_in_order-clause-tests : goal.returns-in_err-actions_in_order-clause-tests
+returns-in_err-actions_in_order-clause-tests c = refl
+
+pub returns-in_err-actions_in_order-clause-limit : goal.returns-in_err-actions_in_order-clause-limit
+returns-in_err-actions_in_order-clause-limit c = refl
+
+pub returns-clause-limited : goal.returns-clause-limited
+returns-clause-limited c is = absurd cc
+
+pub returns-clause-full : goal.returns-clause-full
+returns-clause-full c is = absurd cc
+
+pub returns-clause-limit : goal.returns-clause-limit
+returns-clause-limit c = c.loop-act.invariant.limit

@@ -4,6 +4,7 @@ use Rattle.term_nodes.proofs.Growing.{Grows-trans}
 use Rattle.partial_derivs.specs.Moves.{IsTermOf, IsStepsOf}
 use Rattle.term_nodes.specs.NumberSets.{terms_of}
 use Rattle.walk_up_to.specs.Working.Listings.{IdEntry}
+use Rattle.walk_up_to.specs.Working.Marks.{ListedPairsParts}
 use Rattle.walk_up_to.specs.declared.worklist.Worklist.{Worklist}
 use Rattle.walk_pairs.specs.declared.found.BothSteps.{BothSteps}
 use Rattle.walk_up_to.proofs.UnderWay.{read_at, left_terms, right_terms, stepped}
@@ -43,3 +44,21 @@ returns-clause-steps c = λ q e under_way at.
 pub returns-clause-kept : goal.returns-clause-kept
 returns-clause-kept c =
     Grows-trans c.args.store.now c.step.new.store c.step-2.new.store c.in_ok-left.ensures.kept.trees c.in_ok-right.ensures.kept.trees
+
+pub step-requires-clause-right : goal.step-requires-clause-right
+step-requires-clause-right c = c.requires.under_way.1.right
+
+pub step-requires-2-clause-right : goal.step-requires-2-clause-right
+step-requires-2-clause-right c = c.in_ok-left.ensures.right
+
+pub returns-in_err-left-clause-kept : goal.returns-in_err-left-clause-kept
+returns-in_err-left-clause-kept c = c.in_err-left.ensures.kept.trees
+
+pub returns-in_err-right-clause-kept : goal.returns-in_err-right-clause-kept
+returns-in_err-right-clause-kept c = Grows-trans _ _ _ c.in_ok-left.ensures.kept.trees c.in_err-right.ensures.kept.trees
+
+pub returns-clause-pairs : goal.returns-clause-pairs
+returns-clause-pairs c = ap (λ (r : ListedPairsParts). r.pairs) c.widen.ensures
+
+pub returns-clause-limit : goal.returns-clause-limit
+returns-clause-limit c = ap (λ (r : ListedPairsParts). r.limit) c.widen.ensures
