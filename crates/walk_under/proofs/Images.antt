@@ -47,9 +47,6 @@ module _ (d : DiagramsParts) where
     barred_same : {a b : Atom} → IsReset r.fresh.items a b → IsAtomOf d a → (after : Atom) → IsBarred d rest b after → IsBarred d rest a after
     barred_same same fits after k = (k.0, k.1, sym (reset_same d r.fresh.items k.0.from (λ t h. fresh t h k.0 k.1) same fits) ∙ k.2, k.3)
 
-    barred_other : {a b : Atom} → IsReset r.fresh.items a b → IsAtomOf d a → (after : Atom) → IsBarred d rest a after → IsBarred d rest b after
-    barred_other same fits after k = (k.0, k.1, reset_same d r.fresh.items k.0.from (λ t h. fresh t h k.0 k.1) same fits ∙ k.2, k.3)
-
     either : (a b : Atom) → (IsBarred d rest a b → ⊥) → (IsTrue (value_of d r.from a) → IsTrue (value_of d r.to b) → ⊥) → IsBarred d (rest ++ r ∷ []) a b → ⊥
     either a b none own k =
         ⊎_elim

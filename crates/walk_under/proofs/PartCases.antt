@@ -91,13 +91,6 @@ module _ (c d : DiagramsParts) (kept : KeepsFunctions c d) where
   pub part_at_kept : (ps : List Part) (atom : Atom) → HavePartIds c ps → HasPartAt c ps atom → HasPartAt d ps atom
   part_at_kept ps atom ids h = record { part = h.part; member = h.member; holds = kept.values h.part.region (ids h.part h.member) atom ∙ h.holds }
 
-  pub case_kept : (p : Part) (i : Item) (left right : Bool) (atom : Atom) → IsDiagramId c p.region → IsDiagramId c i.left → IsDiagramId c i.right → IsCase c p i left right atom → IsCase d p i left right atom
-  case_kept p i left right atom p_is l_is r_is h = record {
-    there = kept.values p.region p_is atom ∙ h.there;
-    on_left = kept.values i.left l_is atom ∙ h.on_left;
-    on_right = kept.values i.right r_is atom ∙ h.on_right;
-  }
-
 -- ---- the part of a part at which the guards of an item have two values
 
 module _ (c₀ c₁ c₂ : DiagramsParts) (first : KeepsFunctions c₀ c₁) (second : KeepsFunctions c₁ c₂) (p : Part) (i : Item) (left right : Bool) (beside region : ℕ) (p_is : IsDiagramId c₀ p.region) (l_is : IsDiagramId c₀ i.left) (r_is : IsDiagramId c₀ i.right) (on_left : IsRegionWhere c₀ c₁ p.region i.left left beside) (on_right : IsRegionWhere c₁ c₂ beside i.right right region) where

@@ -131,7 +131,3 @@ pub chosen_both : (t : NodeParts) (n test id : ℕ) (f g : Atom → Bool) → Is
 chosen_both t n test id f g is =
     test_same t n id (λ atom. (get_or atom test false && g atom) || (not (get_or atom test false) && f atom)) (λ atom. cond (get_or atom test false) (g atom) (f atom))
     (λ atom wide. choice_both (get_or atom test false) (f atom) (g atom)) is
-
--- a test that is constant in a grown store was constant before
-pub constant_kept : (s t : NodeParts) (id : ℕ) (v : Bool) → Grows s t → IsTest s id → IsConstantTest t id v → IsConstantTest s id v
-constant_kept s t id v grows is c atom = ap (λ (b : TestTree). truth b atom) (sym (grows.test_trees id is)) ∙ c atom

@@ -121,40 +121,73 @@ fn is_answer(
     refutes(alloc, problem, string)
 }
 
-// Judges a string that breaks the hypotheses at the places `rest`, which do not count, and that was made of `found`,
-// which breaks those at `broken`. Returns whether it refutes the problem; otherwise makes more hypotheses count.
+// A string, and the places of hypotheses that it breaks and that do not count.
+#[derive(Clone, Copy)]
+struct BrokenString<'a> {
+    string: &'a GString,
+    broken: &'a [usize],
+}
+
+// Judges a string that was made of `found`, which breaks hypotheses. Returns whether it refutes the problem; otherwise
+// makes more hypotheses count.
 fn judge_smoothed(
     alloc: Global,
     problem: &Problem,
     hyps: &[ShortHyp],
     counts: &mut [bool],
-    found: &GString,
-    broken: &[usize],
-    string: &GString,
-    rest: &[usize],
+    found: &BrokenString<'_>,
+    made: &BrokenString<'_>,
 ) -> Result<bool, NoMemory>
     requires flags { length counts.old ≡ length hyps.now }
     requires hyps { (store : NodeParts) × AreShortHyps problem.now store hyps.now }
-    requires found { IsFoundUnder problem.now hyps.now counts.old found.now }
-    requires some { 0 < length broken.now }
-    requires broken { (i : ℕ) → Has broken.now i → (i < length counts.old) × (slice_index_or counts.old i true ≡ false) }
-    requires rest { (i : ℕ) → Has rest.now i → (i < length counts.old) × (slice_index_or counts.old i true ≡ false) }
-    ensures shown { IfOk result (λ shown. IsTrue shown → IsShortest problem.now string.now) }
+    requires found { IsFoundUnder problem.now hyps.now counts.old found.now.string.now }
+    requires some { 0 < length found.now.broken.now }
+    requires broken { (i : ℕ) → Has found.now.broken.now i → (i < length counts.old) × (slice_index_or counts.old i true ≡ false) }
+    requires rest { (i : ℕ) → Has made.now.broken.now i → (i < length counts.old) × (slice_index_or counts.old i true ≡ false) }
+    ensures shown { IfOk result (λ shown. IsTrue shown → IsShortest problem.now made.now.string.now) }
     ensures fewer { IfOk result (λ shown. IsFalse shown → uncounted counts.new < uncounted counts.old) }
     ensures counting { StillCount counts.old counts.new }
     ensures flags { length counts.new ≡ length counts.old }
 {
+    let rest = made.broken;
     let breaks = has_some(rest);
     if breaks {
         count_next(alloc, hyps, counts, rest)?;
         return Ok(false);
     }
-    let shown = is_answer(alloc, problem, string, found)?;
+    let shown = is_answer(alloc, problem, made.string, found.string)?;
     if shown {
         return Ok(true);
     }
-    count_next(alloc, hyps, counts, broken)?;
+    count_next(alloc, hyps, counts, found.broken)?;
     Ok(false)
+}
+
+// Finds the hypotheses that the string breaks and that do not count, and judges it.
+fn judge_string(
+    alloc: Global,
+    problem: &Problem,
+    hyps: &[ShortHyp],
+    counts: &mut [bool],
+    found: &BrokenString<'_>,
+    string: &GString,
+) -> Result<bool, NoMemory>
+    requires flags { length counts.old ≡ length hyps.now }
+    requires hyps { (store : NodeParts) × AreShortHyps problem.now store hyps.now }
+    requires found { IsFoundUnder problem.now hyps.now counts.old found.now.string.now }
+    requires some { 0 < length found.now.broken.now }
+    requires broken { (i : ℕ) → Has found.now.broken.now i → (i < length counts.old) × (slice_index_or counts.old i true ≡ false) }
+    ensures shown { IfOk result (λ shown. IsTrue shown → IsShortest problem.now string.now) }
+    ensures fewer { IfOk result (λ shown. IsFalse shown → uncounted counts.new < uncounted counts.old) }
+    ensures counting { StillCount counts.old counts.new }
+    ensures flags { length counts.new ≡ length counts.old }
+{
+    let rest = broken_by(alloc, hyps, counts, string)?;
+    let made = BrokenString {
+        string,
+        broken: rest.as_slice(),
+    };
+    judge_smoothed(alloc, problem, hyps, counts, found, &made)
 }
 
 // Judges a string that breaks hypotheses which do not count. Returns a string of as many moves that refutes the problem,
@@ -182,10 +215,11 @@ fn judge(
     ensures flags { length counts.new ≡ length counts.old }
 {
     let string = smoothed(alloc, diagrams, hyps, counts, found, last)?;
-    let rest = broken_by(alloc, hyps, counts, &string)?;
-    let places = rest.as_slice();
-    let whole = &found.string;
-    let shown = judge_smoothed(alloc, problem, hyps, counts, whole, broken, &string, places)?;
+    let whole = BrokenString {
+        string: &found.string,
+        broken,
+    };
+    let shown = judge_string(alloc, problem, hyps, counts, &whole, &string)?;
     if shown {
         return Ok(Some(string));
     }
@@ -234,6 +268,28 @@ fn string_of(
     )
 }
 
+// Begins a walk that counts these hypotheses.
+fn begin_counted(
+    alloc: Global,
+    store: &mut Store,
+    problem: &Problem,
+    walk: &mut TestedWorklist,
+    sides: &ClosedIds,
+    hyps: &[ShortHyp],
+    counts: &[bool],
+) -> Result<(), NoMemory>
+    requires flags { length counts.now ≡ length hyps.now }
+    requires hyps { AreShortHyps problem.now store.old hyps.now }
+    requires sides { AreClosedIds (with_hyps problem.now (long_hyps problem.now)) store.old sides.now }
+    requires walk { MayBegin problem.now store.old walk.old }
+    ensures begun { OnOk result ((counted : List Term) × IsCountedList problem.now hyps.now counts.now counted
+        × IsUnderWay (walk_context counted (with_hyps problem.now (long_hyps problem.now)) store.new) walk.new 0) }
+    ensures kept { Grows store.old store.new }
+{
+    let ids = counted_ids(alloc, hyps, counts)?;
+    walk.begin(alloc, store, problem.actions(), &ids, sides)
+}
+
 // Runs a walk that counts these hypotheses. If it gives no answer, makes more hypotheses count.
 fn turn(
     alloc: Global,
@@ -253,9 +309,8 @@ fn turn(
     ensures flags { length counts.new ≡ length counts.old }
     ensures kept { Grows store.old store.new }
 {
-    let ids = counted_ids(alloc, hyps, counts)?;
+    begin_counted(alloc, store, problem, walk, sides, hyps, counts)?;
     let actions = problem.actions();
-    walk.begin(alloc, store, actions, &ids, sides)?;
     let limit = limit_of(counts);
     let end = walk.run(alloc, store, actions, limit)?;
     match end {
@@ -302,6 +357,27 @@ fn string_found(
     }
 }
 
+// Returns the string that the walks of the problem find, if they find one. Otherwise the last walk has ended.
+fn string_of_walks(
+    alloc: Global,
+    store: &mut Store,
+    problem: &Problem,
+    walk: &mut TestedWorklist,
+    sides: &ClosedIds,
+) -> Result<Option<GString>, NoMemory>
+    requires within { IsProblem problem.now }
+    requires sides { AreClosedIds (with_hyps problem.now (long_hyps problem.now)) store.old sides.now }
+    requires walk { (s : NodeParts) → MayBegin problem.now s walk.old }
+    ensures answer { IfOk result (λ answer. MatchOption answer (HasEnded problem.now store.new walk.new) (IsShortest problem.now)) }
+    ensures kept { Grows store.old store.new }
+{
+    let shorts = short_hyps(alloc, store, problem)?;
+    let hyps = shorts.as_slice();
+    let mut flags = first_counts(alloc, hyps)?;
+    let counts = flags.as_mut_slice();
+    string_found(alloc, store, problem, walk, sides, hyps, counts)
+}
+
 // Returns how the walks of the problem end.
 fn outcome_of(alloc: Global, store: &mut Store, problem: &Problem) -> Result<Outcome, NoMemory>
     ensures within { IfOk result (λ outcome. IsProblem problem.now) }
@@ -310,14 +386,10 @@ fn outcome_of(alloc: Global, store: &mut Store, problem: &Problem) -> Result<Out
 {
     let tests = problem.tests();
     let sides = side_ids(alloc, store, problem)?;
-    let shorts = short_hyps(alloc, store, problem)?;
-    let hyps = shorts.as_slice();
     // The proof needs the invariants of the store.
     let _ = store.count();
-    let mut flags = first_counts(alloc, hyps)?;
-    let counts = flags.as_mut_slice();
     let mut walk = TestedWorklist::new(alloc, tests)?;
-    let found = string_found(alloc, store, problem, &mut walk, &sides, hyps, counts)?;
+    let found = string_of_walks(alloc, store, problem, &mut walk, &sides)?;
     match found {
         Some(string) => Ok(Outcome::Refuted(string)),
         None => Ok(Outcome::Alike(walk)),

@@ -228,7 +228,7 @@ fn region_at(regions: &[DiagramId], last: DiagramId, moves: usize, place: usize)
     last
 }
 
-// Returns the last atom of a string that begins with `first` and goes on with the moves.
+// Returns the last atom of a string that begins with `first` and continues with the moves.
 fn last_atom<'a>(first: &'a [bool], moves: &'a [Move]) -> &'a [bool] {
     match moves.last() {
         Some(m) => m.atom.as_slice(),

@@ -180,6 +180,30 @@ fn entry_of(
     })
 }
 
+// Returns an atom of `test` at which exactly one of the two steps accepts, if there is one.
+fn distinction_at(
+    alloc: Global,
+    diagrams: &mut Diagrams,
+    test: DiagramId,
+    steps: &BothSteps,
+) -> Result<Option<Distinction>, NoMemory>
+    requires test { IsDiagramId diagrams.old test }
+    requires left { IsDiagramId diagrams.old steps.now.left.accepts }
+    requires right { IsDiagramId diagrams.old steps.now.right.accepts }
+    ensures found { IfOk result (λ found. MatchOption found (AcceptAlike diagrams.old test steps.now) (λ f. TellApart diagrams.old test steps.now f.atom.items)) }
+    ensures region { IfOk result (λ found. IfSome found (λ f. IsDiagramId diagrams.new f.region)) }
+    ensures kept { OnOk result (KeepsFunctions diagrams.old diagrams.new) }
+{
+    let left = diagrams.and(test, steps.left.accepts)?;
+    let right = diagrams.and(test, steps.right.accepts)?;
+    if left == right {
+        return Ok(None);
+    }
+    let atom = differing_atom(alloc, diagrams, left, right)?;
+    let region = difference(diagrams, steps.left.accepts, steps.right.accepts)?;
+    Ok(Some(Distinction { atom, region }))
+}
+
 impl TestedWorklist {
     /// Returns a walk that has not begun: it has no pairs, and its moves are those of no action.
     pub(crate) fn new(alloc: Global, tests: usize) -> Result<TestedWorklist, NoMemory>
@@ -369,34 +393,6 @@ impl TestedWorklist {
         entry.test
     }
 
-    // Returns an atom of `test` at which exactly one of the two steps accepts, if there is one.
-    fn difference(
-        &mut self,
-        alloc: Global,
-        test: DiagramId,
-        steps: &BothSteps,
-    ) -> Result<Option<Distinction>, NoMemory>
-        requires test { IsDiagramId self.old.diagrams test }
-        requires left { IsDiagramId self.old.diagrams steps.now.left.accepts }
-        requires right { IsDiagramId self.old.diagrams steps.now.right.accepts }
-        ensures found { IfOk result (λ found. MatchOption found (AcceptAlike self.old.diagrams test steps.now) (λ f. TellApart self.old.diagrams test steps.now f.atom.items)) }
-        ensures region { IfOk result (λ found. IfSome found (λ f. IsDiagramId self.new.diagrams f.region)) }
-        ensures listing { self.new.listing ≡ self.old.listing }
-        ensures moves { self.new.moves ≡ self.old.moves }
-        ensures derivatives { self.new.derivatives ≡ self.old.derivatives }
-        ensures kept { OnOk result (KeepsFunctions self.old.diagrams self.new.diagrams) }
-    {
-        let left = self.diagrams.and(test, steps.left.accepts)?;
-        let right = self.diagrams.and(test, steps.right.accepts)?;
-        if left == right {
-            return Ok(None);
-        }
-        let atom = differing_atom(alloc, &mut self.diagrams, left, right)?;
-        let (own, other) = (steps.left.accepts, steps.right.accepts);
-        let region = difference(&mut self.diagrams, own, other)?;
-        Ok(Some(Distinction { atom, region }))
-    }
-
     // Lists pairs until, after the allowed moves by each action from the atoms of the pair, its next sets are joined.
     fn expand(
         &mut self,
@@ -442,7 +438,7 @@ impl TestedWorklist {
         ensures region { IfOk result (λ found. IfSome found (λ f. IsDiagramId self.new.diagrams f.region)) }
     {
         let test = self.test_at(place);
-        if let Some(found) = self.difference(alloc, test, steps)? {
+        if let Some(found) = distinction_at(alloc, &mut self.diagrams, test, steps)? {
             return Ok(Some(found));
         }
         let taken_pair = self.taken_pair_at(alloc, place)?;

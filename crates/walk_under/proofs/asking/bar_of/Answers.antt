@@ -26,3 +26,21 @@ returns-clause-right c = AreRight-kept c.accepted_by.new.store c.accepted_by.new
 
 pub returns-clause-kept : goal.returns-clause-kept
 returns-clause-kept c = Keeps-trans _ _ _ _ _ _ c.in_ok-to.ensures.kept (Keeps-functions _ _ _ c.in_ok-fresh.ensures.kept)
+
+pub accepted_by-requires-clause-term : goal.accepted_by-requires-clause-term
+accepted_by-requires-clause-term c = c.requires.to
+
+pub accepted_by-requires-clause-right : goal.accepted_by-requires-clause-right
+accepted_by-requires-clause-right c = c.requires.right
+
+pub returns-in_err-to-clause-right : goal.returns-in_err-to-clause-right
+returns-in_err-to-clause-right c = c.in_err-to.ensures.right
+
+pub returns-in_err-to-clause-kept : goal.returns-in_err-to-clause-kept
+returns-in_err-to-clause-kept c = c.in_err-to.ensures.kept
+
+pub fresh_tests-requires-clause-id : goal.fresh_tests-requires-clause-id
+fresh_tests-requires-clause-id c = c.in_ok-to.ensures.kept.functions.ids c.args.guarded.now.guard c.requires.guard
+
+pub returns-clause-fresh : goal.returns-clause-fresh
+returns-clause-fresh c = c.in_ok-fresh.ensures.fresh

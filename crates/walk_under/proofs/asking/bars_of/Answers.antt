@@ -21,3 +21,27 @@ pub returns-clause-bars : goal.returns-clause-bars
 returns-clause-bars c =
     let are = moves_shuffled c.args.moves.now c.in_ok-own.own.items c.reverse.new.self.items c.deref.result.now c.args.act c.in_ok-own.ensures c.reverse.ensures.permutation c.deref.ensures.value in
     IfOk-weaker c.collected_bars.result _ _ (λ b own. own c.args.moves.now c.args.act are) c.collected_bars.ensures.bars
+
+pub returns-in_err-own-clause-right : goal.returns-in_err-own-clause-right
+returns-in_err-own-clause-right c = c.requires.right
+
+pub returns-in_err-own-clause-kept : goal.returns-in_err-own-clause-kept
+returns-in_err-own-clause-kept c = Keeps-itself c.args.store.now c.args.diagrams.now
+
+pub returns-in_err-asked-clause-right : goal.returns-in_err-asked-clause-right
+returns-in_err-asked-clause-right c = c.requires.right
+
+pub returns-in_err-asked-clause-kept : goal.returns-in_err-asked-clause-kept
+returns-in_err-asked-clause-kept c = Keeps-itself c.args.store.now c.args.diagrams.now
+
+pub collected_bars-requires-clause-right : goal.collected_bars-requires-clause-right
+collected_bars-requires-clause-right c = c.requires.right
+
+pub returns-clause-sound : goal.returns-clause-sound
+returns-clause-sound c = c.collected_bars.ensures.sound
+
+pub returns-clause-right : goal.returns-clause-right
+returns-clause-right c = c.collected_bars.ensures.right
+
+pub returns-clause-kept : goal.returns-clause-kept
+returns-clause-kept c = c.collected_bars.ensures.kept

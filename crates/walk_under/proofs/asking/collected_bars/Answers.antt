@@ -62,3 +62,24 @@ returns-clause-sound c =
 
 pub bar_of-requires-clause-tests : goal.bar_of-requires-clause-tests
 bar_of-requires-clause-tests c = c.loop-guarded.invariant.so_far.tests
+
+pub bar_of-requires-clause-right : goal.bar_of-requires-clause-right
+bar_of-requires-clause-right c = c.loop-guarded.invariant.right
+
+pub returns-in_err-bar-clause-right : goal.returns-in_err-bar-clause-right
+returns-in_err-bar-clause-right c = c.in_err-bar.ensures.right
+
+pub returns-in_err-push-clause-right : goal.returns-in_err-push-clause-right
+returns-in_err-push-clause-right c = c.in_ok-bar.ensures.right
+
+pub returns-in_err-unasked-clause-right : goal.returns-in_err-unasked-clause-right
+returns-in_err-unasked-clause-right c = c.loop-guarded.invariant.right
+
+pub returns-in_err-unasked-clause-kept : goal.returns-in_err-unasked-clause-kept
+returns-in_err-unasked-clause-kept c = c.loop-guarded.invariant.kept
+
+pub returns-clause-right : goal.returns-clause-right
+returns-clause-right c = c.loop-guarded.invariant.right
+
+pub returns-clause-kept : goal.returns-clause-kept
+returns-clause-kept c = c.loop-guarded.invariant.kept

@@ -1,4 +1,4 @@
-use Rattle.std.proofs.Common.{◌+◌, ℕ, Vec, Global, sym, ap, ◌∙◌, subst}
+use Rattle.std.proofs.Common.{◌≡◌, ◌+◌, ℕ, length, Vec, Global, sym, ap, ◌∙◌, subst, arith}
 use Rattle.test_diagrams.proofs.Kept.{KeepsFunctions-itself, KeepsFunctions-trans}
 use Rattle.walk_under.specs.Working.Asking.{AreFreshTests}
 use Rattle.walk_under.proofs.AskedTests.{fresh_first, fresh_skipped, fresh_pushed}
@@ -41,3 +41,9 @@ asks_first-requires-clause-id c = c.loop-test.invariant.kept.ids c.args.id c.req
 
 pub asks_first-requires-clause-tests : goal.asks_first-requires-clause-tests
 asks_first-requires-clause-tests c = c.loop-test.auto.asked ∙ c.requires.tests ∙ sym c.loop-test.invariant.kept.tests
+
+pub returns-clause-fresh : goal.returns-clause-fresh
+returns-clause-fresh c = let same : c.loop-test.test ≡ length c.args.asked.now = omega arith in subst (λ n. AreFreshTests c.loop-test.diagrams c.args.id c.args.asked.now c.loop-test.asked n c.loop-test.fresh.items) same c.loop-test.invariant.fresh
+
+pub returns-clause-kept : goal.returns-clause-kept
+returns-clause-kept c = c.loop-test.invariant.kept

@@ -1,4 +1,4 @@
-use Rattle.std.proofs.Common.{List, ℕ, ◌∙◌, sym, subst}
+use Rattle.std.proofs.Common.{List, ℕ, ◌∙◌, refl, sym, subst}
 use Rattle.kat_model.specs.Members.{Has}
 use Rattle.kat_model.specs.Degrees.{long_hyps, with_hyps}
 use Rattle.certificate.specs.Decisions.{IsShortest}
@@ -59,3 +59,36 @@ returns-clause-derivatives c = always_ok c.judge.result c.in_ok-string.ensures.d
 
 pub returns-clause-kept : goal.returns-clause-kept
 returns-clause-kept c = always_ok c.judge.result c.in_ok-string.ensures.kept
+
+pub broken_by-requires : goal.broken_by-requires
+broken_by-requires c = c.requires.flags
+
+pub judge-requires-clause-flags : goal.judge-requires-clause-flags
+judge-requires-clause-flags c = c.requires.flags
+
+pub returns-in_err-string-clause-counting : goal.returns-in_err-string-clause-counting
+returns-in_err-string-clause-counting c i h = h
+
+pub returns-in_err-string-clause-flags : goal.returns-in_err-string-clause-flags
+returns-in_err-string-clause-flags c = refl
+
+pub returns-in_err-broken-clause-counting : goal.returns-in_err-broken-clause-counting
+returns-in_err-broken-clause-counting c i h = h
+
+pub returns-in_err-broken-clause-flags : goal.returns-in_err-broken-clause-flags
+returns-in_err-broken-clause-flags c = refl
+
+pub returns-then-not-breaks-clause-counting : goal.returns-then-not-breaks-clause-counting
+returns-then-not-breaks-clause-counting c i h = h
+
+pub returns-then-not-breaks-clause-flags : goal.returns-then-not-breaks-clause-flags
+returns-then-not-breaks-clause-flags c = refl
+
+pub returns-clause-answer : goal.returns-clause-answer
+returns-clause-answer c = c.judge.ensures.answer
+
+pub returns-clause-counting : goal.returns-clause-counting
+returns-clause-counting c = c.judge.ensures.counting
+
+pub returns-clause-flags : goal.returns-clause-flags
+returns-clause-flags c = c.judge.ensures.flags

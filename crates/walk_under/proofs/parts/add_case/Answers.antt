@@ -34,3 +34,18 @@ returns-clause-covers c atom fits h =
     (λ old. inl (part_at_kept c.args.diagrams.now c.part_where.new.diagrams c.in_ok-case.ensures.kept c.args.parts.now.items atom c.requires.ids old))
     (λ k. inr (c.in_ok-case.ensures.there atom fits k))
     h)
+
+pub part_where-requires-clause-region : goal.part_where-requires-clause-region
+part_where-requires-clause-region c = c.requires.region
+
+pub part_where-requires-clause-left : goal.part_where-requires-clause-left
+part_where-requires-clause-left c = c.requires.left
+
+pub part_where-requires-clause-right : goal.part_where-requires-clause-right
+part_where-requires-clause-right c = c.requires.right
+
+pub returns-then-eq-clause-kept : goal.returns-then-eq-clause-kept
+returns-then-eq-clause-kept c = c.in_ok-case.ensures.kept
+
+pub returns-clause-kept : goal.returns-clause-kept
+returns-clause-kept c = c.in_ok-case.ensures.kept

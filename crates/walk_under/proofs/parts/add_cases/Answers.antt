@@ -47,3 +47,30 @@ returns-clause-covers c =
 
 pub returns-clause-kept : goal.returns-clause-kept
 returns-clause-kept c = on_ok_weaker c.add_case-2.result (λ kept. KeepsFunctions-trans _ _ _ c.in_ok-add_case.ensures.kept kept) c.add_case-2.ensures.kept
+
+pub add_case-requires-clause-region : goal.add_case-requires-clause-region
+add_case-requires-clause-region c = c.requires.region
+
+pub add_case-requires-clause-left : goal.add_case-requires-clause-left
+add_case-requires-clause-left c = c.requires.left
+
+pub add_case-requires-clause-right : goal.add_case-requires-clause-right
+add_case-requires-clause-right c = c.requires.right
+
+pub add_case-requires-clause-ids : goal.add_case-requires-clause-ids
+add_case-requires-clause-ids c = c.requires.ids
+
+pub add_case-requires-2-clause-ids : goal.add_case-requires-2-clause-ids
+add_case-requires-2-clause-ids c = c.in_ok-add_case.ensures.ids
+
+pub returns-then-eq-clause-parts : goal.returns-then-eq-clause-parts
+returns-then-eq-clause-parts c = c.in_ok-add_case.ensures.parts
+
+pub returns-then-eq-clause-ids : goal.returns-then-eq-clause-ids
+returns-then-eq-clause-ids c = c.in_ok-add_case.ensures.ids
+
+pub returns-then-eq-clause-kept : goal.returns-then-eq-clause-kept
+returns-then-eq-clause-kept c = c.in_ok-add_case.ensures.kept
+
+pub returns-clause-ids : goal.returns-clause-ids
+returns-clause-ids c = c.add_case-2.ensures.ids

@@ -54,3 +54,6 @@ pub returns-clause-covers : goal.returns-clause-covers
 returns-clause-covers c atom fits h =
     let found = c.loop-item.invariant.covers atom fits h in
     record { part = found.part; member = has_permuted c.loop-item.parts.items c.order_parts.new.parts.items c.order_parts.ensures found.part found.member; holds = found.holds }
+
+pub returns-clause-kept : goal.returns-clause-kept
+returns-clause-kept c = c.loop-item.invariant.kept

@@ -46,3 +46,30 @@ returns-clause-covers c =
 
 pub returns-clause-kept : goal.returns-clause-kept
 returns-clause-kept c = on_ok_weaker c.add_cases-2.result (λ kept. KeepsFunctions-trans _ _ _ c.in_ok-add_cases.ensures.kept kept) c.add_cases-2.ensures.kept
+
+pub add_cases-requires-clause-region : goal.add_cases-requires-clause-region
+add_cases-requires-clause-region c = c.requires.region
+
+pub add_cases-requires-clause-left : goal.add_cases-requires-clause-left
+add_cases-requires-clause-left c = c.requires.left
+
+pub add_cases-requires-clause-right : goal.add_cases-requires-clause-right
+add_cases-requires-clause-right c = c.requires.right
+
+pub add_cases-requires-clause-ids : goal.add_cases-requires-clause-ids
+add_cases-requires-clause-ids c = c.requires.ids
+
+pub add_cases-requires-2-clause-ids : goal.add_cases-requires-2-clause-ids
+add_cases-requires-2-clause-ids c = c.in_ok-add_cases.ensures.ids
+
+pub returns-then-eq-clause-parts : goal.returns-then-eq-clause-parts
+returns-then-eq-clause-parts c = c.in_ok-add_cases.ensures.parts
+
+pub returns-then-eq-clause-ids : goal.returns-then-eq-clause-ids
+returns-then-eq-clause-ids c = c.in_ok-add_cases.ensures.ids
+
+pub returns-then-eq-clause-kept : goal.returns-then-eq-clause-kept
+returns-then-eq-clause-kept c = c.in_ok-add_cases.ensures.kept
+
+pub returns-clause-ids : goal.returns-clause-ids
+returns-clause-ids c = c.add_cases-2.ensures.ids

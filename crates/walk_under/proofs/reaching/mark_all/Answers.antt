@@ -28,3 +28,24 @@ mark-requires-clause-test c = c.loop-term.invariant.kept.ids c.args.test c.requi
 
 pub returns-in_err-mark-clause-kept : goal.returns-in_err-mark-clause-kept
 returns-in_err-mark-clause-kept c = KeepsFunctions-trans _ _ _ c.loop-term.invariant.kept c.in_err-mark.ensures.kept
+
+pub mark-requires-clause-marks : goal.mark-requires-clause-marks
+mark-requires-clause-marks c = c.loop-term.invariant.ids
+
+pub returns-then-eq-clause-marks : goal.returns-then-eq-clause-marks
+returns-then-eq-clause-marks c es set m b = m
+
+pub returns-then-eq-clause-ids : goal.returns-then-eq-clause-ids
+returns-then-eq-clause-ids c = c.requires.marks
+
+pub returns-then-eq-clause-kept : goal.returns-then-eq-clause-kept
+returns-then-eq-clause-kept c = KeepsFunctions-itself c.args.diagrams.now
+
+pub returns-clause-marks : goal.returns-clause-marks
+returns-clause-marks c = c.loop-term.invariant.marks
+
+pub returns-clause-ids : goal.returns-clause-ids
+returns-clause-ids c = c.loop-term.invariant.ids
+
+pub returns-clause-kept : goal.returns-clause-kept
+returns-clause-kept c = c.loop-term.invariant.kept

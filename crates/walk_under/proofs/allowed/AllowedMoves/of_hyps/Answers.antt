@@ -70,3 +70,27 @@ returns-in_err-allowed-clause-right c = AreRight-kept c.step.new.store c.step.ne
 
 pub returns-in_err-allowed-clause-kept : goal.returns-in_err-allowed-clause-kept
 returns-in_err-allowed-clause-kept c = Keeps-trans _ _ _ _ _ _ c.in_ok-steps.ensures.kept (Keeps-functions c.step.new.store c.step.new.diagrams c.not.new.self c.in_err-allowed.ensures.kept)
+
+pub step-requires-clause-terms : goal.step-requires-clause-terms
+step-requires-clause-terms c = c.requires.terms
+
+pub step-requires-clause-right : goal.step-requires-clause-right
+step-requires-clause-right c = c.requires.right
+
+pub returns-in_err-steps-clause-right : goal.returns-in_err-steps-clause-right
+returns-in_err-steps-clause-right c = c.in_err-steps.ensures.right
+
+pub returns-in_err-steps-clause-kept : goal.returns-in_err-steps-clause-kept
+returns-in_err-steps-clause-kept c = c.in_err-steps.ensures.kept
+
+pub bars_of-requires-clause-right : goal.bars_of-requires-clause-right
+bars_of-requires-clause-right c = c.loop-act.invariant.right
+
+pub returns-in_err-bars-clause-right : goal.returns-in_err-bars-clause-right
+returns-in_err-bars-clause-right c = c.in_err-bars.ensures.right
+
+pub returns-in_err-push-clause-right : goal.returns-in_err-push-clause-right
+returns-in_err-push-clause-right c = c.in_ok-bars.ensures.right
+
+pub returns-clause-right : goal.returns-clause-right
+returns-clause-right c = c.loop-act.invariant.right

@@ -1,8 +1,8 @@
-use Rattle.std.proofs.Common.{◌≡◌, ◌≢◌, ◌-◌, ◌<◌, false, take, length, sym, ap, ◌∙◌, subst, arith}
+use Rattle.std.proofs.Common.{◌≡◌, ◌≢◌, ◌-◌, ◌<◌, false, take, length, refl, sym, ap, ◌∙◌, subst, arith}
 use Rattle.std.proofs.lemmas.Bool.{eqb-true, eqb-false}
 use Rattle.kat_model.proofs.Places.{has_at}
 use Rattle.test_diagrams.specs.Functions.{DiagramsParts, IsDiagramOf, KeepsFunctions}
-use Rattle.test_diagrams.proofs.Kept.{KeepsFunctions-trans}
+use Rattle.test_diagrams.proofs.Kept.{KeepsFunctions-itself, KeepsFunctions-trans}
 use Rattle.walk_under.specs.Working.Bars.{IsImageOf}
 use Rattle.walk_under.proofs.Images.{image_never, image_free}
 use Rattle.walk_under.proofs.ImageTables.{sound_bars_kept, sound_bars_with}
@@ -118,3 +118,27 @@ returns-in_err-within-clause-kept t c = KeepsFunctions-trans _ _ _ c.in_ok-parts
 
 pub returns-clause-bars : goal.returns-clause-bars
 returns-clause-bars t c = c.in_ok-note_image.ensures.bars ∙ c.in_ok-free.ensures.bars ∙ c.in_ok-within.ensures.bars
+
+pub returns-then-eq-clause-sound : goal.returns-then-eq-clause-sound
+returns-then-eq-clause-sound t c = c.requires.sound
+
+pub returns-then-eq-clause-bars : goal.returns-then-eq-clause-bars
+returns-then-eq-clause-bars t c = refl
+
+pub returns-then-eq-clause-kept : goal.returns-then-eq-clause-kept
+returns-then-eq-clause-kept t c = KeepsFunctions-itself c.args.diagrams.now
+
+pub returns-then-count-eq0-clause-sound : goal.returns-then-count-eq0-clause-sound
+returns-then-count-eq0-clause-sound t c = c.requires.sound
+
+pub returns-then-count-eq0-clause-bars : goal.returns-then-count-eq0-clause-bars
+returns-then-count-eq0-clause-bars t c = refl
+
+pub returns-then-count-eq0-clause-kept : goal.returns-then-count-eq0-clause-kept
+returns-then-count-eq0-clause-kept t c = KeepsFunctions-itself c.args.diagrams.now
+
+pub split-requires-clause-region : goal.split-requires-clause-region
+split-requires-clause-region t c = c.requires.region
+
+pub returns-in_err-parts-clause-kept : goal.returns-in_err-parts-clause-kept
+returns-in_err-parts-clause-kept t c = c.in_err-parts.ensures.kept

@@ -36,3 +36,15 @@ returns-then-is_empty-clause-kept c = KeepsFunctions-itself c.args.diagrams.now
 
 pub returns-in_err-marks-clause-kept : goal.returns-in_err-marks-clause-kept
 returns-in_err-marks-clause-kept c = KeepsFunctions-itself c.args.diagrams.now
+
+pub reached_with-requires-clause-tests : goal.reached_with-requires-clause-tests
+reached_with-requires-clause-tests c = c.requires.tests
+
+pub reached_with-requires-clause-within : goal.reached_with-requires-clause-within
+reached_with-requires-clause-within c = c.requires.within
+
+pub returns-clause-part : goal.returns-clause-part
+returns-clause-part c = c.reached_with.ensures.part
+
+pub returns-clause-kept : goal.returns-clause-kept
+returns-clause-kept c = c.reached_with.ensures.kept

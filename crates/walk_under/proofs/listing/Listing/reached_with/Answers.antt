@@ -31,3 +31,18 @@ saturate-requires-clause-tests c e h = c.in_ok-mark_all.ensures.kept.ids e.test 
 
 pub reached_at-requires-clause-within : goal.reached_at-requires-clause-within
 reached_at-requires-clause-within c = c.in_ok-saturate.ensures.kept.ids c.args.within (c.in_ok-mark_all.ensures.kept.ids c.args.within c.requires.within)
+
+pub mark_all-requires-clause-marks : goal.mark_all-requires-clause-marks
+mark_all-requires-clause-marks c = c.requires.marks
+
+pub mark_all-requires-clause-test : goal.mark_all-requires-clause-test
+mark_all-requires-clause-test c = c.requires.within
+
+pub returns-in_err-mark_all-clause-kept : goal.returns-in_err-mark_all-clause-kept
+returns-in_err-mark_all-clause-kept c = c.in_err-mark_all.ensures.kept
+
+pub saturate-requires-clause-marks : goal.saturate-requires-clause-marks
+saturate-requires-clause-marks c = c.in_ok-mark_all.ensures.ids
+
+pub reached_at-requires-clause-marks : goal.reached_at-requires-clause-marks
+reached_at-requires-clause-marks c = c.in_ok-saturate.ensures.ids

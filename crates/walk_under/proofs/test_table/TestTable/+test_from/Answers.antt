@@ -177,3 +177,27 @@ choice-requires-clause-low t c = c.in_ok-on_high.ensures.grows.test_numbers c.in
 
 pub choice-requires-clause-high : goal.choice-requires-clause-high
 choice-requires-clause-high t c = c.in_ok-on_high.ensures.test.is_id
+
+pub returns-in_default-clause-grows : goal.returns-in_default-clause-grows
+returns-in_default-clause-grows t c = c.constant-in_default.ensures.grows
+
+pub returns-in_default-clause-kept : goal.returns-in_default-clause-kept
+returns-in_default-clause-kept t c = KeepsFunctions-itself c.args.diagrams.now
+
+pub fix-requires-clause-id : goal.fix-requires-clause-id
+fix-requires-clause-id t c = c.requires.id
+
+pub fix-requires-clause-in_range : goal.fix-requires-clause-in_range
+fix-requires-clause-in_range t c = c.in-Some.ensures.least.in_range
+
+pub returns-in_err-low-clause-grows : goal.returns-in_err-low-clause-grows
+returns-in_err-low-clause-grows t c = Grows-itself c.args.store.now
+
+pub returns-in_err-low-clause-kept : goal.returns-in_err-low-clause-kept
+returns-in_err-low-clause-kept t c = c.in_err-low.ensures.kept
+
+pub returns-in_err-high-clause-grows : goal.returns-in_err-high-clause-grows
+returns-in_err-high-clause-grows t c = Grows-itself c.args.store.now
+
+pub returns-in_err-on_low-clause-grows : goal.returns-in_err-on_low-clause-grows
+returns-in_err-on_low-clause-grows t c = c.in_err-on_low.ensures.grows
