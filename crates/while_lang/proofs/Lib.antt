@@ -7,6 +7,8 @@ pub mod Outcomes
 pub mod LoopsAgain
 pub mod GuardedFlows
 pub mod BlockSteps
+pub mod BlockFaults
+pub mod BlockParts
 pub mod BlockCompleteness
 pub mod BlockSoundness
 pub mod ScannedBlocks

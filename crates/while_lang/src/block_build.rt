@@ -11,6 +11,7 @@ ghost use Rattle.while_lang.specs.BlockReadings.{built_block};
 use crate::block_reading::BlockReading;
 use crate::blocks;
 use crate::named::NamedProg;
+use crate::numbered::prog_at;
 use crate::prog::{Prog, Stmt, push_stmt};
 use kat_model::{Cond, Expr, NoMemory};
 use std::alloc::Global;
@@ -48,7 +49,7 @@ fn copy_stmts(alloc: Global, prog: &Prog) -> Result<Vec<Stmt>, NoMemory>
 fn copy_numbered(alloc: Global, progs: &[NamedProg], i: usize) -> Result<Vec<Stmt>, NoMemory>
     ensures { IfOk result (λ list. map stmt_tree list.items ≡ spliced (slice_get (parts_of_progs progs.now) i)) }
 {
-    let Some(named) = progs.get(i) else {
+    let Some(named) = prog_at(progs, i) else {
         return Ok(Vec::new(alloc));
     };
     copy_stmts(alloc, &named.prog)

@@ -10,6 +10,7 @@ ghost use Rattle.while_lang.specs.BlockReadings.{measured_block};
 use crate::block_reading::BlockReading;
 use crate::blocks;
 use crate::named::NamedProg;
+use crate::numbered::prog_at;
 use kat_model::{MAX_EXPR_NODES, MAX_OPEN, MAX_TERM_NODES};
 use text_scopes::{Extent, Meaning, Scope};
 use text_tokens::{TextFault, Token};
@@ -76,7 +77,7 @@ fn with_program(
 ) -> Result<Extent, TextFault>
     ensures { result ≡ spliced_extent depth at (slice_get (parts_of_progs progs.now) i) list }
 {
-    let Some(named) = progs.get(i) else {
+    let Some(named) = prog_at(progs, i) else {
         return Ok(list);
     };
     if depth.saturating_add(named.nesting) > MAX_OPEN {

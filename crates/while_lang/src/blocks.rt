@@ -1,9 +1,9 @@
 //! The block parser, for any semantic actions.
-ghost use Rattle.std.specs.Prelude.{◌≡◌, ℕ, ◌+◌, ◌<◌, ◌≤◌, length, drop, IfOk};
+ghost use Rattle.std.specs.Prelude.{◌≡◌, ℕ, ◌+◌, ◌<◌, ◌≤◌, length, drop, Ok, IfOk};
 ghost use Rattle.text_grammar.specs.Lexemes.{lexemes, text_at, is_terminal};
-ghost use Rattle.text_grammar.specs.Parsed.{Reads, Goes, Wants, wants};
+ghost use Rattle.text_grammar.specs.Parsed.{Reads, Goes, Wants, wants, change};
 ghost use Rattle.while_lang.specs.Blocks.{enter, block, stmts_after, stmt_after, branch_after, parse_block};
-ghost use Rattle.while_lang.specs.Blocks.{assign_by, named_by, else_by};
+ghost use Rattle.while_lang.specs.Blocks.{cond_by, then_semicolon, assign_by, named_by, loop_by, else_by};
 
 use crate::block_reading::BlockReading;
 use kat_model::MAX_OPEN;
@@ -28,7 +28,6 @@ pub fn enter(depth: usize, at: usize) -> Result<usize, TextFault>
 // place `usize::MAX` after the last token), `TooDeep` at a token that takes the number of open constructs beyond
 // `MAX_OPEN`, `NumberTooWide` at a number of 2^64 or more, or the fault with which an action rejects a part.
 #[cycle(blocks)]
-#[tactic(auto, using(crate::proofs::BlockSteps::block_step, text_grammar::proofs::Tokens::next_drop))]
 pub(crate) fn read_block<R: BlockReading>(
     reading: &R,
     toks: &[Token],
@@ -46,7 +45,6 @@ pub(crate) fn read_block<R: BlockReading>(
 
 // Reads statements up to a closing brace. Also returns the index after the brace.
 #[cycle(blocks)]
-#[tactic(auto, using(crate::proofs::BlockSteps::block_step, text_grammar::proofs::Tokens::next_drop))]
 fn stmts<R: BlockReading>(
     reading: &R,
     toks: &[Token],
@@ -68,7 +66,6 @@ fn stmts<R: BlockReading>(
 
 // Reads a statement and appends it to the list.
 #[cycle(blocks)]
-#[tactic(auto, using(crate::proofs::BlockSteps::block_step, text_grammar::proofs::Tokens::next_drop))]
 fn stmt<R: BlockReading>(
     reading: &R,
     toks: &[Token],
@@ -83,25 +80,11 @@ fn stmt<R: BlockReading>(
         return Err(syntax_fault_at(toks, from));
     };
     match terminal {
-        Terminal::Keyword(Keyword::Skip) => {
-            let list = reading.skip(list)?;
-            Ok((list, semicolon(toks, from + 1)?))
-        }
-        Terminal::Keyword(Keyword::Abort) => {
-            let list = reading.abort(list)?;
-            Ok((list, semicolon(toks, from + 1)?))
-        }
-        Terminal::Keyword(Keyword::Assert) => {
-            let (cond, end) = reading.read_cond(toks, from + 1, depth)?;
-            let end = semicolon(toks, end)?;
-            Ok((reading.assert(list, cond)?, end))
-        }
+        Terminal::Keyword(Keyword::Skip) => ended(toks, from + 1, reading.skip(list)?),
+        Terminal::Keyword(Keyword::Abort) => ended(toks, from + 1, reading.abort(list)?),
+        Terminal::Keyword(Keyword::Assert) => assertion(reading, toks, from + 1, depth, list),
         Terminal::Keyword(Keyword::If) => branch(reading, toks, from + 1, depth, list),
-        Terminal::Keyword(Keyword::While) => {
-            let (cond, end) = reading.read_cond(toks, from + 1, depth)?;
-            let (body, end) = read_block(reading, toks, end, depth)?;
-            Ok((reading.turn(list, cond, body)?, end))
-        }
+        Terminal::Keyword(Keyword::While) => turn(reading, toks, from + 1, depth, list),
         Terminal::Name => name_statement(
             reading,
             toks,
@@ -122,8 +105,49 @@ fn semicolon(toks: &[Token], i: usize) -> Result<usize, TextFault>
     expect(toks, i, Terminal::Separator(Separator::Semicolon))
 }
 
+// Reads the semicolon after a statement, which is the last of the list.
+fn ended<S: Drop>(toks: &[Token], from: usize, list: S) -> Result<(S, usize), TextFault>
+    ensures value { Reads ⊥ (λ s. s) (lexemes toks.now) result (then_semicolon (Ok (list, drop from (lexemes toks.now)))) }
+    ensures goes { Goes from (length toks.now) result }
+{
+    let end = semicolon(toks, from)?;
+    Ok((list, end))
+}
+
+// Reads an assertion from the token after its keyword, and appends it to the list.
+fn assertion<R: BlockReading>(
+    reading: &R,
+    toks: &[Token],
+    from: usize,
+    depth: usize,
+    list: R::Stmts,
+) -> Result<(R::Stmts, usize), TextFault>
+    ensures value { Reads R.memory R.stmts (lexemes toks.now) result (change ((R.actions reading.now).assert (R.stmts list)) (then_semicolon (cond_by (R.actions reading.now) depth (drop from (lexemes toks.now))))) }
+    ensures goes { Goes from (length toks.now) result }
+{
+    let (cond, end) = reading.read_cond(toks, from, depth)?;
+    let end = semicolon(toks, end)?;
+    Ok((reading.assert(list, cond)?, end))
+}
+
+// Reads a loop from the token after its keyword, and appends it to the list.
+#[cycle(blocks)]
+fn turn<R: BlockReading>(
+    reading: &R,
+    toks: &[Token],
+    from: usize,
+    depth: usize,
+    list: R::Stmts,
+) -> Result<(R::Stmts, usize), TextFault>
+    ensures value { Reads R.memory R.stmts (lexemes toks.now) result (loop_by (R.actions reading.now) (parse_block (R.actions reading.now)) (R.stmts list) depth (drop from (lexemes toks.now))) }
+    ensures goes { Goes from (length toks.now) result }
+{
+    let (cond, end) = reading.read_cond(toks, from, depth)?;
+    let (body, end) = read_block(reading, toks, end, depth)?;
+    Ok((reading.turn(list, cond, body)?, end))
+}
+
 // Reads a statement that begins with a name, from the token after the name.
-#[tactic(auto, using(text_grammar::proofs::Tokens::next_drop))]
 fn name_statement<R: BlockReading>(
     reading: &R,
     toks: &[Token],
@@ -139,8 +163,7 @@ fn name_statement<R: BlockReading>(
     if is_at(toks, from, Terminal::Separator(Separator::Becomes)) {
         return assignment(reading, toks, from + 1, depth, list, at, name);
     }
-    let list = reading.named(depth, at, name, list)?;
-    Ok((list, semicolon(toks, from)?))
+    ended(toks, from, reading.named(depth, at, name, list)?)
 }
 
 // Reads an assignment to the name, from the token after `:=`.
@@ -164,7 +187,6 @@ fn assignment<R: BlockReading>(
 
 // Reads a statement from the token after its `if`, and appends it to the list.
 #[cycle(blocks)]
-#[tactic(auto, using(crate::proofs::BlockSteps::block_step, text_grammar::proofs::Tokens::next_drop))]
 fn branch<R: BlockReading>(
     reading: &R,
     toks: &[Token],
@@ -183,7 +205,6 @@ fn branch<R: BlockReading>(
 
 // Reads the second block of an `if`. Also returns the index after it.
 #[cycle(blocks)]
-#[tactic(auto, using(text_grammar::proofs::Tokens::next_drop))]
 fn otherwise<R: BlockReading>(
     reading: &R,
     toks: &[Token],

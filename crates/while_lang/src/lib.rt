@@ -12,6 +12,7 @@ mod equality;
 mod flow;
 mod laws;
 mod named;
+mod numbered;
 mod outcome;
 mod prog;
 mod runs;

@@ -1,5 +1,5 @@
 //! Stores, the values of expressions in a store, and whether conditions hold in it.
-ghost use Rattle.std.specs.Prelude.{◌≡◌, ◌<◌, set};
+ghost use Rattle.std.specs.Prelude.{◌≡◌, ◌<◌, set, slice_index_or};
 ghost use Rattle.kat_model.specs.Expressions.{expr_tree, cond_tree};
 ghost use Rattle.kat_model.specs.Stores.{modulus, IsStore, value, compares, holds};
 
@@ -34,6 +34,16 @@ impl Store {
     }
 }
 
+// Returns the value of a variable; 0 if the store does not have it.
+fn value_at(store: &[u64], var: usize) -> u64
+    ensures { result ≡ slice_index_or store.now var 0 }
+{
+    match store.get(var) {
+        Some(value) => *value,
+        None => 0,
+    }
+}
+
 // Returns the value of an expression. A variable that the store does not have is 0.
 pub(crate) fn value(width: Width, expr: &Expr, store: &[u64]) -> u64
     requires { IsStore width store.now }
@@ -42,7 +52,7 @@ pub(crate) fn value(width: Width, expr: &Expr, store: &[u64]) -> u64
 {
     match expr {
         Expr::Num(n) => width.residue(*n),
-        Expr::Var(k) => store.get(*k).copied().unwrap_or(0),
+        Expr::Var(k) => value_at(store, *k),
         Expr::Add(e, f) => width.add(value(width, e, store), value(width, f, store)),
         Expr::Sub(e, f) => width.sub(value(width, e, store), value(width, f, store)),
         Expr::Mul(e, f) => width.mul(value(width, e, store), value(width, f, store)),

@@ -1,112 +1,286 @@
-use Rattle.std.proofs.Common.{arith}
+use Rattle.std.proofs.Common.{◌≡◌, ◌+◌, [], drop, Ok, Err, refl, sym, subst, arith}
+use Rattle.text_grammar.specs.declared.terminal.Terminal.TheVariants.{Separator}
+use Rattle.text_grammar.specs.declared.terminal.Keyword.TheVariants as word
+use Rattle.text_grammar.specs.declared.terminal.Separator.TheVariants.{CurlyOpen}
+use Rattle.text_grammar.specs.Lexemes.{lexemes, text_at, is_terminal}
+use Rattle.text_grammar.specs.Parsed.{Reads, wants, place_of}
+use Rattle.text_grammar.proofs.NamedFaults.{wants_named}
 use Rattle.text_grammar.proofs.Tokens.{next_drop}
-use Rattle.while_lang.proofs.BlockSteps.{block_aim_step, stmts_after_step, stmt_after_step, branch_after_step}
+use Rattle.while_lang.specs.Blocks.{enter, block, stmts_after, stmt_after, branch_after, cond_by, loop_by, else_by, parse_block}
+use Rattle.while_lang.proofs.BlockSteps.{stmt_after_step}
+use Rattle.while_lang.proofs.BlockFaults.{enter_named, entered, part_fails, action_fails, check_fails}
+use Rattle.while_lang.proofs.BlockParts.{next_two, block_closed, block_deep, block_fails, block_made, stmts_end, stmts_fail, stmts_go, skip_seen, abort_seen, assert_seen, if_seen, while_seen, name_seen, else_none, else_block, else_deep, else_fails, else_made, branch_unread, branch_first, branch_second, branch_made, loop_unread, loop_fails, loop_made, ended_reads}
 use Rattle.while_lang.proofs.blocks.+blocks.Goals as goal
 
-pub branch-returns-in_err-cond-clause-value : goal.branch-returns-in_err-cond-clause-value
-branch-returns-in_err-cond-clause-value g t c = grind (arith, branch_after_step, next_drop)
-
-pub branch-returns-in_err-first-clause-value : goal.branch-returns-in_err-first-clause-value
-branch-returns-in_err-first-clause-value g t c = grind (arith, branch_after_step, next_drop)
-
-pub branch-returns-in_err-second-clause-value : goal.branch-returns-in_err-second-clause-value
-branch-returns-in_err-second-clause-value g t c = grind (arith, branch_after_step, next_drop)
-
-pub branch-returns-in_err-branch-clause-value : goal.branch-returns-in_err-branch-clause-value
-branch-returns-in_err-branch-clause-value g t c = grind (arith, branch_after_step, next_drop)
-
-pub branch-returns-clause-value : goal.branch-returns-clause-value
-branch-returns-clause-value g t c = grind (arith, branch_after_step, next_drop)
-
-pub otherwise-returns-then-not-is_at-clause-value : goal.otherwise-returns-then-not-is_at-clause-value
-otherwise-returns-then-not-is_at-clause-value g t c = grind (arith, next_drop)
-
-pub otherwise-returns-then-not-is_at-2-clause-value : goal.otherwise-returns-then-not-is_at-2-clause-value
-otherwise-returns-then-not-is_at-2-clause-value g t c = grind (arith, next_drop)
-
-pub otherwise-returns-in_err-inside-clause-value : goal.otherwise-returns-in_err-inside-clause-value
-otherwise-returns-in_err-inside-clause-value g t c = grind (arith, next_drop)
-
-pub otherwise-returns-in_err-list-clause-value : goal.otherwise-returns-in_err-list-clause-value
-otherwise-returns-in_err-list-clause-value g t c = grind (arith, next_drop)
-
-pub otherwise-returns-clause-value : goal.otherwise-returns-clause-value
-otherwise-returns-clause-value g t c = grind (arith, next_drop)
-
 pub read_block-returns-in_err-next-clause-value : goal.read_block-returns-in_err-next-clause-value
-read_block-returns-in_err-next-clause-value g t c = grind (arith, block_aim_step, next_drop)
+read_block-returns-in_err-next-clause-value g t c =
+    let a = g.R.BlockReading.actions c.args.reading.now in
+    let all = lexemes c.args.toks.now in
+    let ts = drop c.args.from all in
+    let p = is_terminal (Separator CurlyOpen) in
+    check_fails g.R.BlockReading.memory g.R.BlockReading.stmts all (parse_block a block c.args.depth ts) c.in_err-next.field-0.0 c.from_residual.result c.from_residual.ensures.1 (wants p ts) (wants_named p ts) c.in_err-next.ensures.value
+    (block_closed a c.args.depth ts c.in_err-next.field-0.0 c.in_err-next.ensures.value)
 
 pub read_block-returns-in_err-inside-clause-value : goal.read_block-returns-in_err-inside-clause-value
-read_block-returns-in_err-inside-clause-value g t c = grind (arith, block_aim_step, next_drop)
+read_block-returns-in_err-inside-clause-value g t c =
+    let a = g.R.BlockReading.actions c.args.reading.now in
+    let all = lexemes c.args.toks.now in
+    let ts = drop c.args.from all in
+    let told = entered c.args.depth (place_of ts) c.place_at.result (Err c.in_err-inside.field-0.0) c.place_at.ensures c.in_err-inside.ensures in
+    check_fails g.R.BlockReading.memory g.R.BlockReading.stmts all (parse_block a block c.args.depth ts) c.in_err-inside.field-0.0 c.from_residual-in_err-inside.result c.from_residual-in_err-inside.ensures.1 (enter c.args.depth (place_of ts)) (enter_named c.args.depth (place_of ts)) told
+    (block_deep a c.args.depth ts (drop c.in_ok-next.next all) c.in_ok-next.ensures.value c.in_err-inside.field-0.0 told)
 
 pub read_block-returns-in_err-list-clause-value : goal.read_block-returns-in_err-list-clause-value
-read_block-returns-in_err-list-clause-value g t c = grind (arith, block_aim_step, next_drop)
+read_block-returns-in_err-list-clause-value g t c =
+    let a = g.R.BlockReading.actions c.args.reading.now in
+    let all = lexemes c.args.toks.now in
+    let ts = drop c.args.from all in
+    let us = drop c.in_ok-next.next all in
+    let inside = entered c.args.depth (place_of ts) c.place_at.result (Ok c.in_ok-inside.inside) c.place_at.ensures c.in_ok-inside.ensures in
+    part_fails g.R.BlockReading.memory g.R.BlockReading.stmts all (parse_block a block c.args.depth ts) c.in_err-list.field-0.0 c.from_residual-in_err-list.result c.from_residual-in_err-list.ensures.1 g.R.BlockReading.stmts (parse_block a (stmts_after a.none) c.in_ok-inside.inside us) c.in_err-list.ensures.value
+    (block_fails a c.args.depth ts us c.in_ok-next.ensures.value c.in_ok-inside.inside inside c.in_err-list.field-0.0)
 
 pub read_block-returns-clause-value : goal.read_block-returns-clause-value
-read_block-returns-clause-value g t c = grind (arith, block_aim_step, next_drop)
+read_block-returns-clause-value g t c =
+    let a = g.R.BlockReading.actions c.args.reading.now in
+    let all = lexemes c.args.toks.now in
+    let ts = drop c.args.from all in
+    let us = drop c.in_ok-next.next all in
+    let inside = entered c.args.depth (place_of ts) c.place_at.result (Ok c.in_ok-inside.inside) c.place_at.ensures c.in_ok-inside.ensures in
+    rw (c.braced.ensures)
+    (block_made a c.args.depth ts us c.in_ok-next.ensures.value c.in_ok-inside.inside inside (g.R.BlockReading.stmts c.in_ok-list.list, drop c.in_ok-list.end all) c.in_ok-list.ensures.value)
+
+pub stmts-stmts-init : goal.stmts-stmts-init
+stmts-stmts-init g t c =
+    record { place = omega arith; value = rw (c.none-list.ensures) refl }
+
+pub stmts-returns-in_err-more-clause-value : goal.stmts-returns-in_err-more-clause-value
+stmts-returns-in_err-more-clause-value g t c =
+    let a = g.R.BlockReading.actions c.args.reading.now in
+    let all = lexemes c.args.toks.now in
+    let us = drop c.stmts.at all in
+    let s = g.R.BlockReading.stmts c.stmts.list in
+    let whole = parse_block a (stmts_after a.none) c.args.depth (drop c.args.from all) in
+    part_fails g.R.BlockReading.memory g.R.BlockReading.stmts all whole c.in_err-more.field-0.0 c.from_residual.result c.from_residual.ensures.1 g.R.BlockReading.stmts (parse_block a (stmt_after s) c.args.depth us) c.in_err-more.ensures.value
+    (stmts_fail a c.args.depth us s whole c.stmts.invariant.value (sym c.stmts-test.ensures.value) c.in_err-more.field-0.0)
+
+pub stmts-stmts-preserved : goal.stmts-stmts-preserved
+stmts-stmts-preserved g t c =
+    let a = g.R.BlockReading.actions c.args.reading.now in
+    let all = lexemes c.args.toks.now in
+    let us = drop c.stmts.at all in
+    let s = g.R.BlockReading.stmts c.stmts.list in
+    let whole = parse_block a (stmts_after a.none) c.args.depth (drop c.args.from all) in
+    record {
+      place = omega (arith, c.stmts.invariant.place, c.in_ok-more.ensures.goes.0);
+      value = stmts_go a c.args.depth us s whole c.stmts.invariant.value (sym c.stmts-test.ensures.value) (g.R.BlockReading.stmts c.in_ok-more.more, drop c.in_ok-more.next all) c.in_ok-more.ensures.value;
+    }
+
+pub stmts-returns-clause-value : goal.stmts-returns-clause-value
+stmts-returns-clause-value g t c =
+    let a = g.R.BlockReading.actions c.args.reading.now in
+    let all = lexemes c.args.toks.now in
+    let us = drop c.stmts.at all in
+    let s = g.R.BlockReading.stmts c.stmts.list in
+    let whole = parse_block a (stmts_after a.none) c.args.depth (drop c.args.from all) in
+    stmts_end a c.args.depth us s whole c.stmts.invariant.value (sym c.stmts-test.ensures.value) (drop (c.stmts.at + 1) all) (next_drop c.stmts.at all)
+
+pub branch-returns-in_err-cond-clause-value : goal.branch-returns-in_err-cond-clause-value
+branch-returns-in_err-cond-clause-value g t c =
+    let a = g.R.BlockReading.actions c.args.reading.now in
+    let all = lexemes c.args.toks.now in
+    let ts = drop c.args.from all in
+    let s = g.R.BlockReading.stmts c.args.list in
+    part_fails g.R.BlockReading.memory g.R.BlockReading.stmts all (parse_block a (branch_after s) c.args.depth ts) c.in_err-cond.field-0.0 c.from_residual.result c.from_residual.ensures.1 g.R.BlockReading.cond (cond_by a c.args.depth ts) c.in_err-cond.ensures.value
+    (branch_unread a c.args.depth ts s c.in_err-cond.field-0.0)
+
+pub branch-returns-in_err-first-clause-value : goal.branch-returns-in_err-first-clause-value
+branch-returns-in_err-first-clause-value g t c =
+    let a = g.R.BlockReading.actions c.args.reading.now in
+    let all = lexemes c.args.toks.now in
+    let ts = drop c.args.from all in
+    let s = g.R.BlockReading.stmts c.args.list in
+    part_fails g.R.BlockReading.memory g.R.BlockReading.stmts all (parse_block a (branch_after s) c.args.depth ts) c.in_err-first.field-0.0 c.from_residual-in_err-first.result c.from_residual-in_err-first.ensures.1 g.R.BlockReading.stmts (parse_block a block c.args.depth (drop c.in_ok-cond.end all)) c.in_err-first.ensures.value
+    (branch_first a c.args.depth ts s (g.R.BlockReading.cond c.in_ok-cond.cond, drop c.in_ok-cond.end all) c.in_ok-cond.ensures.value c.in_err-first.field-0.0)
+
+pub branch-returns-in_err-second-clause-value : goal.branch-returns-in_err-second-clause-value
+branch-returns-in_err-second-clause-value g t c =
+    let a = g.R.BlockReading.actions c.args.reading.now in
+    let all = lexemes c.args.toks.now in
+    let ts = drop c.args.from all in
+    let s = g.R.BlockReading.stmts c.args.list in
+    part_fails g.R.BlockReading.memory g.R.BlockReading.stmts all (parse_block a (branch_after s) c.args.depth ts) c.in_err-second.field-0.0 c.from_residual-in_err-second.result c.from_residual-in_err-second.ensures.1 g.R.BlockReading.stmts (else_by a (parse_block a) c.args.depth (drop c.in_ok-first.end all)) c.in_err-second.ensures.value
+    (branch_second a c.args.depth ts s (g.R.BlockReading.cond c.in_ok-cond.cond, drop c.in_ok-cond.end all) c.in_ok-cond.ensures.value (g.R.BlockReading.stmts c.in_ok-first.first, drop c.in_ok-first.end all) c.in_ok-first.ensures.value c.in_err-second.field-0.0)
+
+pub branch-returns-in_err-branch-clause-value : goal.branch-returns-in_err-branch-clause-value
+branch-returns-in_err-branch-clause-value g t c =
+    let a = g.R.BlockReading.actions c.args.reading.now in
+    let all = lexemes c.args.toks.now in
+    let ts = drop c.args.from all in
+    let s = g.R.BlockReading.stmts c.args.list in
+    action_fails g.R.BlockReading.memory g.R.BlockReading.stmts all (parse_block a (branch_after s) c.args.depth ts) c.in_err-branch.field-0.0 c.from_residual-in_err-branch.result c.from_residual-in_err-branch.ensures.1 g.R.BlockReading.stmts (Ok (a.branch s (g.R.BlockReading.cond c.in_ok-cond.cond) (g.R.BlockReading.stmts c.in_ok-first.first) (g.R.BlockReading.stmts c.in_ok-second.second))) c.in_err-branch.ensures (λ h. absurd cc)
+
+pub branch-returns-clause-value : goal.branch-returns-clause-value
+branch-returns-clause-value g t c =
+    let a = g.R.BlockReading.actions c.args.reading.now in
+    let all = lexemes c.args.toks.now in
+    let ts = drop c.args.from all in
+    let s = g.R.BlockReading.stmts c.args.list in
+    branch_made a c.args.depth ts s (g.R.BlockReading.cond c.in_ok-cond.cond, drop c.in_ok-cond.end all) c.in_ok-cond.ensures.value (g.R.BlockReading.stmts c.in_ok-first.first, drop c.in_ok-first.end all) c.in_ok-first.ensures.value
+    (g.R.BlockReading.stmts c.in_ok-second.second, drop c.in_ok-second.end all) c.in_ok-second.ensures.value _ c.in_ok-branch.ensures
+
+pub otherwise-returns-then-not-is_at-clause-value : goal.otherwise-returns-then-not-is_at-clause-value
+otherwise-returns-then-not-is_at-clause-value g t c =
+    let a = g.R.BlockReading.actions c.args.reading.now in
+    let all = lexemes c.args.toks.now in
+    let ts = drop c.args.from all in
+    rw (c.none.ensures) (else_none a c.args.depth ts (sym c.if-not-is_at.ensures.value))
+
+pub otherwise-returns-then-not-is_at-2-clause-value : goal.otherwise-returns-then-not-is_at-2-clause-value
+otherwise-returns-then-not-is_at-2-clause-value g t c =
+    let a = g.R.BlockReading.actions c.args.reading.now in
+    let all = lexemes c.args.toks.now in
+    let ts = drop c.args.from all in
+    let us = drop (c.args.from + 1) all in
+    subst (λ m. Reads g.R.BlockReading.memory g.R.BlockReading.stmts all c.read_block.result m) (sym (else_block a c.args.depth ts (sym c.if-not-is_at.ensures.value) us (next_drop c.args.from all) (sym c.if-not-is_at-2.ensures.value))) c.read_block.ensures.value
+
+pub otherwise-returns-in_err-inside-clause-value : goal.otherwise-returns-in_err-inside-clause-value
+otherwise-returns-in_err-inside-clause-value g t c =
+    let a = g.R.BlockReading.actions c.args.reading.now in
+    let all = lexemes c.args.toks.now in
+    let ts = drop c.args.from all in
+    let us = drop (c.args.from + 1) all in
+    let told = entered c.args.depth (place_of us) c.place_at.result (Err c.in_err-inside.field-0.0) c.place_at.ensures c.in_err-inside.ensures in
+    check_fails g.R.BlockReading.memory g.R.BlockReading.stmts all (else_by a (parse_block a) c.args.depth ts) c.in_err-inside.field-0.0 c.from_residual.result c.from_residual.ensures.1 (enter c.args.depth (place_of us)) (enter_named c.args.depth (place_of us)) told
+    (else_deep a c.args.depth ts (sym c.if-not-is_at.ensures.value) us (next_drop c.args.from all) (sym c.if-not-is_at-2.ensures.value) c.in_err-inside.field-0.0 told)
+
+pub otherwise-returns-in_err-list-clause-value : goal.otherwise-returns-in_err-list-clause-value
+otherwise-returns-in_err-list-clause-value g t c =
+    let a = g.R.BlockReading.actions c.args.reading.now in
+    let all = lexemes c.args.toks.now in
+    let ts = drop c.args.from all in
+    let us = drop (c.args.from + 1) all in
+    let inside = entered c.args.depth (place_of us) c.place_at.result (Ok c.in_ok-inside.inside) c.place_at.ensures c.in_ok-inside.ensures in
+    let s = g.R.BlockReading.stmts c.none-2.result in
+    part_fails g.R.BlockReading.memory g.R.BlockReading.stmts all (else_by a (parse_block a) c.args.depth ts) c.in_err-list.field-0.0 c.from_residual-in_err-list.result c.from_residual-in_err-list.ensures.1 g.R.BlockReading.stmts (parse_block a (branch_after s) c.in_ok-inside.inside (drop (c.args.from + 2) all)) c.in_err-list.ensures.value
+    (else_fails a c.args.depth ts (sym c.if-not-is_at.ensures.value) us (next_drop c.args.from all) (sym c.if-not-is_at-2.ensures.value) c.in_ok-inside.inside inside (drop (c.args.from + 2) all) (next_two c.args.from all) s c.none-2.ensures c.in_err-list.field-0.0)
+
+pub otherwise-returns-clause-value : goal.otherwise-returns-clause-value
+otherwise-returns-clause-value g t c =
+    let a = g.R.BlockReading.actions c.args.reading.now in
+    let all = lexemes c.args.toks.now in
+    let ts = drop c.args.from all in
+    let us = drop (c.args.from + 1) all in
+    let inside = entered c.args.depth (place_of us) c.place_at.result (Ok c.in_ok-inside.inside) c.place_at.ensures c.in_ok-inside.ensures in
+    let s = g.R.BlockReading.stmts c.none-2.result in
+    rw (c.chained.ensures)
+    (else_made a c.args.depth ts (sym c.if-not-is_at.ensures.value) us (next_drop c.args.from all) (sym c.if-not-is_at-2.ensures.value) c.in_ok-inside.inside inside (drop (c.args.from + 2) all) (next_two c.args.from all) s c.none-2.ensures (g.R.BlockReading.stmts c.in_ok-list.list, drop c.in_ok-list.end all) c.in_ok-list.ensures.value)
+
+pub turn-returns-in_err-cond-clause-value : goal.turn-returns-in_err-cond-clause-value
+turn-returns-in_err-cond-clause-value g t c =
+    let a = g.R.BlockReading.actions c.args.reading.now in
+    let all = lexemes c.args.toks.now in
+    let ts = drop c.args.from all in
+    let s = g.R.BlockReading.stmts c.args.list in
+    part_fails g.R.BlockReading.memory g.R.BlockReading.stmts all (loop_by a (parse_block a) s c.args.depth ts) c.in_err-cond.field-0.0 c.from_residual.result c.from_residual.ensures.1 g.R.BlockReading.cond (cond_by a c.args.depth ts) c.in_err-cond.ensures.value
+    (loop_unread a c.args.depth ts s c.in_err-cond.field-0.0)
+
+pub turn-returns-in_err-body-clause-value : goal.turn-returns-in_err-body-clause-value
+turn-returns-in_err-body-clause-value g t c =
+    let a = g.R.BlockReading.actions c.args.reading.now in
+    let all = lexemes c.args.toks.now in
+    let ts = drop c.args.from all in
+    let s = g.R.BlockReading.stmts c.args.list in
+    part_fails g.R.BlockReading.memory g.R.BlockReading.stmts all (loop_by a (parse_block a) s c.args.depth ts) c.in_err-body.field-0.0 c.from_residual-in_err-body.result c.from_residual-in_err-body.ensures.1 g.R.BlockReading.stmts (parse_block a block c.args.depth (drop c.in_ok-cond.end all)) c.in_err-body.ensures.value
+    (loop_fails a c.args.depth ts s (g.R.BlockReading.cond c.in_ok-cond.cond, drop c.in_ok-cond.end all) c.in_ok-cond.ensures.value c.in_err-body.field-0.0)
+
+pub turn-returns-in_err-turn-clause-value : goal.turn-returns-in_err-turn-clause-value
+turn-returns-in_err-turn-clause-value g t c =
+    let a = g.R.BlockReading.actions c.args.reading.now in
+    let all = lexemes c.args.toks.now in
+    let ts = drop c.args.from all in
+    let s = g.R.BlockReading.stmts c.args.list in
+    action_fails g.R.BlockReading.memory g.R.BlockReading.stmts all (loop_by a (parse_block a) s c.args.depth ts) c.in_err-turn.field-0.0 c.from_residual-in_err-turn.result c.from_residual-in_err-turn.ensures.1 g.R.BlockReading.stmts (Ok (a.turn s (g.R.BlockReading.cond c.in_ok-cond.cond) (g.R.BlockReading.stmts c.in_ok-body.body))) c.in_err-turn.ensures (λ h. absurd cc)
+
+pub turn-returns-clause-value : goal.turn-returns-clause-value
+turn-returns-clause-value g t c =
+    let a = g.R.BlockReading.actions c.args.reading.now in
+    let all = lexemes c.args.toks.now in
+    let ts = drop c.args.from all in
+    let s = g.R.BlockReading.stmts c.args.list in
+    loop_made a c.args.depth ts s (g.R.BlockReading.cond c.in_ok-cond.cond, drop c.in_ok-cond.end all) c.in_ok-cond.ensures.value
+    (g.R.BlockReading.stmts c.in_ok-body.body, drop c.in_ok-body.end all) c.in_ok-body.ensures.value _ c.in_ok-turn.ensures
 
 pub stmt-returns-in_default-clause-value : goal.stmt-returns-in_default-clause-value
-stmt-returns-in_default-clause-value g t c = grind (arith, stmt_after_step, next_drop)
+stmt-returns-in_default-clause-value g t c =
+    rw (c.syntax_fault_at.ensures, c.in_default.ensures.0) (stmt_after_step (g.R.BlockReading.actions c.args.reading.now) (g.R.BlockReading.stmts c.args.list) c.args.depth [])
 
-pub stmt-returns-in_err-list-in-Keyword-Skip-clause-value : goal.stmt-returns-in_err-list-in-Keyword-Skip-clause-value
-stmt-returns-in_err-list-in-Keyword-Skip-clause-value g t c = grind (arith, stmt_after_step, next_drop)
-
-pub stmt-returns-in_err-semicolon-in-Keyword-Skip-clause-value : goal.stmt-returns-in_err-semicolon-in-Keyword-Skip-clause-value
-stmt-returns-in_err-semicolon-in-Keyword-Skip-clause-value g t c = grind (arith, stmt_after_step, next_drop)
-
-pub stmt-returns-in_err-list-in-Keyword-Abort-clause-value : goal.stmt-returns-in_err-list-in-Keyword-Abort-clause-value
-stmt-returns-in_err-list-in-Keyword-Abort-clause-value g t c = grind (arith, stmt_after_step, next_drop)
-
-pub stmt-returns-in_err-semicolon-in-Keyword-Abort-clause-value : goal.stmt-returns-in_err-semicolon-in-Keyword-Abort-clause-value
-stmt-returns-in_err-semicolon-in-Keyword-Abort-clause-value g t c = grind (arith, stmt_after_step, next_drop)
-
-pub stmt-returns-in_err-cond-in-Keyword-Assert-clause-value : goal.stmt-returns-in_err-cond-in-Keyword-Assert-clause-value
-stmt-returns-in_err-cond-in-Keyword-Assert-clause-value g t c = grind (arith, stmt_after_step, next_drop)
-
-pub stmt-returns-in_err-end-in-Keyword-Assert-clause-value : goal.stmt-returns-in_err-end-in-Keyword-Assert-clause-value
-stmt-returns-in_err-end-in-Keyword-Assert-clause-value g t c = grind (arith, stmt_after_step, next_drop)
-
-pub stmt-returns-in_err-assert-in-Keyword-Assert-clause-value : goal.stmt-returns-in_err-assert-in-Keyword-Assert-clause-value
-stmt-returns-in_err-assert-in-Keyword-Assert-clause-value g t c = grind (arith, stmt_after_step, next_drop)
-
-pub stmt-returns-in_err-cond-in-Keyword-While-clause-value : goal.stmt-returns-in_err-cond-in-Keyword-While-clause-value
-stmt-returns-in_err-cond-in-Keyword-While-clause-value g t c = grind (arith, stmt_after_step, next_drop)
-
-pub stmt-returns-in_err-body-in-Keyword-While-clause-value : goal.stmt-returns-in_err-body-in-Keyword-While-clause-value
-stmt-returns-in_err-body-in-Keyword-While-clause-value g t c = grind (arith, stmt_after_step, next_drop)
-
-pub stmt-returns-in_err-turn-in-Keyword-While-clause-value : goal.stmt-returns-in_err-turn-in-Keyword-While-clause-value
-stmt-returns-in_err-turn-in-Keyword-While-clause-value g t c = grind (arith, stmt_after_step, next_drop)
-
-pub stmt-returns-in_ok-semicolon-in-Keyword-Skip-clause-value : goal.stmt-returns-in_ok-semicolon-in-Keyword-Skip-clause-value
-stmt-returns-in_ok-semicolon-in-Keyword-Skip-clause-value g t c = grind (arith, stmt_after_step, next_drop)
-
-pub stmt-returns-in_ok-semicolon-in-Keyword-Abort-clause-value : goal.stmt-returns-in_ok-semicolon-in-Keyword-Abort-clause-value
-stmt-returns-in_ok-semicolon-in-Keyword-Abort-clause-value g t c = grind (arith, stmt_after_step, next_drop)
-
-pub stmt-returns-in_ok-assert-in-Keyword-Assert-clause-value : goal.stmt-returns-in_ok-assert-in-Keyword-Assert-clause-value
-stmt-returns-in_ok-assert-in-Keyword-Assert-clause-value g t c = grind (arith, stmt_after_step, next_drop)
+pub stmt-returns-in-Keyword-Assert-clause-value : goal.stmt-returns-in-Keyword-Assert-clause-value
+stmt-returns-in-Keyword-Assert-clause-value g t c =
+    let a = g.R.BlockReading.actions c.args.reading.now in
+    let all = lexemes c.args.toks.now in
+    let ts = drop c.args.from all in
+    let us = drop (c.args.from + 1) all in
+    let s = g.R.BlockReading.stmts c.args.list in
+    let k : c.in-Keyword-Assert.field-0 ≡ word.Assert = rw (c.in-Keyword-Assert.is) at c.in-Keyword-Assert.field-0-is in
+    subst (λ m. Reads g.R.BlockReading.memory g.R.BlockReading.stmts all c.assertion.result m) (sym (assert_seen a c.args.depth ts s c.in-Some.at (text_at c.args.toks.now c.args.from) us c.in-Some.terminal c.in-Some.ensures.0 c.in-Keyword-Assert.field-0 c.in-Keyword-Assert.is k)) c.assertion.ensures.value
 
 pub stmt-returns-in-Keyword-If-clause-value : goal.stmt-returns-in-Keyword-If-clause-value
-stmt-returns-in-Keyword-If-clause-value g t c = grind (arith, stmt_after_step, next_drop)
+stmt-returns-in-Keyword-If-clause-value g t c =
+    let a = g.R.BlockReading.actions c.args.reading.now in
+    let all = lexemes c.args.toks.now in
+    let ts = drop c.args.from all in
+    let us = drop (c.args.from + 1) all in
+    let s = g.R.BlockReading.stmts c.args.list in
+    let k : c.in-Keyword-If.field-0 ≡ word.If = rw (c.in-Keyword-If.is) at c.in-Keyword-If.field-0-is in
+    subst (λ m. Reads g.R.BlockReading.memory g.R.BlockReading.stmts all c.branch-reading.result m) (sym (if_seen a c.args.depth ts s c.in-Some.at (text_at c.args.toks.now c.args.from) us c.in-Some.terminal c.in-Some.ensures.0 c.in-Keyword-If.field-0 c.in-Keyword-If.is k)) c.branch-reading.ensures.value
 
-pub stmt-returns-in_ok-turn-in-Keyword-While-clause-value : goal.stmt-returns-in_ok-turn-in-Keyword-While-clause-value
-stmt-returns-in_ok-turn-in-Keyword-While-clause-value g t c = grind (arith, stmt_after_step, next_drop)
+pub stmt-returns-in-Keyword-While-clause-value : goal.stmt-returns-in-Keyword-While-clause-value
+stmt-returns-in-Keyword-While-clause-value g t c =
+    let a = g.R.BlockReading.actions c.args.reading.now in
+    let all = lexemes c.args.toks.now in
+    let ts = drop c.args.from all in
+    let us = drop (c.args.from + 1) all in
+    let s = g.R.BlockReading.stmts c.args.list in
+    let k : c.in-Keyword-While.field-0 ≡ word.While = rw (c.in-Keyword-While.is) at c.in-Keyword-While.field-0-is in
+    subst (λ m. Reads g.R.BlockReading.memory g.R.BlockReading.stmts all c.turn.result m) (sym (while_seen a c.args.depth ts s c.in-Some.at (text_at c.args.toks.now c.args.from) us c.in-Some.terminal c.in-Some.ensures.0 c.in-Keyword-While.field-0 c.in-Keyword-While.is k)) c.turn.ensures.value
 
 pub stmt-returns-in-Name-clause-value : goal.stmt-returns-in-Name-clause-value
-stmt-returns-in-Name-clause-value g t c = grind (arith, stmt_after_step, next_drop)
+stmt-returns-in-Name-clause-value g t c =
+    let a = g.R.BlockReading.actions c.args.reading.now in
+    let all = lexemes c.args.toks.now in
+    let ts = drop c.args.from all in
+    let us = drop (c.args.from + 1) all in
+    let s = g.R.BlockReading.stmts c.args.list in
+    subst (λ m. Reads g.R.BlockReading.memory g.R.BlockReading.stmts all c.name_statement.result m) (sym (name_seen a c.args.depth ts s c.in-Some.at (text_at c.args.toks.now c.args.from) us c.in-Some.terminal c.in-Some.ensures.0 c.in-Name.is c.text_at.result.now c.text_at.ensures)) c.name_statement.ensures.value
 
 pub stmt-returns-in_default-terminal-clause-value : goal.stmt-returns-in_default-terminal-clause-value
 stmt-returns-in_default-terminal-clause-value g t c = grind (arith, stmt_after_step, next_drop)
 
-pub stmts-stmts-init : goal.stmts-stmts-init
-stmts-stmts-init g t c = grind (arith, stmts_after_step, next_drop)
+pub stmt-returns-in_err-skip-in-Keyword-Skip-clause-value : goal.stmt-returns-in_err-skip-in-Keyword-Skip-clause-value
+stmt-returns-in_err-skip-in-Keyword-Skip-clause-value g t c = grind (arith, stmt_after_step, next_drop)
 
-pub stmts-returns-in_err-more-clause-value : goal.stmts-returns-in_err-more-clause-value
-stmts-returns-in_err-more-clause-value g t c = grind (arith, stmts_after_step, next_drop)
+pub stmt-returns-in_err-abort-in-Keyword-Abort-clause-value : goal.stmt-returns-in_err-abort-in-Keyword-Abort-clause-value
+stmt-returns-in_err-abort-in-Keyword-Abort-clause-value g t c = grind (arith, stmt_after_step, next_drop)
 
-pub stmts-stmts-preserved : goal.stmts-stmts-preserved
-stmts-stmts-preserved g t c = grind (arith, stmts_after_step, next_drop)
+pub stmt-returns-in_ok-skip-in-Keyword-Skip-clause-value : goal.stmt-returns-in_ok-skip-in-Keyword-Skip-clause-value
+stmt-returns-in_ok-skip-in-Keyword-Skip-clause-value g t c =
+    let a = g.R.BlockReading.actions c.args.reading.now in
+    let all = lexemes c.args.toks.now in
+    let ts = drop c.args.from all in
+    let us = drop (c.args.from + 1) all in
+    let s = g.R.BlockReading.stmts c.args.list in
+    let k : c.in-Keyword-Skip.field-0 ≡ word.Skip = rw (c.in-Keyword-Skip.is) at c.in-Keyword-Skip.field-0-is in
+    subst (λ m. Reads g.R.BlockReading.memory g.R.BlockReading.stmts all c.ended.result m) (sym (skip_seen a c.args.depth ts s c.in-Some.at (text_at c.args.toks.now c.args.from) us c.in-Some.terminal c.in-Some.ensures.0 c.in-Keyword-Skip.field-0 c.in-Keyword-Skip.is k (g.R.BlockReading.stmts c.in_ok-skip-in-Keyword-Skip.field-0) c.in_ok-skip-in-Keyword-Skip.ensures))
+    (ended_reads g.R.BlockReading.stmts c.in_ok-skip-in-Keyword-Skip.field-0 g.R.BlockReading.memory all us c.ended.result c.ended.ensures.value)
 
-pub stmts-returns-clause-value : goal.stmts-returns-clause-value
-stmts-returns-clause-value g t c = grind (arith, stmts_after_step, next_drop)
+pub stmt-returns-in_ok-abort-in-Keyword-Abort-clause-value : goal.stmt-returns-in_ok-abort-in-Keyword-Abort-clause-value
+stmt-returns-in_ok-abort-in-Keyword-Abort-clause-value g t c =
+    let a = g.R.BlockReading.actions c.args.reading.now in
+    let all = lexemes c.args.toks.now in
+    let ts = drop c.args.from all in
+    let us = drop (c.args.from + 1) all in
+    let s = g.R.BlockReading.stmts c.args.list in
+    let k : c.in-Keyword-Abort.field-0 ≡ word.Abort = rw (c.in-Keyword-Abort.is) at c.in-Keyword-Abort.field-0-is in
+    subst (λ m. Reads g.R.BlockReading.memory g.R.BlockReading.stmts all c.ended-in-Keyword-Abort.result m) (sym (abort_seen a c.args.depth ts s c.in-Some.at (text_at c.args.toks.now c.args.from) us c.in-Some.terminal c.in-Some.ensures.0 c.in-Keyword-Abort.field-0 c.in-Keyword-Abort.is k (g.R.BlockReading.stmts c.in_ok-abort-in-Keyword-Abort.field-0) c.in_ok-abort-in-Keyword-Abort.ensures))
+    (ended_reads g.R.BlockReading.stmts c.in_ok-abort-in-Keyword-Abort.field-0 g.R.BlockReading.memory all us c.ended-in-Keyword-Abort.result c.ended-in-Keyword-Abort.ensures.value)

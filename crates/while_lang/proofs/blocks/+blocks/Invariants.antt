@@ -12,6 +12,9 @@ decreases-stmts g l = 4 * (length l.toks.now - l.from) + 1
 abbrev pub decreases-stmt : goal.decreases-stmt
 decreases-stmt g l = 4 * (length l.toks.now - l.from)
 
+abbrev pub decreases-turn : goal.decreases-turn
+decreases-turn g l = 4 * (length l.toks.now - l.from)
+
 abbrev pub decreases-branch : goal.decreases-branch
 decreases-branch g l = 4 * (length l.toks.now - l.from)
 

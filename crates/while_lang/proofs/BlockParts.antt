@@ -1,0 +1,182 @@
+-- The results of blocks and statements by the results of their parts.
+use Rattle.std.proofs.Common.{◌≡◌, ℕ, ◌+◌, List, ◌∷◌, true, false, drop, Result, Ok, Err, refl, sym, subst, ap, ◌∙◌, arith}
+use Rattle.text_tokens.specs.declared.fault.TextFault.{TextFault}
+use Rattle.text_tokens.specs.declared.fault.TextFault.TheVariants.{NoMemory}
+use Rattle.text_grammar.specs.declared.terminal.Terminal.{Terminal}
+use Rattle.text_grammar.specs.declared.terminal.Terminal.TheVariants.{Name, Keyword, Separator}
+use Rattle.text_grammar.specs.declared.terminal.Keyword.{Keyword as KeywordOf}
+use Rattle.text_grammar.specs.declared.terminal.Keyword.TheVariants as word
+use Rattle.text_grammar.specs.declared.terminal.Separator.TheVariants.{Semicolon, CurlyOpen, CurlyClose, Becomes}
+use Rattle.text_grammar.specs.Lexemes.{Lexeme, lexeme, heads, is_terminal}
+use Rattle.text_grammar.specs.Parsed.{Parsed, ◌>>=◌, change, wants, place_of, Reads}
+use Rattle.text_grammar.proofs.Tokens.{next_drop}
+use Rattle.while_lang.specs.BlockActions.{BlockActions}
+use Rattle.while_lang.specs.Blocks.{enter, block, stmts_after, stmt_after, branch_after, cond_by, expr_by, then_semicolon, assign_by, named_by, loop_by, else_by, parse_block}
+use Rattle.while_lang.proofs.BlockSteps.{block_aim_step, stmts_after_step, stmt_after_step, branch_after_step}
+
+abbrev ok_of : {A : Type 0} → A → Result A TextFault
+ok_of x = Ok x
+
+made_same : {A : Type 0} {x y : A} → ok_of x ≡ Ok y → x ≡ y
+made_same h = cc
+
+-- the index after two tokens
+pub next_two : {A : Type 0} (n : ℕ) (xs : List A) → drop 1 (drop (n + 1) xs) ≡ drop (n + 2) xs
+next_two n xs = let two : n + 1 + 1 ≡ n + 2 = omega arith in next_drop (n + 1) xs ∙ ap (λ (k : ℕ). drop k xs) two
+
+module _ {E B L T M S : Type 0} (g : BlockActions E B L T M S) (d : ℕ) (ts : List Lexeme) where
+  -- ---- a block
+
+  pub block_closed : (e : TextFault) → wants (is_terminal (Separator CurlyOpen)) ts ≡ Err e → parse_block g block d ts ≡ Err e
+  block_closed e h = block_aim_step g d ts ∙ rw (h) refl
+
+  module _ (us : List Lexeme) (opens : wants (is_terminal (Separator CurlyOpen)) ts ≡ Ok us) where
+    pub block_deep : (e : TextFault) → enter d (place_of ts) ≡ Err e → parse_block g block d ts ≡ Err e
+    block_deep e h = block_aim_step g d ts ∙ rw (opens, h) refl
+
+    module _ (n : ℕ) (inside : enter d (place_of ts) ≡ Ok n) where
+      pub block_fails : (e : TextFault) → parse_block g (stmts_after g.none) n us ≡ Err e → parse_block g block d ts ≡ Err e
+      block_fails e h = block_aim_step g d ts ∙ rw (opens, inside, h) refl
+
+      pub block_made : (x : S × List Lexeme) → parse_block g (stmts_after g.none) n us ≡ Ok x → parse_block g block d ts ≡ Ok (g.braced x.0, x.1)
+      block_made x h = block_aim_step g d ts ∙ rw (opens, inside, h) refl
+
+  -- ---- statements
+
+  -- `m` is the result of all statements
+  module _ (s : S) (m : Parsed S) (rest : parse_block g (stmts_after s) d ts ≡ m) where
+    pub stmts_end : heads (is_terminal (Separator CurlyClose)) ts ≡ true → (us : List Lexeme) → drop 1 ts ≡ us → m ≡ Ok (s, us)
+    stmts_end h us next = sym rest ∙ stmts_after_step g s d ts ∙ rw (h, next) refl
+
+    module _ (more : heads (is_terminal (Separator CurlyClose)) ts ≡ false) where
+      pub stmts_fail : (e : TextFault) → parse_block g (stmt_after s) d ts ≡ Err e → m ≡ Err e
+      stmts_fail e h = sym rest ∙ stmts_after_step g s d ts ∙ rw (more, h) refl
+
+      pub stmts_go : (x : S × List Lexeme) → parse_block g (stmt_after s) d ts ≡ Ok x → parse_block g (stmts_after x.0) d x.1 ≡ m
+      stmts_go x h = sym (stmts_after_step g s d ts ∙ rw (more, h) refl) ∙ rest
+
+  -- ---- a statement, by its first token
+
+  module _ (s : S) (at : ℕ) (text : List ℕ) (us : List Lexeme) (t : Terminal) (seen : ts ≡ lexeme t at text ∷ us) where
+    module _ (k : KeywordOf) (is : t ≡ Keyword k) where
+      pub skip_seen : k ≡ word.Skip → (v : S) → ok_of (g.skip s) ≡ Ok v → parse_block g (stmt_after s) d ts ≡ then_semicolon (Ok (v, us))
+      skip_seen h v made = rw (seen, is, h, ← made_same made) (stmt_after_step g s d (lexeme (Keyword word.Skip) at text ∷ us))
+
+      pub abort_seen : k ≡ word.Abort → (v : S) → ok_of (g.abort s) ≡ Ok v → parse_block g (stmt_after s) d ts ≡ then_semicolon (Ok (v, us))
+      abort_seen h v made = rw (seen, is, h, ← made_same made) (stmt_after_step g s d (lexeme (Keyword word.Abort) at text ∷ us))
+
+      pub assert_seen : k ≡ word.Assert → parse_block g (stmt_after s) d ts ≡ change (g.assert s) (then_semicolon (cond_by g d us))
+      assert_seen h = rw (seen, is, h) (stmt_after_step g s d (lexeme (Keyword word.Assert) at text ∷ us))
+
+      pub if_seen : k ≡ word.If → parse_block g (stmt_after s) d ts ≡ parse_block g (branch_after s) d us
+      if_seen h = rw (seen, is, h) (stmt_after_step g s d (lexeme (Keyword word.If) at text ∷ us))
+
+      pub while_seen : k ≡ word.While → parse_block g (stmt_after s) d ts ≡ loop_by g (parse_block g) s d us
+      while_seen h = rw (seen, is, h) (stmt_after_step g s d (lexeme (Keyword word.While) at text ∷ us))
+
+    pub name_seen : t ≡ Name → (name : List ℕ) → name ≡ text → parse_block g (stmt_after s) d ts ≡ named_by g s d at name us
+    name_seen is name same = rw (seen, is, same) (stmt_after_step g s d (lexeme Name at text ∷ us))
+
+  -- ---- `if`
+
+  module _ (s : S) where
+    pub branch_unread : (e : TextFault) → cond_by g d ts ≡ Err e → parse_block g (branch_after s) d ts ≡ Err e
+    branch_unread e h = branch_after_step g s d ts ∙ rw (h) refl
+
+    module _ (b : B × List Lexeme) (holds : cond_by g d ts ≡ Ok b) where
+      pub branch_first : (e : TextFault) → parse_block g block d b.1 ≡ Err e → parse_block g (branch_after s) d ts ≡ Err e
+      branch_first e h = branch_after_step g s d ts ∙ rw (holds, h) refl
+
+      module _ (p : S × List Lexeme) (first : parse_block g block d b.1 ≡ Ok p) where
+        pub branch_second : (e : TextFault) → else_by g (parse_block g) d p.1 ≡ Err e → parse_block g (branch_after s) d ts ≡ Err e
+        branch_second e h = branch_after_step g s d ts ∙ rw (holds, first, h) refl
+
+        pub branch_made : (q : S × List Lexeme) → else_by g (parse_block g) d p.1 ≡ Ok q → (v : S) → ok_of (g.branch s b.0 p.0 q.0) ≡ Ok v → parse_block g (branch_after s) d ts ≡ Ok (v, q.1)
+        branch_made q h v is = branch_after_step g s d ts ∙ rw (holds, first, h, made_same is) refl
+
+  pub else_none : heads (is_terminal (Keyword word.Else)) ts ≡ false → else_by g (parse_block g) d ts ≡ Ok (g.none, ts)
+  else_none h = rw (h) refl
+
+  module _ (is : heads (is_terminal (Keyword word.Else)) ts ≡ true) (us : List Lexeme) (next : drop 1 ts ≡ us) where
+    pub else_block : heads (is_terminal (Keyword word.If)) us ≡ false → else_by g (parse_block g) d ts ≡ parse_block g block d us
+    else_block h = rw (is, next, h) refl
+
+    module _ (again : heads (is_terminal (Keyword word.If)) us ≡ true) where
+      pub else_deep : (e : TextFault) → enter d (place_of us) ≡ Err e → else_by g (parse_block g) d ts ≡ Err e
+      else_deep e h = rw (is, next, again, h) refl
+
+      module _ (n : ℕ) (inside : enter d (place_of us) ≡ Ok n) (vs : List Lexeme) (after : drop 1 us ≡ vs) (s : S) (none : s ≡ g.none) where
+        pub else_fails : (e : TextFault) → parse_block g (branch_after s) n vs ≡ Err e → else_by g (parse_block g) d ts ≡ Err e
+        else_fails e h =
+            let k : parse_block g (branch_after g.none) n vs ≡ Err e = subst (λ (x : S). parse_block g (branch_after x) n vs ≡ Err e) none h in
+            rw (is, next, again, inside, after, k) refl
+
+        pub else_made : (x : S × List Lexeme) → parse_block g (branch_after s) n vs ≡ Ok x → else_by g (parse_block g) d ts ≡ Ok (g.chained x.0, x.1)
+        else_made x h =
+            let k : parse_block g (branch_after g.none) n vs ≡ Ok x = subst (λ (y : S). parse_block g (branch_after y) n vs ≡ Ok x) none h in
+            rw (is, next, again, inside, after, k) refl
+
+  -- ---- `while`
+
+  module _ (s : S) where
+    pub loop_unread : (e : TextFault) → cond_by g d ts ≡ Err e → loop_by g (parse_block g) s d ts ≡ Err e
+    loop_unread e h = rw (h) refl
+
+    module _ (b : B × List Lexeme) (holds : cond_by g d ts ≡ Ok b) where
+      pub loop_fails : (e : TextFault) → parse_block g block d b.1 ≡ Err e → loop_by g (parse_block g) s d ts ≡ Err e
+      loop_fails e h = rw (holds, h) refl
+
+      pub loop_made : (x : S × List Lexeme) → parse_block g block d b.1 ≡ Ok x → (v : S) → ok_of (g.turn s b.0 x.0) ≡ Ok v → loop_by g (parse_block g) s d ts ≡ Ok (v, x.1)
+      loop_made x h v is = rw (holds, h, made_same is) refl
+
+  -- ---- statements that begin with a name
+
+  module _ (s : S) (at : ℕ) (name : List ℕ) where
+    pub assign_target : (e : TextFault) → g.target at name ≡ Err e → assign_by g s d at name ts ≡ Err e
+    assign_target e h = rw (h) refl
+
+    module _ (u : Unit {0}) (target : g.target at name ≡ Ok u) where
+      pub assign_unread : (e : TextFault) → expr_by g d ts ≡ Err e → assign_by g s d at name ts ≡ Err e
+      assign_unread e h = rw (target, h) refl
+
+      module _ (x : E × List Lexeme) (value : expr_by g d ts ≡ Ok x) where
+        pub assign_open : (e : TextFault) → wants (is_terminal (Separator Semicolon)) x.1 ≡ Err e → assign_by g s d at name ts ≡ Err e
+        assign_open e h = rw (target, value, h) refl
+
+        pub assign_made : (us : List Lexeme) → wants (is_terminal (Separator Semicolon)) x.1 ≡ Ok us → (v : S) → ok_of (g.assign s name x.0) ≡ Ok v → assign_by g s d at name ts ≡ Ok (v, us)
+        assign_made us h v is = rw (target, value, h, made_same is) refl
+
+    pub named_assign : heads (is_terminal (Separator Becomes)) ts ≡ true → (us : List Lexeme) → drop 1 ts ≡ us → named_by g s d at name ts ≡ assign_by g s d at name us
+    named_assign h us next = rw (h, next) refl
+
+    module _ (plain : heads (is_terminal (Separator Becomes)) ts ≡ false) where
+      pub named_refused : (e : TextFault) → g.named d at name s ≡ Err e → named_by g s d at name ts ≡ Err e
+      named_refused e h = rw (plain, h) refl
+
+      pub named_made : (v : S) → g.named d at name s ≡ Ok v → named_by g s d at name ts ≡ then_semicolon (Ok (v, ts))
+      named_made v h = rw (plain, h) refl
+
+  -- ---- assertions
+
+  module _ (s : S) where
+    pub assert_unread : (e : TextFault) → cond_by g d ts ≡ Err e → change (g.assert s) (then_semicolon (cond_by g d ts)) ≡ Err e
+    assert_unread e h = rw (h) refl
+
+    module _ (b : B × List Lexeme) (holds : cond_by g d ts ≡ Ok b) where
+      pub assert_open : (e : TextFault) → wants (is_terminal (Separator Semicolon)) b.1 ≡ Err e → change (g.assert s) (then_semicolon (cond_by g d ts)) ≡ Err e
+      assert_open e h = rw (holds, h) refl
+
+      pub assert_made : (us : List Lexeme) → wants (is_terminal (Separator Semicolon)) b.1 ≡ Ok us → (v : S) → ok_of (g.assert s b.0) ≡ Ok v → change (g.assert s) (then_semicolon (cond_by g d ts)) ≡ Ok (v, us)
+      assert_made us h v is = rw (holds, h, made_same is) refl
+
+-- ---- a statement that ends with a semicolon
+
+module _ {V W : Type 0} (means : V → W) (list : V) where
+  ended_means : (m : Result (List Lexeme) TextFault) → change means (m >>= λ r. Ok (list, r)) ≡ (m >>= λ r. Ok (means list, r))
+  ended_means (Ok r) = refl
+  ended_means (Err e) = refl
+
+  pub ended_reads : (memory : Type 0) (all us : List Lexeme) (r : Result (V × ℕ) TextFault) → Reads ⊥ (λ v. v) all r (then_semicolon (Ok (list, us))) → Reads memory means all r (then_semicolon (Ok (means list, us)))
+  ended_reads memory all us (Ok x) h = sym (ended_means (wants (is_terminal (Separator Semicolon)) us)) ∙ rw (h) refl
+  ended_reads memory all us (Err NoMemory) h = elim h [ ]
+  ended_reads memory all us (Err e) h = sym (ended_means (wants (is_terminal (Separator Semicolon)) us)) ∙ rw (h) refl
