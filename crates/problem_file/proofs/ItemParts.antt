@@ -1,14 +1,19 @@
 -- The results of items by the results of their parts.
-use Rattle.std.proofs.Common.{◌≡◌, ℕ, List, drop, Result, Ok, Err, refl}
+use Rattle.std.proofs.Common.{◌≡◌, ℕ, List, ◌∷◌, drop, Result, Ok, Err, refl}
 use Rattle.text_tokens.specs.declared.fault.TextFault.{TextFault}
-use Rattle.text_grammar.specs.declared.terminal.Terminal.TheVariants.{Separator, Zero}
+use Rattle.text_grammar.specs.declared.terminal.Terminal.{Terminal}
+use Rattle.text_grammar.specs.declared.terminal.Terminal.TheVariants.{Keyword, Separator, Zero}
+use Rattle.text_grammar.specs.declared.terminal.Keyword.{Keyword as KeywordOf}
+use Rattle.text_grammar.specs.declared.terminal.Keyword.TheVariants as word
 use Rattle.text_grammar.specs.declared.terminal.Separator.TheVariants.{Semicolon, Equals}
-use Rattle.text_grammar.specs.Lexemes.{Lexeme, is_terminal}
+use Rattle.text_grammar.specs.Lexemes.{Lexeme, lexeme, is_terminal}
 use Rattle.text_grammar.specs.Parsed.{Parsed, wants}
 use Rattle.text_grammar.specs.Phrases.{Leaf}
+use Rattle.problem_file.specs.declared.item_reading.Declared.TheVariants as what
+use Rattle.problem_file.specs.declared.item_reading.Setting.TheVariants as setting
 use Rattle.problem_file.specs.Numbers.{until}
 use Rattle.problem_file.specs.ItemActions.{Measurement, ItemActions}
-use Rattle.problem_file.specs.Items.{name_at, term_by, meaning_by, block_by, definition_by, prog_by, zero_by, then_ask}
+use Rattle.problem_file.specs.Items.{name_at, term_by, meaning_by, block_by, declaration_by, definition_by, prog_by, zero_by, hyp_by, setting_by, goal_by, then_ask, item_by}
 
 module _ {S X : Type 0} (g : ItemActions S X) (s : S) (at : ℕ) (ts us : List Lexeme) (next : drop 1 ts ≡ us) where
   module _ (l : Leaf) (n : name_at ts ≡ Ok l) where
@@ -84,3 +89,32 @@ module _ {S X M : Type 0} (g : ItemActions S X) (s : S) (ts : List Lexeme) (f : 
 
         pub ask_made : (t : S) → f x.0 ≡ Ok t → then_ask g s ts f m ≡ Ok (t, us)
         ask_made t h = rw (k, end, narrow, h) refl
+
+-- an item, by its keyword
+module _ {S X : Type 0} (g : ItemActions S X) (s : S) (at : ℕ) (text : List ℕ) (ts us : List Lexeme) (t : Terminal) (seen : ts ≡ lexeme t at text ∷ us) (k : KeywordOf) (is : t ≡ Keyword k) where
+  pub test_seen : k ≡ word.Test → item_by g s ts ≡ declaration_by (g.declare what.Test) s us
+  test_seen h = rw (seen, is, h) refl
+
+  pub action_seen : k ≡ word.Action → item_by g s ts ≡ declaration_by (g.declare what.Action) s us
+  action_seen h = rw (seen, is, h) refl
+
+  pub var_seen : k ≡ word.Var → item_by g s ts ≡ declaration_by (g.declare what.Var) s us
+  var_seen h = rw (seen, is, h) refl
+
+  pub term_seen : k ≡ word.Term → item_by g s ts ≡ definition_by g s at us
+  term_seen h = rw (seen, is, h) refl
+
+  pub prog_seen : k ≡ word.Prog → item_by g s ts ≡ prog_by g s at us
+  prog_seen h = rw (seen, is, h) refl
+
+  pub hyp_seen : k ≡ word.Hyp → item_by g s ts ≡ hyp_by g s at us
+  hyp_seen h = rw (seen, is, h) refl
+
+  pub rounds_seen : k ≡ word.Rounds → item_by g s ts ≡ setting_by g setting.Rounds s at us
+  rounds_seen h = rw (seen, is, h) refl
+
+  pub width_seen : k ≡ word.Width → item_by g s ts ≡ setting_by g setting.Width s at us
+  width_seen h = rw (seen, is, h) refl
+
+  pub goal_seen : k ≡ word.Goal → item_by g s ts ≡ goal_by g s at us
+  goal_seen h = rw (seen, is, h) refl

@@ -1,12 +1,13 @@
 -- A fault of a part of an item is the fault of the item, and the functions that read the item return it.
-use Rattle.std.proofs.Common.{◌≡◌, ℕ, List, Result, Ok, Err, sym, subst, ap, ◌∙◌}
+use Rattle.std.proofs.Common.{◌≡◌, ℕ, List, Bool, Result, Ok, Err, refl, sym, subst, ap, ◌∙◌}
 use Rattle.std.specs.Result.{IsErrAnd}
 use Rattle.std.proofs.lemmas.Result.{err_from_is_err_and}
 use Rattle.text_tokens.specs.declared.fault.TextFault.{TextFault}
 use Rattle.text_tokens.specs.declared.fault.TextFault.TheVariants.{NoMemory}
+use Rattle.text_grammar.specs.declared.terminal.Terminal.{Terminal}
 use Rattle.text_grammar.specs.Lexemes.{Lexeme}
-use Rattle.text_grammar.specs.Parsed.{Parsed, Makes, Reads}
-use Rattle.text_grammar.proofs.NamedFaults.{IsNamedFault, IsNamed}
+use Rattle.text_grammar.specs.Parsed.{Parsed, ◌>>=◌, Makes, Reads, Wants, wants}
+use Rattle.text_grammar.proofs.NamedFaults.{IsNamedFault, IsNamed, wants_named}
 use Rattle.problem_file.specs.Working.Walks.{StepEnds, Does}
 
 -- ---- the faults of parts
@@ -42,3 +43,18 @@ module _ {S : Type 0} (memory : Type 0) (ts : List Lexeme) (s : S) (whole : Pars
       ends : (f : TextFault) → Does {X = Unit {0}} memory (Err f) s m → (m ≡ Err f → whole ≡ Err f) → StepEnds memory ts (Err f) s whole
       ends NoMemory h k = h
       ends f h k = k h
+
+  -- a step of the item fails, or memory runs out
+  pub step_ends : {T : Type 0} (u : T) (part : Parsed T) → StepEnds memory ts (Err e) u part → (part ≡ Err e → whole ≡ Err e) → StepEnds memory ts r s whole
+  step_ends {T} u part h k = subst (λ x. StepEnds memory ts x s whole) (sym (returned r e same)) (ends e h k)
+    where
+      ends : (f : TextFault) → StepEnds memory ts (Err f) u part → (part ≡ Err f → whole ≡ Err f) → StepEnds memory ts (Err f) s whole
+      ends NoMemory h k = h
+      ends f h k = k h
+
+-- the item ends with a token
+module _ {S : Type 0} (memory : Type 0) (ts : List Lexeme) (s : S) (p : Terminal → Bool) (us : List Lexeme) where
+  pub token_ends : (r : Result ℕ TextFault) → Wants ts r (wants p us) → StepEnds memory ts r s (wants p us >>= λ l. Ok (s, l))
+  token_ends (Ok end) h = rw (h) refl
+  token_ends (Err NoMemory) h = elim (subst IsNamed h (wants_named p us)) [ ]
+  token_ends (Err e) h = rw (h) refl

@@ -18,7 +18,6 @@ use text_grammar::{
 use text_tokens::{TextFault, Token};
 
 // Declares the name at an index, and returns the index after it.
-#[tactic(auto, using(text_grammar::proofs::Tokens::next_drop))]
 fn read_name<R: ItemReading>(
     reading: &mut R,
     toks: &[Token],
@@ -204,7 +203,6 @@ fn meaning_at<R: ItemReading>(
     Ok((term, end))
 }
 
-#[tactic(auto, using(text_grammar::proofs::Tokens::next_drop))]
 fn read_definition<R: ItemReading>(
     reading: &mut R,
     toks: &[Token],
@@ -224,7 +222,6 @@ fn read_definition<R: ItemReading>(
     Ok(end)
 }
 
-#[tactic(auto, using(text_grammar::proofs::Tokens::next_drop))]
 fn read_prog<R: ItemReading>(
     reading: &mut R,
     toks: &[Token],
@@ -264,7 +261,6 @@ fn read_zero<R: ItemReading>(
     Ok(end)
 }
 
-#[tactic(auto, using(text_grammar::proofs::Tokens::next_drop))]
 fn read_hyp<R: ItemReading>(
     reading: &mut R,
     toks: &[Token],
@@ -287,7 +283,6 @@ fn read_hyp<R: ItemReading>(
 }
 
 // Sets a setting to the number at an index, and returns the index after it.
-#[tactic(auto, using(text_grammar::proofs::Tokens::next_drop))]
 fn read_number<R: ItemReading>(
     reading: &mut R,
     toks: &[Token],

@@ -1,12 +1,13 @@
 //! The state that each item of a text makes, after the syntax of the whole text was checked.
 ghost use Rattle.std.specs.Prelude.{◌≡◌, ◌+◌, min, ◌^◌, ◌-◌, ◌≤◌, length, drop, nat_lt, Ok, IfOk, None, option_map, option_and_then};
 ghost use Rattle.kat_model.specs.Stores.{modulus};
+ghost use Rattle.kat_model.specs.Trees.{kat_tree};
 ghost use Rattle.text_grammar.specs.Lexemes.{lexemes};
 ghost use Rattle.text_grammar.specs.Parsed.{Makes};
 ghost use Rattle.text_scopes.specs.ScopeParts.{IsIdentifier};
 ghost use Rattle.while_lang.specs.NamedProgs.{prog_parts};
 ghost use Rattle.file_parts.specs.Files.{prog_named};
-ghost use Rattle.problem_file.specs.Files.{State, width_with, check_new, check_size, width_of};
+ghost use Rattle.problem_file.specs.Files.{State, width_with, check_new, check_size, width_of, state_hyp, state_goal};
 ghost use Rattle.problem_file.specs.Files.{has_begun, begin_rounds, begin_width, set_rounds, set_width};
 ghost use Rattle.problem_file.specs.Numbers.{until, check_numbers};
 ghost use Rattle.problem_file.specs.Items.{lone_name};
@@ -195,6 +196,17 @@ impl ItemReader {
         self.grow(at, nodes_of(triple))
     }
 
+    // Counts the nodes of the term of a stated triple.
+    fn count_triple(&mut self, at: usize, triple: MeasuredTriple<Extent>) -> Result<(), TextFault>
+        ensures { let pre = triple.pre.measure.nodes in
+            let body = triple.body.measure.nodes in
+            Leaves result self.new (
+            count (state_of self.old) at (pre + body + triple.post.measure.nodes + 5)
+            ) }
+    {
+        self.count(at, nodes_of(triple).saturating_add(5))
+    }
+
     // Returns the program that a side names, if the side is only a program's name.
     fn lone_prog(&self, toks: &[Token], from: usize) -> Option<&NamedProg>
         ensures { option_map (λ n. prog_parts n.now) result
@@ -249,6 +261,20 @@ impl ItemReader {
         let body = self.build_side(toks, triple.body.from)?;
         let (post, _) = build_cond(self.alloc, toks, triple.post.from, 1, &self.scope, true)?;
         Ok(Goal::Triple(pre, body, post))
+    }
+
+    fn add_hyp(&mut self, term: Kat) -> Result<(), TextFault>
+        ensures { Leaves result self.new (Ok (state_hyp (state_of self.old) (kat_tree term))) }
+    {
+        self.hyps.push(term)?;
+        Ok(())
+    }
+
+    fn add_goal(&mut self, goal: Goal) -> Result<(), TextFault>
+        ensures { Leaves result self.new (Ok (state_goal (state_of self.old) (goal_tree goal))) }
+    {
+        self.goals.push(goal)?;
+        Ok(())
     }
 
     // Whether a `var`, a `prog` or a `goal` precedes, after which `width` is refused (`Sort`). Each leaves a variable,
@@ -408,8 +434,7 @@ impl ItemReading for ItemReader {
     {
         self.count(at, term.measure.nodes)?;
         let (tree, _) = build_term(self.alloc, toks, term.from, 0, &self.scope)?;
-        self.hyps.push(tree)?;
-        Ok(())
+        self.add_hyp(tree)
     }
 
     fn state_triple(
@@ -422,10 +447,9 @@ impl ItemReading for ItemReader {
             state_triple (state_of self.old) at (triple_of (lexemes toks.now) triple)
             ) }
     {
-        self.count(at, nodes_of(triple).saturating_add(5))?;
+        self.count_triple(at, triple)?;
         let (pre, body, post) = self.build_triple(toks, triple)?;
-        self.hyps.push(triple_term(self.alloc, pre, body, post)?)?;
-        Ok(())
+        self.add_hyp(triple_term(self.alloc, pre, body, post)?)
     }
 
     fn begin_setting(&self, what: Setting, at: usize) -> Result<(), TextFault> {
@@ -467,8 +491,7 @@ impl ItemReading for ItemReader {
         self.count_sides(toks, at, sides)?;
         let left = self.build_side(toks, sides.left.from)?;
         let right = self.build_side(toks, sides.right.from)?;
-        self.goals.push(comparison_goal(comparison, left, right))?;
-        Ok(())
+        self.add_goal(comparison_goal(comparison, left, right))
     }
 
     fn ask_triple(
@@ -483,7 +506,6 @@ impl ItemReading for ItemReader {
     {
         self.count_parts(toks, at, triple)?;
         let goal = self.build_goal(toks, triple)?;
-        self.goals.push(goal)?;
-        Ok(())
+        self.add_goal(goal)
     }
 }

@@ -1,21 +1,61 @@
-use Rattle.std.proofs.Common.{arith}
+use Rattle.std.proofs.Common.{◌+◌, drop, false, refl}
+use Rattle.text_grammar.specs.declared.terminal.Terminal.TheVariants.{Separator}
+use Rattle.text_grammar.specs.declared.terminal.Separator.TheVariants.{Semicolon}
+use Rattle.text_grammar.specs.Lexemes.{lexemes, is_terminal}
+use Rattle.text_grammar.specs.Parsed.{wants}
+use Rattle.text_grammar.proofs.NamedFaults.{wants_named}
 use Rattle.text_grammar.proofs.Tokens.{next_drop}
+use Rattle.problem_file.specs.Items.{triple_by, hyp_by}
+use Rattle.problem_file.specs.Working.Walks.{triple_of}
+use Rattle.problem_file.proofs.ReadFaults.{named_fault, read_fault, check_fault, fault_ends, refusal_ends}
 use Rattle.problem_file.proofs.items.read_hyp.Goals as goal
 
 pub returns-in_err-begin_hyp-clause-value : goal.returns-in_err-begin_hyp-clause-value
-returns-in_err-begin_hyp-clause-value g c = grind (arith, next_drop)
+returns-in_err-begin_hyp-clause-value g c =
+    let a = g.R.ItemReading.actions in
+    let s = g.R.ItemReading.state c.args.reading.now in
+    let all = lexemes c.args.toks.now in
+    let ts = drop c.args.from all in
+    let told = check_fault (a.begin_hyp s c.args.at) c.in_err-begin_hyp.field-0.0 c.in_err-begin_hyp.ensures in
+    fault_ends g.R.ItemReading.memory all s (hyp_by a s c.args.at ts) c.in_err-begin_hyp.field-0.0 c.from_residual.result c.from_residual.ensures.1 told.0 (rw (told.1) refl)
 
 pub returns-then-not-is_at-clause-value : goal.returns-then-not-is_at-clause-value
-returns-then-not-is_at-clause-value g c = grind (arith, next_drop)
+returns-then-not-is_at-clause-value g c =
+    rw (c.in_ok-begin_hyp.ensures, ← c.if-not-is_at.ensures.value) c.read_zero.ensures.value
 
 pub returns-in_err-triple-clause-value : goal.returns-in_err-triple-clause-value
-returns-in_err-triple-clause-value g c = grind (arith, next_drop)
+returns-in_err-triple-clause-value g c =
+    let a = g.R.ItemReading.actions in
+    let s = g.R.ItemReading.state c.args.reading.now in
+    let all = lexemes c.args.toks.now in
+    let ts = drop c.args.from all in
+    let told = read_fault (triple_of all) all (triple_by a s false (drop (c.args.from + 1) all)) c.in_err-triple.field-0.0 c.in_err-triple.ensures.value in
+    fault_ends g.R.ItemReading.memory all s (hyp_by a s c.args.at ts) c.in_err-triple.field-0.0 c.from_residual-in_err-triple.result c.from_residual-in_err-triple.ensures.1 told.0
+    (rw (c.in_ok-begin_hyp.ensures, ← c.if-not-is_at.ensures.value, next_drop c.args.from all, told.1) refl)
 
 pub returns-in_err-end-clause-value : goal.returns-in_err-end-clause-value
-returns-in_err-end-clause-value g c = grind (arith, next_drop)
+returns-in_err-end-clause-value g c =
+    let a = g.R.ItemReading.actions in
+    let s = g.R.ItemReading.state c.args.reading.now in
+    let all = lexemes c.args.toks.now in
+    let ts = drop c.args.from all in
+    let p = is_terminal (Separator Semicolon) in
+    let us = drop c.in_ok-triple.end all in
+    let told = named_fault (wants p us) c.in_err-end.field-0.0 (wants_named p us) c.in_err-end.ensures.value in
+    fault_ends g.R.ItemReading.memory all s (hyp_by a s c.args.at ts) c.in_err-end.field-0.0 c.from_residual-in_err-end.result c.from_residual-in_err-end.ensures.1 told.0
+    (rw (c.in_ok-begin_hyp.ensures, ← c.if-not-is_at.ensures.value, next_drop c.args.from all, c.in_ok-triple.ensures.value, told.1) refl)
 
 pub returns-in_err-state_triple-clause-value : goal.returns-in_err-state_triple-clause-value
-returns-in_err-state_triple-clause-value g c = grind (arith, next_drop)
+returns-in_err-state_triple-clause-value g c =
+    let a = g.R.ItemReading.actions in
+    let s = g.R.ItemReading.state c.args.reading.now in
+    let all = lexemes c.args.toks.now in
+    let ts = drop c.args.from all in
+    refusal_ends g.R.ItemReading.memory all (g.R.ItemReading.state c.state_triple.new.self) (hyp_by a s c.args.at ts) c.in_err-state_triple.field-0.0 c.from_residual-in_err-state_triple.result c.from_residual-in_err-state_triple.ensures.1
+    (a.state_triple s c.args.at (triple_of all c.in_ok-triple.triple)) c.in_err-state_triple.ensures
+    (λ h. rw (c.in_ok-begin_hyp.ensures, ← c.if-not-is_at.ensures.value, next_drop c.args.from all, c.in_ok-triple.ensures.value, c.in_ok-end.ensures.value, h) refl)
 
 pub returns-clause-value : goal.returns-clause-value
-returns-clause-value g c = grind (arith, next_drop)
+returns-clause-value g c =
+    let all = lexemes c.args.toks.now in
+    rw (c.in_ok-begin_hyp.ensures, ← c.if-not-is_at.ensures.value, next_drop c.args.from all, c.in_ok-triple.ensures.value, c.in_ok-end.ensures.value, c.in_ok-state_triple.ensures) refl
