@@ -5,6 +5,7 @@ pub mod FlowLists
 pub mod ConstantForms
 pub mod NumberedRows
 pub mod GatheredRows
+pub mod MovedRows
 pub mod SharedTests
 pub mod JoinedHypotheses
 pub mod ShownRows

@@ -1,6 +1,6 @@
 -- A program ends in the stores that its term relates, in a frame of stores whose tests and actions represent its
 -- conditions and assignments.
-use Rattle.std.proofs.Common.{◌≡◌, ℕ, zero, suc, ◌+◌, ◌⊎◌, inl, inr, ⊎_elim, ◌↔◌, List, [], ◌∷◌, refl, sym, ap, ◌∙◌, subst, true, false, set}
+use Rattle.std.proofs.Common.{◌≡◌, ℕ, zero, suc, ◌+◌, inl, inr, ⊎_elim, ◌↔◌, List, [], ◌∷◌, refl, sym, ap, ◌∙◌, subst, true, false, set}
 use Rattle.std.proofs.lemmas.Bool.{not-true, not_from_false}
 use Rattle.kat_model.specs.Trees.{TestTree, complement, Term, test, product}
 use Rattle.kat_model.specs.Steps.{truth}

@@ -24,7 +24,6 @@ use Rattle.abstraction.specs.Abstracts.{test_rows_of, action_rows_of}
 use Rattle.abstraction.specs.Comparisons.{Assignment, cond_comparisons, prog_comparisons, prog_assignments}
 use Rattle.abstraction.specs.Readings.{Reading, holds_by, LeadsBy, row_by, StepsBy}
 use Rattle.abstraction.specs.Tests.{cond_test, assignment_action, prog_flow}
-use Rattle.abstraction.specs.declared.rows.ActionRow.TheVariants as action
 use Rattle.abstraction.proofs.ProgramRuns.{guarded_relates, relates_guarded}
 use Rattle.abstraction.proofs.RowTruths.{tables_with, assigned, two_within, three_within, named_truth, form_truth, assigned_row, named_row, assigned_store}
 
