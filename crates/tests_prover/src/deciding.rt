@@ -39,14 +39,23 @@ fn problem_of(
     Problem::new(tests, actions, hyps, left, right).ok()
 }
 
+fn copies(alloc: Global, terms: &[Kat]) -> Result<Vec<Kat>, NoMemory> {
+    let mut list = Vec::new(alloc);
+    for term in terms {
+        list.push(term.copy(alloc)?)?;
+    }
+    Ok(list)
+}
+
 // Returns the problem of a file with the goal `equal`.
-fn file_problem(alloc: Global, file: File) -> Result<Option<Problem>, NoMemory> {
+fn file_problem(alloc: Global, file: &File) -> Result<Option<Problem>, NoMemory> {
     let sides = sides(alloc, &file.goal)?;
-    Ok(problem_of(file.tests, file.actions, file.hyps, sides))
+    let hyps = copies(alloc, &file.hyps)?;
+    Ok(problem_of(file.tests, file.actions, hyps, sides))
 }
 
 pub(crate) fn problem(alloc: Global, text: &str) -> Result<Problem, TextFault> {
-    match file_problem(alloc, read(alloc, text.as_bytes())?)? {
+    match file_problem(alloc, &read(alloc, text.as_bytes())?)? {
         Some(problem) => Ok(problem),
         None => Err(TextFault::NoGoal),
     }
