@@ -6,7 +6,7 @@ use kat_model::NoMemory;
 use std::alloc::AllocError;
 
 /// The reason why a file has no abstraction.
-#[derive(Clone, Copy, PartialEq, Eq, Debug)]
+#[derive(Clone, Copy)]
 pub enum AbstractFault {
     /// Out of memory.
     NoMemory,

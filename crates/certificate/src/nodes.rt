@@ -3,7 +3,7 @@ use kat_model::Items;
 use std::marker::Model;
 
 /// How the listed pairs determine the successors of a pair.
-#[derive(Clone, Copy, Debug, PartialEq, Eq)]
+#[derive(Clone, Copy)]
 pub enum Style {
     /// Each successor is a listed pair (bisimulation; Hopcroft and Karp 1971).
     Plain,

@@ -1,7 +1,7 @@
 //! The result of the check of a chain.
 
 /// Why a chain is not a proof: the first reason that applies, in this order.
-#[derive(Clone, Copy, Debug, PartialEq, Eq)]
+#[derive(Clone, Copy, PartialEq, Eq)]
 pub enum ChainReason {
     /// The first term of the chain is not the left side.
     Start,
@@ -13,7 +13,7 @@ pub enum ChainReason {
 }
 
 /// The result of the check of a chain.
-#[derive(Clone, Copy, Debug, PartialEq, Eq)]
+#[derive(Clone, Copy, PartialEq, Eq)]
 pub enum ChainAnswer {
     /// The chain is a proof.
     Accepted,

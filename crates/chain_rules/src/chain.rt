@@ -4,7 +4,7 @@ use std::marker::Model;
 
 /// An axiom of Kleene algebra with tests (Kozen, *A completeness theorem for Kleene algebras and the algebra of regular
 /// events*, 1994; *Kleene algebra with tests*, 1997), as an equation of two terms that may be used in both directions.
-#[derive(Clone, Copy, Debug, PartialEq, Eq)]
+#[derive(Clone, Copy)]
 pub enum Axiom {
     /// `x + (y + z) = (x + y) + z`
     Assoc,

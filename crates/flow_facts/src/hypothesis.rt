@@ -7,7 +7,7 @@ ghost use Rattle.flow_facts.specs.HypothesisViews.{flow_rule, flow_hypothesis};
 use kat_model::{Kat, MAX_HYPS, NoMemory};
 
 /// Why a term relates no states. The numbers are those of tests, but the first one of `Assignment` is that of an action.
-#[derive(Clone, Copy, PartialEq, Eq, Debug)]
+#[derive(Clone, Copy)]
 pub enum FlowRule {
     /// A test holds after an action exactly where a condition holds before it.
     Assignment(usize, usize),

@@ -5,7 +5,7 @@ ghost use Rattle.flow_forms.specs.declared.fault.FormFault.TheVariants.{NoMemory
 use kat_model::NoMemory;
 
 /// The reason why a form is not made.
-#[derive(Clone, Copy, PartialEq, Eq, Debug)]
+#[derive(Clone, Copy)]
 pub enum FormFault {
     /// Out of memory.
     NoMemory,

@@ -17,7 +17,7 @@ use kat_model::{NoMemory, Width};
 use std::alloc::Global;
 
 /// Where a form stands: in a number of a width, as an opaque value, or among the arguments of a function.
-#[derive(Clone, Copy, Debug, PartialEq, Eq)]
+#[derive(Clone, Copy)]
 pub enum Place {
     InNumber(Width),
     AsValue,

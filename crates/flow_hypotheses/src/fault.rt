@@ -5,7 +5,7 @@ ghost use Rattle.flow_hypotheses.specs.declared.fault.HypothesisFault.TheVariant
 use kat_model::NoMemory;
 
 /// The reason why hypotheses are not made.
-#[derive(Clone, Copy, PartialEq, Eq, Debug)]
+#[derive(Clone, Copy)]
 pub enum HypothesisFault {
     /// Out of memory.
     NoMemory,

@@ -4,7 +4,7 @@ use crate::sort::Sort;
 use kat_model::{Rel, Width};
 
 /// A node of an expression.
-#[derive(Clone, Copy, Debug, PartialEq, Eq)]
+#[derive(Clone, Copy)]
 pub enum ExprNode {
     /// A number below 2 to the width.
     Number(Width, u64),

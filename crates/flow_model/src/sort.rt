@@ -3,7 +3,7 @@
 use kat_model::Width;
 
 /// The sort of a value.
-#[derive(Clone, Copy, Debug, PartialEq, Eq)]
+#[derive(Clone, Copy, PartialEq, Eq)]
 pub enum Sort {
     /// The numbers below 2 to the width.
     Number(Width),

@@ -5,7 +5,7 @@ ghost use Rattle.flow_places.specs.declared.fault.PlaceFault.TheVariants.{NoMemo
 use kat_model::NoMemory;
 
 /// The reason why a graph has no places.
-#[derive(Clone, Copy, PartialEq, Eq, Debug)]
+#[derive(Clone, Copy)]
 pub enum PlaceFault {
     /// Out of memory.
     NoMemory,

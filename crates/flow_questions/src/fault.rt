@@ -12,7 +12,7 @@ use flow_terms::TermFault;
 use kat_model::NoMemory;
 
 /// The reason why a question of two graphs has no problem.
-#[derive(Clone, Copy, PartialEq, Eq, Debug)]
+#[derive(Clone, Copy)]
 pub enum FlowFault {
     /// Out of memory.
     NoMemory,

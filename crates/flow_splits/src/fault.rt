@@ -5,7 +5,7 @@ ghost use Rattle.flow_splits.specs.declared.fault.SplitFault.TheVariants.{NoMemo
 use kat_model::NoMemory;
 
 /// The reason why edges are not split.
-#[derive(Clone, Copy, PartialEq, Eq, Debug)]
+#[derive(Clone, Copy)]
 pub enum SplitFault {
     /// Out of memory.
     NoMemory,

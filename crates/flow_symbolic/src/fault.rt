@@ -7,7 +7,7 @@ use flow_forms::FormFault;
 use kat_model::NoMemory;
 
 /// The reason why ways are not found.
-#[derive(Clone, Copy, PartialEq, Eq, Debug)]
+#[derive(Clone, Copy)]
 pub enum WayFault {
     /// Out of memory.
     NoMemory,

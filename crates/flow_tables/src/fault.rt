@@ -5,7 +5,7 @@ ghost use Rattle.flow_tables.specs.declared.fault.TableFault.TheVariants.{NoMemo
 use kat_model::NoMemory;
 
 /// The reason why there is no table of tests or actions.
-#[derive(Clone, Copy, PartialEq, Eq, Debug)]
+#[derive(Clone, Copy)]
 pub enum TableFault {
     /// Out of memory.
     NoMemory,

@@ -5,7 +5,7 @@ ghost use Rattle.flow_terms.specs.declared.fault.TermFault.TheVariants.{NoMemory
 use kat_model::NoMemory;
 
 /// The reason why elimination gives no term.
-#[derive(Clone, Copy, PartialEq, Eq, Debug)]
+#[derive(Clone, Copy)]
 pub enum TermFault {
     /// Out of memory.
     NoMemory,

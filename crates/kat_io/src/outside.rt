@@ -13,7 +13,7 @@ use std::alloc::{AllocError, Global};
 pub struct Failed;
 
 /// Why a shelf returned no content.
-#[derive(Clone, Copy, Debug, PartialEq, Eq)]
+#[derive(Clone, Copy, PartialEq, Eq)]
 pub enum GetFault {
     /// Out of memory.
     NoMemory,

@@ -7,7 +7,7 @@ use crate::tree::{NoMemory, Test, boxed_pair};
 use std::alloc::Global;
 
 /// The number of bits of the numbers of a store.
-#[derive(Clone, Copy, Debug, PartialEq, Eq)]
+#[derive(Clone, Copy, PartialEq, Eq)]
 pub enum Width {
     W8,
     W16,
@@ -38,7 +38,7 @@ impl Drop for Expr {
 }
 
 /// How two numbers are compared: equal, not equal, less, at most, greater, at least.
-#[derive(Clone, Copy, Debug, PartialEq, Eq)]
+#[derive(Clone, Copy, PartialEq, Eq)]
 pub enum Rel {
     Eq,
     Ne,

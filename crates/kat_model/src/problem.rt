@@ -11,7 +11,7 @@ use crate::tree::{Kat, Test};
 use std::marker::Model;
 
 /// Why the parts do not form a problem: the first reason that applies, in this order.
-#[derive(Clone, Copy, Debug, PartialEq, Eq)]
+#[derive(Clone, Copy)]
 pub enum BadProblem {
     /// There are more than `MAX_TESTS` tests: this many.
     TooManyTests(usize),

@@ -5,7 +5,7 @@ ghost use Rattle.one_loop.specs.declared.fault.OneLoopFault.TheVariants.{NoMemor
 use kat_model::NoMemory;
 
 /// The reason why a program has no form.
-#[derive(Clone, Copy, PartialEq, Eq, Debug)]
+#[derive(Clone, Copy)]
 pub enum OneLoopFault {
     /// Out of memory.
     NoMemory,

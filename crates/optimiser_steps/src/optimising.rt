@@ -33,7 +33,7 @@ impl Model for LogLine {
 }
 
 /// Why the optimiser ended.
-#[derive(Clone, Copy, PartialEq, Eq, Debug)]
+#[derive(Clone, Copy)]
 pub enum Ended {
     /// No further step is possible.
     Done,

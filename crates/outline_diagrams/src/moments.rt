@@ -1,7 +1,7 @@
 //! The two moments of a step.
 
 /// Before a step or after it.
-#[derive(Clone, Copy, Debug, PartialEq, Eq)]
+#[derive(Clone, Copy)]
 pub enum Moment {
     Before,
     After,

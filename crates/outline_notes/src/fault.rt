@@ -6,7 +6,7 @@ use kat_model::NoMemory;
 use std::alloc::{AllocError, AllocFailed};
 
 /// The first fault of a text that is not the text of notes. Lines are counted from 1.
-#[derive(Clone, Copy, Debug, PartialEq, Eq)]
+#[derive(Clone, Copy)]
 pub enum NotesFault {
     /// Memory ran out.
     NoMemory,

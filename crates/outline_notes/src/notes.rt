@@ -6,7 +6,7 @@ use std::marker::Model;
 
 /// A set of atoms (truth values of all tests), as a node of a decision diagram (Bryant 1986) whose branches may test in
 /// any order.
-#[derive(Clone, Copy, Debug, PartialEq, Eq, PartialOrd, Ord, Hash)]
+#[derive(Clone, Copy, PartialEq, Eq, PartialOrd, Ord, Hash)]
 pub enum NoteNode {
     False,
     True,

@@ -1,7 +1,7 @@
 //! Answers of the rule checker.
 
 /// Why notes do not follow: the first reason that applies, in this order.
-#[derive(Clone, Copy, Debug, PartialEq, Eq)]
+#[derive(Clone, Copy)]
 pub enum NoteReason {
     /// The least node whose test is not a test of the problem.
     Range(usize),
@@ -13,7 +13,7 @@ pub enum NoteReason {
 }
 
 /// Whether notes follow.
-#[derive(Clone, Copy, Debug, PartialEq, Eq)]
+#[derive(Clone, Copy)]
 pub enum NoteAnswer {
     Accepted,
     Rejected(NoteReason),

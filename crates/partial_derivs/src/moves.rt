@@ -7,7 +7,7 @@ use term_store::TermId;
 use test_diagrams::DiagramId;
 
 /// A move: at each atom at which the guard is true, the action can lead to the term.
-#[derive(Clone, Copy, Debug, PartialEq, Eq)]
+#[derive(Clone, Copy, PartialEq, Eq)]
 pub struct Guarded {
     /// The atoms at which the move applies, as a diagram.
     pub guard: DiagramId,

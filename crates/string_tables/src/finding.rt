@@ -10,7 +10,7 @@ use kat_model::{NoMemory, Problem};
 use std::alloc::Global;
 
 /// What a string shows of a problem. Positions, hypotheses and states are numbered from 0.
-#[derive(Clone, Copy, Debug, PartialEq, Eq)]
+#[derive(Clone, Copy, PartialEq, Eq)]
 pub enum Finding {
     /// The string refutes the problem. The flag is true if the left side relates the ends.
     Refutes(bool),

@@ -6,9 +6,10 @@
 mod sets;
 
 pub use sets::is_ascending;
+use std::alloc::AllocError;
 
 /// A test node, over the numbers `T` of its parts.
-#[derive(Clone, Copy, Debug, PartialEq, Eq, PartialOrd, Ord, Hash)]
+#[derive(PartialEq, Eq, PartialOrd, Ord, Hash)]
 pub enum TestNode<T> {
     False,
     True,
@@ -18,8 +19,17 @@ pub enum TestNode<T> {
     Or(T, T),
 }
 
+impl<T: Copy> Copy for TestNode<T> {}
+
+// By hand, since a derived clone of a generic type has a case for each variant.
+impl<T: Copy> Clone for TestNode<T> {
+    fn clone(&self) -> Result<Self, AllocError> {
+        Ok(*self)
+    }
+}
+
 /// A term node, over the numbers `T` of tests and `E` of terms.
-#[derive(Clone, Copy, Debug, PartialEq, Eq, PartialOrd, Ord, Hash)]
+#[derive(PartialEq, Eq, PartialOrd, Ord, Hash)]
 pub enum TermNode<T, E> {
     Zero,
     One,
@@ -28,4 +38,13 @@ pub enum TermNode<T, E> {
     Sum(E, E),
     Seq(E, E),
     Star(E),
+}
+
+impl<T: Copy, E: Copy> Copy for TermNode<T, E> {}
+
+// By hand, as above.
+impl<T: Copy, E: Copy> Clone for TermNode<T, E> {
+    fn clone(&self) -> Result<Self, AllocError> {
+        Ok(*self)
+    }
 }

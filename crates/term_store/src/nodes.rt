@@ -5,7 +5,7 @@ use std::marker::Model;
 use term_nodes::{TermNode, TestNode};
 
 /// The number of a test in its store.
-#[derive(Clone, Copy, Debug, PartialEq, Eq, PartialOrd, Ord, Hash)]
+#[derive(Clone, Copy, PartialEq, Eq, PartialOrd, Ord, Hash)]
 pub struct TestId {
     pub(crate) index: usize,
 }
@@ -21,7 +21,7 @@ impl Model for TestId {
 }
 
 /// The number of a term in its store.
-#[derive(Clone, Copy, Debug, PartialEq, Eq, PartialOrd, Ord, Hash)]
+#[derive(Clone, Copy, PartialEq, Eq, PartialOrd, Ord, Hash)]
 pub struct TermId {
     pub(crate) index: usize,
 }

@@ -23,14 +23,14 @@ pub const OPEN_ROUND: usize = 3;
 pub const CLOSE_ROUND: usize = 4;
 
 /// A token as the reader sees it: its terminal and its place in bytes.
-#[derive(Clone, Copy, Debug, PartialEq, Eq)]
+#[derive(Clone, Copy)]
 pub struct Mark {
     pub terminal: usize,
     pub at: usize,
 }
 
 /// A part of a rule.
-#[derive(Clone, Copy, Debug, PartialEq, Eq)]
+#[derive(Clone, Copy)]
 pub enum Part {
     /// A token of this terminal.
     Token(usize),
@@ -43,7 +43,7 @@ pub enum Part {
 }
 
 /// How a rule begins, and where it applies. Rules of a phrase are tried in order.
-#[derive(Clone, Copy, Debug, PartialEq, Eq)]
+#[derive(Clone, Copy)]
 pub enum Start {
     /// Begins with a token of this terminal, and applies where that is the next one.
     Take(usize),
@@ -72,7 +72,7 @@ pub struct Grammar {
 }
 
 /// A step of a leftmost derivation.
-#[derive(Clone, Copy, Debug, PartialEq, Eq)]
+#[derive(Clone, Copy)]
 pub enum Step {
     /// The rule of this number takes the next token as its first.
     Shift(usize),

@@ -1,7 +1,7 @@
 //! Tokens of a text.
 
 /// The kind of a token.
-#[derive(Clone, Copy, Debug, PartialEq, Eq)]
+#[derive(Clone, Copy, PartialEq, Eq)]
 pub enum Kind {
     /// An identifier by Unicode Standard Annex 31 (`XID_Start` or `_`, then `XID_Continue`). Keywords are names.
     Name,
@@ -12,7 +12,7 @@ pub enum Kind {
 }
 
 /// A token. Its text is the slice of the source at its place.
-#[derive(Clone, Copy, Debug)]
+#[derive(Clone, Copy)]
 pub struct Token<'a> {
     pub kind: Kind,
     pub text: &'a str,

@@ -12,7 +12,7 @@ use kat_model::NoMemory;
 use term_store::{Store, TermId};
 
 /// The ids of the closed sides, and of the universal term if there is one.
-#[derive(Clone, Copy, Debug)]
+#[derive(Clone, Copy)]
 pub struct ClosedIds {
     pub left: TermId,
     pub right: TermId,

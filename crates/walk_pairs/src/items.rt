@@ -15,7 +15,7 @@ use term_store::TermId;
 use test_diagrams::{DiagramId, Diagrams};
 
 /// A target term, and the atoms at which the step leads to it on the left and on the right.
-#[derive(Clone, Copy, Debug, PartialEq, Eq)]
+#[derive(Clone, Copy)]
 pub struct Item {
     pub target: TermId,
     pub left: DiagramId,
@@ -23,14 +23,14 @@ pub struct Item {
 }
 
 /// One side of a pair.
-#[derive(Clone, Copy, Debug, PartialEq, Eq)]
+#[derive(Clone, Copy)]
 pub enum Side {
     Left,
     Right,
 }
 
 /// The diagrams of the two constants.
-#[derive(Clone, Copy, Debug)]
+#[derive(Clone, Copy)]
 pub struct Ends {
     pub never: DiagramId,
     pub always: DiagramId,

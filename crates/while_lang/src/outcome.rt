@@ -1,7 +1,7 @@
 //! Outcomes of runs.
 
 /// How a run ends.
-#[derive(Clone, Copy, Debug, PartialEq, Eq)]
+#[derive(Clone, Copy, PartialEq, Eq)]
 pub enum Outcome {
     /// The run ended after the last statement.
     Done,
