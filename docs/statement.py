@@ -84,6 +84,7 @@ PARTS = [
 CONSTANT = re.compile(r"(?m)^((?:///.*\n)*)(pub(?:\(crate\))? const (\w+): [^;]*;)$")
 HEAD = re.compile(r"(?:(?:abbrev|opaque|unfoldable|pub|record|data|mutual)\s+)+(\S+)")
 USE = re.compile(r"(?m)^[ \t]*(?:ghost )?use ([\w.]+?)\.\{([^}]*)\}")
+PASSED = re.compile(r"(?m)^pub use ([\w.]+)\.(\w+)$")
 WORD = re.compile(r"[\s\[\](){},;.λ×]+")
 
 
@@ -123,7 +124,7 @@ class Specs:
     """All definitions of the crates' specs/, by module and name, and what the names of each module stand for."""
 
     def __init__(self):
-        self.found, self.imported, self.kit = {}, {}, set()
+        self.found, self.imported, self.passed, self.kit = {}, {}, {}, set()
         for path in sorted(TOP.glob("crates/*/specs/**/*.antt")):
             below = path.relative_to(TOP / "crates").with_suffix("").parts
             self.read(path, ".".join(["Rattle", *below]))
@@ -142,13 +143,16 @@ class Specs:
     def read(self, path, module):
         text = path.read_text()
         self.imported[module] = imports(text)
+        # a file of a lower crate that a Lib.antt passes on
+        for lower, name in PASSED.findall(text):
+            self.passed[f"{module.removesuffix('.Lib')}.{name}"] = f"{lower}.{name}"
         now, comment = None, []
         for number, line in enumerate(text.split("\n"), 1):
             if line.startswith("-- ----"):
                 comment, now = [], None
             elif line.startswith("--"):
                 comment, now = [*comment, line], None
-            elif line.startswith(("use ", "pub mod ", "mod ")):
+            elif line.startswith(("use ", "pub use ", "pub mod ", "mod ")):
                 comment, now = [], None
             elif line[:1].strip():
                 named = HEAD.match(line)
@@ -168,6 +172,7 @@ class Specs:
         """The definitions that these words name in a file of that module."""
         for part in parts:
             known = imported.get(part)
+            known = known and (self.passed.get(known[0], known[0]), known[1])
             if known and known[0].startswith("Rattle.std"):
                 self.kit.add(known)
             found = self.found.get(known) or self.found.get((module, part))

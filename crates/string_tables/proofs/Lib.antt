@@ -1,15 +1,6 @@
 pub mod Places
-pub mod Readings
-pub mod Rooms
-pub mod Told
-pub mod Images
-pub mod OneMoveMore
-pub mod Positions
 pub mod Fitting
 pub mod Counterexamples
-pub mod MarkedTerms
-pub mod MarkedRuns
-pub mod PartSearch
 pub mod FirstBreaks
 pub mod Asking
 pub mod Ends

@@ -1,5 +1,1 @@
-pub mod Matrices
-pub mod Filled
 pub mod Breaks
-pub mod Marks
-pub mod Parts

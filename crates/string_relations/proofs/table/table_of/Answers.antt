@@ -1,0 +1,24 @@
+use Rattle.std.proofs.Common.{◌≡◌, ◌<◌, ◌+◌, ◌++◌, ◌∷◌, [], List, length, arith, get_or, ◌∙◌, ap}
+use Rattle.kat_model.specs.Relations.{Step}
+use Rattle.kat_model.specs.Steps.{Atom}
+use Rattle.kat_model.specs.Strings.{Move}
+use Rattle.string_relations.proofs.OneMoveMore.{steps_from_pushed, atoms_pushed}
+use Rattle.string_relations.proofs.table.table_of.Goals as goal
+
+pub loop-k-preserved : goal.loop-k-preserved
+loop-k-preserved c =
+    let i = c.loop-k.k in
+    let ms : List Move = c.as_slice-rest.result.now in
+    let lt : i < length ms = omega arith in
+    let m : Move = c.index-rest-k.result in
+    let is : m ≡ get_or ms i m = c.index-rest-k.is in
+    let seen : record { act = c.m.inside.act; atom = c.m.inside.atom } ≡ m = c.m.view_is in
+    let atoms : List Atom = c.loop-k.truths.items in
+    let steps : List Step = c.loop-k.moves.items in
+    let atom : c.in_ok-copy_of-2.field-0 ≡ m.atom = c.in_ok-copy_of-2.ensures ∙ ap (λ (n : Move). n.atom) seen in
+    let atoms_are = c.in_ok-push-2.ensures.items ∙ ap (λ (a : Atom). atoms ++ a ∷ []) atom in
+    let steps_are = c.in_ok-push-3.ensures.items ∙ ap (λ (n : Move). steps ++ (record { from = i; act = n.act; to = i + 1 }) ∷ []) seen in
+    record {
+      truths = atoms_pushed ms i m c.args.string.now.first atoms c.push-in-loop-k.new.self.items lt is c.loop-k.invariant.truths atoms_are;
+      moves = steps_from_pushed ms i m steps c.push-in-loop-k-2.new.self.items lt is c.loop-k.invariant.moves steps_are;
+    }

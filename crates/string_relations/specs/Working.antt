@@ -1,0 +1,3 @@
+pub mod Matrices
+pub mod Filled
+pub mod Marks
