@@ -1,5 +1,5 @@
-pub mod Walks
+pub use Rattle.walk_theory.specs.Walks
+pub use Rattle.walk_theory.specs.Laws
 pub mod Decisions
 pub mod StoredSides
-pub mod Laws
 pub mod Working

@@ -1,8 +1,3 @@
 pub mod Visits
-pub mod Listings
-pub mod Indices
-pub mod Marks
-pub mod Covers
-pub mod Cases
 pub mod IdWalks
 pub mod Walking

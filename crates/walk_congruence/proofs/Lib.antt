@@ -1,0 +1,15 @@
+pub mod Rounds
+pub mod Reached
+pub mod MarkSteps
+pub mod AllMarked
+pub mod MarkEnds
+pub mod OutOfReach
+pub mod NextTests
+pub mod FixedItems
+pub mod DecidedCases
+pub mod MarkedTerms
+pub mod Closures
+pub mod Unmarking
+pub mod IndexLists
+pub mod Memberships
+pub mod Loops

@@ -1,0 +1,5 @@
+pub mod Listings
+pub mod Indices
+pub mod Marks
+pub mod Covers
+pub mod Cases

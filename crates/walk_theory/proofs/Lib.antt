@@ -1,0 +1,10 @@
+pub mod MorePairs
+pub mod Entries
+pub mod WalkSteps
+pub mod Trails
+pub mod Levels
+pub mod Shortest
+pub mod NoRedundancy
+pub mod Endings
+pub mod Concise
+pub mod ReachedRanges
