@@ -29,13 +29,15 @@ use Rattle.cert_steps.proofs.GrowingTables.{grows_trans}
 use Rattle.cert_steps.proofs.StepSets.{stand_kept, stand_same}
 use Rattle.cert_steps.proofs.TargetSets.{holds_kept}
 use Rattle.cert_checker.specs.Answers.{Begins}
-use Rattle.cert_checker.specs.Working.Cases.{Extends, IsFirstFailure, undecided}
-use Rattle.cert_checker.specs.Working.Roots.{compared, counted_short}
-use Rattle.cert_checker.specs.Working.Questions.{ActionPassParts, QuestionParts, IsPosed, IsAskedOf, AreNamed, Counts, AreMatchedIn, AreMatchedBy, MatchAt}
-use Rattle.cert_checker.specs.Working.Places.{PassParts, IsPass, PassGrows, IsActionPass, IsAllowed}
-use Rattle.cert_checker.proofs.Passes.{pass_with, turn_with}
+use Rattle.cert_questions.specs.Cases.{Extends, undecided}
+use Rattle.cert_matching.specs.LeastFailures.{IsFirstFailure}
+use Rattle.cert_questions.specs.Roots.{compared, counted_short}
+use Rattle.cert_questions.specs.Questions.{ActionPassParts, QuestionParts, IsPosed, IsAskedOf, AreNamed, Counts, AreMatchedIn, AreMatchedBy, MatchAt}
+use Rattle.cert_questions.specs.Passes.{PassParts, IsPass, PassGrows, IsActionPass, IsAllowed}
+use Rattle.cert_questions.proofs.Passes.{pass_with, turn_with}
 use Rattle.cert_checker.proofs.PairPlaces.{undecided_extends, undecided_length}
-use Rattle.cert_checker.proofs.PairTurns.{set_kept, test_kept, test_there, outputs_told, both_trans, by_path, question_of, matched_in_turn, question_posed}
+use Rattle.cert_questions.proofs.CertPairs.{set_kept, test_kept, test_there}
+use Rattle.cert_checker.proofs.PairTurns.{outputs_told, both_trans, by_path, question_of, matched_in_turn, question_posed}
 
 -- ---- a test that is true at each allowed atom
 

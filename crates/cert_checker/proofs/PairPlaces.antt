@@ -1,7 +1,7 @@
 -- The first reason of one turn, from what is known of the processed pairs: of outputs or of one action.
-use Rattle.std.proofs.Common.{◌≡◌, ◌↔◌, ℕ, zero, suc, ◌+◌, ◌<◌, ◌⊎◌, inl, inr, ⊎_elim, List, [], ◌∷◌, ◌++◌, take, drop, length, get_or, slice_get, refl, sym, ap, ◌∙◌, subst, arith, add-one, Option, Some, None}
+use Rattle.std.proofs.Common.{◌≡◌, ◌↔◌, ℕ, zero, suc, ◌+◌, ◌<◌, ◌⊎◌, inl, inr, ⊎_elim, [], ◌∷◌, ◌++◌, take, drop, length, slice_get, refl, sym, ap, ◌∙◌, subst, arith, add-one, Option, Some, None}
 use Rattle.std.specs.Option.{option_map}
-use Rattle.std.proofs.lemmas.Option.{slice_get_within, slice_get_read, slice_get-map}
+use Rattle.std.proofs.lemmas.Option.{slice_get_within, slice_get-map}
 use Rattle.std.proofs.Math.Seq.{take-append_seam, drop-append_seam}
 use Rattle.std.proofs.lemmas.List.{length-map, length-take-le, length-drop, length-append, take-append-drop}
 use Rattle.kat_model.specs.Problems.{ProblemParts}
@@ -14,10 +14,12 @@ use Rattle.certificate.specs.Certs.{CertParts, nodes_of}
 use Rattle.certificate.specs.Accepted.{tested_pair_of, tested_pairs}
 use Rattle.cert_checker.specs.declared.answer.Reason.{Reason}
 use Rattle.cert_checker.specs.declared.answer.Reason.TheVariants.{FirstPair, Output, Missing, MissingTo, Shape, HypBroken, EndsAgree, TestNode, TermNode}
-use Rattle.cert_checker.specs.Answers.{Turn, turn_of, IsEarlier, IsLess, OutputsHold, StepHolds, MoveHolds, FailsBy}
-use Rattle.cert_checker.specs.Working.Cases.{Extends, IsFirstFailure, undecided}
+use Rattle.cert_checker.specs.Answers.{Turn, turn_of, IsEarlier, OutputsHold, StepHolds, MoveHolds, FailsBy}
+use Rattle.cert_matching.specs.AtomOrder.{IsLess}
+use Rattle.cert_questions.specs.Cases.{Extends, undecided}
+use Rattle.cert_matching.specs.LeastFailures.{IsFirstFailure}
 use Rattle.cert_checker.specs.Working.Places.{IsAmong, IsFirstOf, TurnHolds, turn_number, reason_at}
-use Rattle.cert_checker.proofs.Halves.{less_append, less_behind}
+use Rattle.cert_matching.proofs.Halves.{less_append, less_behind}
 
 -- every atom of length n extends n undecided tests
 pub undecided_extends : (n : ℕ) (x : Atom) → length x ≡ n → Extends (undecided n) x
@@ -197,10 +199,6 @@ module _ (q : ProblemParts) (c : CertParts) (action : Option ℕ) where
 
     pub first_fails : IsFirstOf q c (λ n. n ≡ turn_number action) (Some (reason_at c.style k (take q.tests x) action (drop q.tests x)))
     first_fails = ((action_pass.0, action_pass.3), place_fails c.style refl action low f.fails, none)
-
--- the pair that the loop visits
-pub pair_at : (ps items : List PairParts) (k : ℕ) (p : PairParts) → items ≡ ps → k < length items → p ≡ get_or items k p → slice_get ps k ≡ Some p
-pair_at ps items k p e low is = ap (λ (l : List PairParts). slice_get l k) (sym e) ∙ slice_get_read items (length items) k p refl low is
 
 pub tested_at : (c : CertParts) (k : ℕ) (p : PairParts) → slice_get c.pairs k ≡ Some p → slice_get (tested_pairs c) k ≡ Some (tested_pair_of (nodes_of c) p)
 tested_at c k p e = slice_get-map (tested_pair_of (nodes_of c)) c.pairs k ∙ ap (option_map (tested_pair_of (nodes_of c))) e

@@ -1,72 +1,37 @@
 -- What a question about a pair means for the certificate, in each style.
 use Rattle.std.proofs.Common.{◌≡◌, ◌↔◌, ℕ, ◌<◌, ◌≤◌, ◌+◌, inl, inr, ⊎_elim, List, [], ◌∷◌, map, take, drop, length, refl, sym, ap, ◌∙◌, subst, arith, Bool, true, false, cond, Option, Some, None}
-use mathlib.Core.Path.{ap₂}
 use Rattle.std.specs.Bool.{IsTrue}
 use Rattle.std.specs.Option.{option_map, option_map_or}
 use Rattle.kat_model.specs.declared.limits.TheConstants.{MAX_TESTS}
 use Rattle.kat_model.specs.Trees.{Term, one}
-use Rattle.kat_model.specs.Problems.{ProblemParts}
 use Rattle.kat_model.specs.Members.{Has, SameMembers}
 use Rattle.kat_model.specs.Steps.{Atom, truth, set_out, set_next}
 use Rattle.kat_model.specs.Closed.{closed}
-use Rattle.kat_model.specs.Pairs.{SetPair, plain, up_to, AreMatched, IsCongruent}
-use Rattle.kat_model.specs.TestedPairs.{TestedPair, pairs_at}
+use Rattle.kat_model.specs.Pairs.{plain, up_to, AreMatched, IsCongruent}
+use Rattle.kat_model.specs.TestedPairs.{pairs_at}
 use Rattle.kat_model.proofs.Lists.{same_members_sym, same_members_trans}
 use Rattle.term_nodes.specs.NodeLists.{NodeParts}
 use Rattle.term_nodes.specs.NumberSets.{IsNumberSet, are_below, terms_of, set_pairs_of}
 use Rattle.term_nodes.proofs.Parts.{below_more}
-use Rattle.term_nodes.proofs.Prefixes.{IsPrefix-within}
 use Rattle.certificate.specs.declared.nodes.Style.{Style}
 use Rattle.certificate.specs.declared.nodes.Style.TheVariants.{Plain, UpTo, Under}
 use Rattle.certificate.specs.PairParts.{PairParts, only_sets}
-use Rattle.certificate.specs.Certs.{CertParts, IsCert, IsPairOf, HasItsTest, nodes_of, number_pairs}
+use Rattle.certificate.specs.Certs.{HasItsTest, nodes_of}
 use Rattle.certificate.specs.Accepted.{set_pairs, test_of, tested_pair_of, tested_pairs}
-use Rattle.cert_steps.specs.NodeTables.{TableParts, TablesGrow, IsTest, tables_of, term_at, nodes_in}
+use Rattle.cert_steps.specs.NodeTables.{TableParts, TablesGrow, IsTest, term_at, nodes_in}
 use Rattle.cert_steps.specs.Targets.{AreEntries, AreSteps, StandFor, chosen, set_leads_to}
 use Rattle.cert_steps.proofs.GrowingTables.{grows_trans}
 use Rattle.cert_steps.proofs.StepSets.{stand_kept}
-use Rattle.cert_checker.specs.Working.Cases.{IsFirstFailure, undecided}
-use Rattle.cert_checker.specs.Working.Indices.{IndexParts, AreIndexed}
-use Rattle.cert_checker.specs.Working.Roots.{compared, counted_short}
-use Rattle.cert_checker.specs.Working.Questions.{ActionPassParts, QuestionParts, IsQuestion, AreNamed, IsPosed, IsAskedOf, Counts, AreMatchedIn, MatchAt, test_holds}
-use Rattle.cert_checker.specs.Working.Places.{PassParts, IsPass, IsActionPass, IsAllowed, TurnHolds, PairHolds}
-use Rattle.cert_checker.proofs.RootRanges.{terms_stay}
-use Rattle.cert_checker.proofs.Passes.{pass_with, turn_with}
+use Rattle.cert_matching.specs.LeastFailures.{IsFirstFailure}
+use Rattle.cert_questions.specs.Cases.{undecided}
+use Rattle.cert_questions.specs.Indices.{IndexParts, AreIndexed}
+use Rattle.cert_questions.specs.Roots.{compared, counted_short}
+use Rattle.cert_questions.specs.Questions.{ActionPassParts, QuestionParts, IsQuestion, AreNamed, IsPosed, IsAskedOf, Counts, AreMatchedIn, MatchAt, test_holds}
+use Rattle.cert_questions.specs.Passes.{PassParts, IsPass, IsActionPass, IsAllowed}
+use Rattle.cert_checker.specs.Working.Places.{TurnHolds, PairHolds}
+use Rattle.cert_questions.proofs.CertPairs.{set_kept, test_kept, test_there, pairs_kept, sets_kept, test_in_tables, listed_in}
+use Rattle.cert_questions.proofs.Passes.{pass_with, turn_with}
 use Rattle.cert_checker.proofs.SetQuestions.{matched_same}
-
-module _ (q : ProblemParts) (c : CertParts) (rules : IsCert c) (t : TableParts) (nodes : TablesGrow (tables_of q.tests c) t) where
-  -- the sets and the test of a pair of the certificate
-  pub set_kept : (ks : List ℕ) → are_below (length c.term_nodes) ks ≡ true → terms_of (nodes_in t) ks ≡ terms_of (nodes_of c) ks
-  set_kept ks low = terms_stay (tables_of q.tests c) t nodes ks low
-
-  pub test_kept : (o : Option ℕ) → ((k : ℕ) → o ≡ Some k → k < length c.test_nodes) → test_of (nodes_in t) o ≡ test_of (nodes_of c) o
-  test_kept None within = refl
-  test_kept (Some k) within = nodes.nodes.test_trees k (within k refl)
-
-  pub test_there : (s : Style) (n : ℕ) (o : Option ℕ) → HasItsTest s n o → (k : ℕ) → o ≡ Some k → k < n
-  test_there Plain n o h k e = let f : None ≡ Some k = sym h ∙ e in absurd cc
-  test_there UpTo n o h k e = let f : None ≡ Some k = sym h ∙ e in absurd cc
-  test_there Under n o h k e = let f : Some h.0 ≡ Some k = sym h.1 ∙ e in let same : h.0 ≡ k = cc in subst (λ z. z < n) same h.2
-
-  pair_kept : (p : PairParts) → IsPairOf c p → tested_pair_of (nodes_in t) p ≡ tested_pair_of (nodes_of c) p
-  pair_kept p is = λ i. record {
-    sets = record { left = set_kept p.left is.left.there i; right = set_kept p.right is.right.there i };
-    test = test_kept p.test (test_there c.style (length c.test_nodes) p.test is.test) i;
-  }
-
-  pub pairs_kept : map (tested_pair_of (nodes_in t)) c.pairs ≡ tested_pairs c
-  pairs_kept = go c.pairs rules.pairs
-    where
-      go : (ps : List PairParts) → ((p : PairParts) → Has ps p → IsPairOf c p) → map (tested_pair_of (nodes_in t)) ps ≡ map (tested_pair_of (nodes_of c)) ps
-      go [] each = refl
-      go (p ∷ ps) each = ap₂ (λ (x : TestedPair) (xs : List TestedPair). x ∷ xs) (pair_kept p (each p (inl refl))) (go ps (λ r h. each r (inr h)))
-
-  pub sets_kept : set_pairs_of (nodes_in t) (number_pairs c) ≡ set_pairs c
-  sets_kept = go c.pairs rules.pairs
-    where
-      go : (ps : List PairParts) → ((p : PairParts) → Has ps p → IsPairOf c p) → set_pairs_of (nodes_in t) (map only_sets ps) ≡ set_pairs_of (nodes_of c) (map only_sets ps)
-      go [] each = refl
-      go (p ∷ ps) each = ap₂ (λ (x : SetPair) (xs : List SetPair). x ∷ xs) (λ i. (pair_kept p (each p (inl refl)) i).sets) (go ps (λ r h. each r (inr h)))
 
 -- without tests all listed pairs count at each atom
 untested_all : (nodes : NodeParts) (ps : List PairParts) (atom : Atom) → ((p : PairParts) → Has ps p → p.test ≡ None) → pairs_at (map (tested_pair_of nodes) ps) atom ≡ set_pairs_of nodes (map only_sets ps)
@@ -174,10 +139,6 @@ module _ (p : PassParts) (pass : IsPass p) where
     matched_under e = in_style Under e ∙ ap (λ ps. IsCongruent (compared Under p.problem).universal (pairs_at ps to) es fs) (pairs_kept p.problem p.cert pass.cert p.tables pass.nodes)
 
   module _ (r : PairParts) (listed : Has p.cert.pairs r) where
-    -- the test of a pair is a test of the tables
-    pub test_in_tables : (k : ℕ) → r.test ≡ Some k → IsTest p.tables k
-    test_in_tables k e = IsPrefix-within p.cert.test_nodes p.tables.tests k pass.nodes.nodes.tests (test_there p.problem p.cert pass.cert p.tables pass.nodes p.cert.style (length p.cert.test_nodes) r.test (pass.cert.pairs r listed).test k e)
-
     true_without : r.test ≡ None → (atom : Atom) → truth (test_of (nodes_of p.cert) r.test) atom ≡ true
     true_without e atom = ap (λ o. truth (test_of (nodes_of p.cert) o) atom) e
 
@@ -224,10 +185,6 @@ module _ (p : PassParts) (pass : IsPass p) where
   set_in_tables : (ks : List ℕ) → IsNumberSet (length p.cert.term_nodes) ks → IsNumberSet (length p.tables.terms) ks
   set_in_tables ks s = record { there = below_more (length p.cert.term_nodes) (length p.tables.terms) ks (omega (arith, pass.count, pass.there)) s.there; ascending = s.ascending }
 
-  pub listed_in : (o : Option ℕ) (r : PairParts) → Has (option_map_or (λ a. p.cert.pairs) o []) r → Has p.cert.pairs r
-  listed_in None r h = absurd h
-  listed_in (Some a) r h = h
-
   indexed_in : (o : Option ℕ) → AreIndexed p.index (option_map_or (λ a. p.cert.pairs) o [])
   indexed_in None = λ k r e. absurd cc
   indexed_in (Some a) = pass.indexed
@@ -246,7 +203,7 @@ module _ (p : PassParts) (pass : IsPass p) where
 
     question_asked : (own : Option ℕ) (left right : List (ℕ × ℕ)) (asked : List ℕ) → ((k : ℕ) → own ≡ Some k → IsTest p.tables k) → AreEntries p.tables left → AreEntries p.tables right → IsQuestion p.tables (question_of p.tables action_pass own left right asked)
     question_asked own left right asked test first second = record {
-      pairs = λ r h. let of = pass.cert.pairs r (listed_in action_pass.action r (of_turn r h)) in (set_in_tables r.left of.left, set_in_tables r.right of.right);
+      pairs = λ r h. let of = pass.cert.pairs r (listed_in p pass action_pass.action r (of_turn r h)) in (set_in_tables r.left of.left, set_in_tables r.right of.right);
       untested = λ e r h. untested_in action_pass.action (sym is.style ∙ e) r (of_turn r h);
       indexed = subst (λ (x : IndexParts). AreIndexed x action_pass.pairs) (sym is.index) (subst (AreIndexed p.index) (sym is.pairs) (indexed_in action_pass.action));
       universal = λ u e. universal_there action_pass.action u (sym is.universal ∙ e);

@@ -5,10 +5,11 @@ use Rattle.std.specs.Ordering.{MatchOrdering, nat_cmp, bool_cmp, ordering_then, 
 use Rattle.std.specs.Cmp.Lexicographic.{slice_cmp}
 use Rattle.std.proofs.lemmas.Cmp.{ranked}
 use Rattle.kat_model.specs.Steps.{Atom}
-use Rattle.cert_checker.specs.declared.pass.Place.{Place}
-use Rattle.cert_checker.specs.contracts.pass.PlaceOrd.TheImpl.{ghosts}
-use Rattle.cert_checker.specs.contracts.pass.PlaceOrd.TheImpl.Laws.{total-law}
-use Rattle.cert_checker.specs.Answers.{IsEarlier, IsLess}
+use Rattle.cert_checker.specs.declared.places.Place.{Place}
+use Rattle.cert_checker.specs.contracts.places.PlaceOrd.TheImpl.{ghosts}
+use Rattle.cert_checker.specs.contracts.places.PlaceOrd.TheImpl.Laws.{total-law}
+use Rattle.cert_checker.specs.Answers.{IsEarlier}
+use Rattle.cert_matching.specs.AtomOrder.{IsLess}
 use Rattle.cert_checker.specs.Working.Places.{IsLeastOf, turn_at, turn_number}
 
 -- ---- the order of each part

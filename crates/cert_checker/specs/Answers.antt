@@ -1,5 +1,5 @@
 -- What evidence must show, and the first reason why it does not.
-use Rattle.std.specs.Prelude.{◌≡◌, ◌⊎◌, ◌<◌, ◌≤◌, ℕ, suc, IsTrue, true, false, List, [], ◌∷◌, length, slice_get, Option, Some, None}
+use Rattle.std.specs.Prelude.{◌≡◌, ◌⊎◌, ◌<◌, ◌≤◌, ℕ, suc, IsTrue, List, [], ◌∷◌, length, slice_get, Option, Some, None}
 use Rattle.kat_model.specs.Trees.{TestTree}
 use Rattle.kat_model.specs.Problems.{ProblemParts}
 use Rattle.kat_model.specs.Steps.{Atom, truth, set_out, set_next}
@@ -21,6 +21,7 @@ use Rattle.certificate.specs.declared.nodes.Style.{Style}
 use Rattle.certificate.specs.declared.nodes.Style.TheVariants.{Plain, UpTo, Under}
 use Rattle.certificate.specs.Certs.{CertParts}
 use Rattle.certificate.specs.Accepted.{set_pairs, tested_pairs, IsAccepted}
+use Rattle.cert_matching.specs.AtomOrder.{IsLess}
 use Rattle.cert_checker.specs.declared.answer.Reason.{Reason}
 use Rattle.cert_checker.specs.declared.answer.Reason.TheVariants.{FirstPair, Output, Missing, MissingTo, Shape, HypBroken, EndsAgree, TestNode, TermNode}
 use Rattle.cert_checker.specs.declared.answer.Answer.{Answer}
@@ -89,15 +90,6 @@ FailsBy q c (MissingTo k atom a to) =
 FailsBy q c (Shape k) = ⊥
 FailsBy q c (HypBroken h i j) = ⊥
 FailsBy q c EndsAgree = ⊥
-
--- at the first test where the atoms differ, the first atom is false
-abbrev pub IsLess : Atom → Atom → Type 0
-IsLess [] ys = ⊥
-IsLess (x ∷ xs) [] = ⊥
-IsLess (false ∷ xs) (true ∷ ys) = Unit {0}
-IsLess (true ∷ xs) (false ∷ ys) = ⊥
-IsLess (false ∷ xs) (false ∷ ys) = IsLess xs ys
-IsLess (true ∷ xs) (true ∷ ys) = IsLess xs ys
 
 -- the position of a reason in the order: its stage, its node or pair, its atom, outputs before actions, and for an
 -- action the atom after it

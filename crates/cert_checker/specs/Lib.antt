@@ -1,3 +1,4 @@
+pub use Rattle.cert_matching.specs.AtomOrder
 pub mod Answers
 pub mod Laws
 pub mod Working

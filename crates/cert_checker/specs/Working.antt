@@ -1,10 +1,3 @@
 pub mod Ranges
-pub mod Roots
-pub mod Cases
-pub mod Indices
-pub mod Reaching
-pub mod Questions
-pub mod Matching
-pub mod Rounds
 pub mod Places
 pub mod Relevant

@@ -7,14 +7,15 @@ ghost use Rattle.certificate.specs.Accepted.{IsAccepted};
 ghost use Rattle.cert_checker.specs.declared.answer.Answer.TheVariants.{Accepted};
 ghost use Rattle.cert_checker.specs.Answers.{Shows, FailsFirstBy, IsFoundBy, IsAnswer, finding_reason};
 ghost use Rattle.cert_checker.specs.Laws.{Says};
-ghost use Rattle.cert_checker.specs.Working.Places.{IsPass, place_reason};
+ghost use Rattle.cert_questions.specs.Passes.{IsPass};
+ghost use Rattle.cert_checker.specs.Working.Places.{place_reason};
 ghost use Rattle.cert_checker.specs.Working.Relevant.{HasFewerHyps};
 
 use crate::answer::{Answer, Reason};
-use crate::index::PairIndex;
-use crate::pass::{Pass, Place};
+use crate::first_pairs::begins;
+use crate::places::{Place, first_place};
 use crate::range::{action_out, test_out};
-use crate::relevant::asked_tests;
+use cert_questions::{PairIndex, Pass, asked_tests};
 use certificate::{Cert, Evidence, Style};
 use hypothesis_kinds::{asks_only, is_short};
 use kat_model::{Items, NoMemory, Problem};
@@ -42,10 +43,10 @@ fn pass_reason(pass: &mut Pass, style: Style) -> Result<Option<Reason>, NoMemory
     requires actions { (a : ℕ) → Has pass.old.cert.term_nodes (Act a) → a < pass.old.problem.actions }
     ensures { IfOk result (λ o. MatchOption o (IsAccepted pass.old.problem pass.old.cert) (λ r. FailsFirstBy pass.old.problem pass.old.cert r)) }
 {
-    if !pass.begins()? {
+    if !begins(pass)? {
         return Ok(Some(Reason::FirstPair));
     }
-    let place = pass.first_place()?;
+    let place = first_place(pass)?;
     Ok(place.map(|place| reason_of_place(place, style)))
 }
 

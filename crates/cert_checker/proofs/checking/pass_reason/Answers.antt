@@ -3,13 +3,14 @@ use Rattle.std.specs.Option.{option_map, MatchOption}
 use Rattle.std.proofs.lemmas.Bool.{true≢false}
 use Rattle.certificate.specs.Accepted.{IsAccepted}
 use Rattle.cert_checker.specs.Answers.{FailsFirstBy}
-use Rattle.cert_checker.specs.Working.Places.{PassParts, IsFirstOf, place_reason}
+use Rattle.cert_questions.specs.Passes.{PassParts}
+use Rattle.cert_checker.specs.Working.Places.{IsFirstOf, place_reason}
 use Rattle.cert_checker.proofs.FirstReasons.{first_pair, pairs_told}
-use Rattle.cert_checker.proofs.Passes.{pass_kept}
+use Rattle.cert_questions.proofs.Passes.{pass_kept}
 use Rattle.cert_checker.proofs.checking.pass_reason.Goals as goal
 
 pub first_place-requires : goal.first_place-requires
-first_place-requires c = pass_kept c.args.pass.now c.begins.new.self c.begins.ensures.grows c.requires.pass
+first_place-requires c = pass_kept c.args.pass.now c.begins.new.pass c.begins.ensures.grows c.requires.pass
 
 pub returns-then-not-branch : goal.returns-then-not-branch
 returns-then-not-branch c =

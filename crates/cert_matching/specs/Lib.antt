@@ -1,0 +1,3 @@
+pub mod AtomOrder
+pub mod LeastFailures
+pub mod Working

@@ -1,0 +1,4 @@
+pub mod Outcomes
+pub mod Reaching
+pub mod Matching
+pub mod Rounds

@@ -1,0 +1,10 @@
+pub mod AskedTests
+pub mod ForbiddenMoves
+pub mod Indexed
+pub mod KnownTruths
+pub mod NamedTests
+pub mod NeededTerms
+pub mod Passes
+pub mod RootRanges
+pub mod SetAcceptances
+pub mod CertPairs

@@ -1,0 +1,5 @@
+pub mod Roots
+pub mod Cases
+pub mod Indices
+pub mod Questions
+pub mod Passes
