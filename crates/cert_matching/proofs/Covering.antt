@@ -12,7 +12,7 @@ use Rattle.cert_steps.proofs.ChosenTargets.{chosen_has, guard_member, any_value}
 use Rattle.cert_questions.specs.declared.known.Truth.{Truth}
 use Rattle.cert_questions.specs.declared.known.Truth.TheVariants.{Known, Undecided}
 use Rattle.cert_questions.specs.Cases.{known_of, truly, falsely}
-use Rattle.cert_matching.specs.Working.Matching.{sure_targets, has_too, open_targets}
+use Rattle.cert_questions.specs.Sides.{sure_targets, has_too, open_targets}
 
 pub truly_value : (x : Truth) → truly x ≡ true → x ≡ Known true
 truly_value (Known true) e = refl

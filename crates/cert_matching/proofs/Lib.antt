@@ -6,10 +6,8 @@ pub mod Halves
 pub mod KnownMoves
 pub mod LeastFailures
 pub mod ListedPairs
-pub mod NextTests
 pub mod ReachedTerms
 pub mod Saturating
-pub mod SideTurns
 pub mod StepAnswers
 pub mod StepStates
 pub mod FoundPairs

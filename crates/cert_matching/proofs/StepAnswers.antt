@@ -1,14 +1,13 @@
 -- What the tests of two lists of targets say about whether listed pairs match them.
-use Rattle.std.proofs.Common.{◌≡◌, ℕ, ◌<◌, ◌⊎◌, inl, inr, ⊎_elim, List, [], ◌∷◌, map, length, refl, sym, ap, ◌∙◌, subst, arith, Bool, true, false, nat_lt, nat_eq, ◌&&◌, ◌||◌, cond, Option, Some, None}
+use Rattle.std.proofs.Common.{◌≡◌, ℕ, ◌⊎◌, inl, inr, ⊎_elim, List, [], ◌∷◌, map, length, refl, sym, ap, ◌∙◌, subst, Bool, true, false, nat_lt, nat_eq, ◌&&◌, cond, Option, Some, None}
 use Rattle.std.specs.Option.{option_map, option_map_or, MatchOption}
 use Rattle.std.specs.List.{AllByRecursion}
 use Rattle.std.specs.List.Sorted.{IsStrictlySortedBy}
 use Rattle.std.specs.Map.{keys_of}
-use Rattle.std.specs.BTreeMap.{is_at}
 use Rattle.std.specs.Cmp.Lexicographic.{pointwise}
-use Rattle.std.specs.declared.cmp.Ordering.TheVariants.{Less, Equal, Greater}
-use Rattle.std.specs.Ordering.{nat_cmp, is_eq}
-use Rattle.std.proofs.lemmas.Bool.{true≢false, and_parts, and_from, or_parts, eqb-true, eq-eqb, ltb-true}
+use Rattle.std.specs.declared.cmp.Ordering.TheVariants.{Less}
+use Rattle.std.specs.Ordering.{nat_cmp}
+use Rattle.std.proofs.lemmas.Bool.{true≢false, and_parts, and_from, or_parts}
 use Rattle.std.proofs.lemmas.Map.Keys.{sorted_head, sorted_tail}
 use Rattle.std.proofs.lemmas.Option.{MatchOption-at_none}
 use Rattle.kat_model.specs.Trees.{Term}
@@ -29,23 +28,17 @@ use Rattle.cert_steps.specs.Targets.{chosen, guard_of, AreEntries}
 use Rattle.cert_steps.proofs.ChosenTargets.{chosen_has, has_chosen, guard_member, any_value}
 use Rattle.cert_questions.specs.declared.known.Truth.{Truth}
 use Rattle.cert_questions.specs.declared.known.Truth.TheVariants.{Known, Undecided as UndecidedBy}
-use Rattle.cert_matching.specs.declared.matching.TargetSide.{TargetSide}
+use Rattle.cert_questions.specs.declared.sides.TargetSide.{TargetSide}
 use Rattle.cert_questions.specs.Cases.{known_of, truly, falsely}
 use Rattle.cert_questions.specs.Questions.{AreMatchedIn}
-use Rattle.cert_matching.specs.Working.Matching.{sure_targets, open_targets, has_too, is_sure, lists, AreSettled, AreSettledAmong, IsWaitedBy, IsTargetSide}
+use Rattle.cert_questions.specs.Sides.{sure_targets, open_targets, has_too, is_sure, AreSettled, AreSettledAmong, IsWaitedBy, IsTargetSide}
+use Rattle.cert_matching.specs.Working.Matching.{lists}
+use Rattle.cert_questions.proofs.TargetKeys.{less_lt, guard_found, open_entry}
 use Rattle.cert_matching.proofs.Covering.{AreRight, truly_value, sure_chosen}
 use Rattle.cert_matching.proofs.Covered.{sure_below, settled_sure}
 use Rattle.cert_matching.proofs.ListedPairs.{same_numbers, same_pointwise, pointwise_itself}
 
--- ---- keys of targets ascend
-
-less_lt : (x y : ℕ) → nat_cmp x y ≡ Less → nat_lt x y ≡ true
-less_lt x y = go (nat_lt x y) (nat_eq x y)
-  where
-    go : (a b : Bool) → cond a Less (cond b Equal Greater) ≡ Less → a ≡ true
-    go true b e = refl
-    go false true e = absurd cc
-    go false false e = absurd cc
+-- ---- the numbers of terms ascend
 
 -- a number below the keys is below the surely present targets
 sure_above : (known : List Truth) (x : ℕ) (es : List (ℕ × ℕ)) → AllByRecursion (λ y. nat_cmp x y ≡ Less) (keys_of es) → are_ascending (sure_targets known es) ≡ true → are_ascending (x ∷ sure_targets known es) ≡ true
@@ -64,45 +57,6 @@ sure_ascending known (e ∷ es) sorted = go (truly (known_of known e.1)) (sure_a
     go true rest = sure_above known e.0 es (sorted_head nat_cmp e.0 (keys_of es) sorted) rest
     go false rest = rest
 
-key_above : (x : ℕ) (es : List (ℕ × ℕ)) (e : ℕ × ℕ) → AllByRecursion (λ y. nat_cmp x y ≡ Less) (keys_of es) → Has es e → x < e.0
-key_above x [] e above h = absurd h
-key_above x (d ∷ es) e above h =
-    ⊎_elim
-    (λ s. let low : x < d.0 = ltb-true x d.0 (less_lt x d.0 above.0) in subst (λ (p : ℕ × ℕ). x < p.0) s low)
-    (λ r. key_above x es e above.1 r)
-    h
-
-is_eq_eq : (x y : ℕ) → is_eq (nat_cmp x y) ≡ true → x ≡ y
-is_eq_eq x y = go (nat_lt x y) (nat_eq x y) refl
-  where
-    go : (a b : Bool) → nat_eq x y ≡ b → is_eq (cond a Less (cond b Equal Greater)) ≡ true → x ≡ y
-    go true b s e = absurd cc
-    go false true s e = eqb-true x y s
-    go false false s e = absurd cc
-
-eq_is_eq : (x : ℕ) → is_eq (nat_cmp x x) ≡ true
-eq_is_eq x = go (nat_lt x x) (nat_eq x x) refl refl
-  where
-    go : (a b : Bool) → nat_lt x x ≡ a → nat_eq x x ≡ b → is_eq (cond a Less (cond b Equal Greater)) ≡ true
-    go true b s e = let low : x < x = ltb-true x x s in absurd (omega (arith, low))
-    go false true s e = refl
-    go false false s e = absurd (true≢false (sym (eq-eqb x x refl) ∙ e))
-
--- looking up the term of a target finds its guard
-pub guard_found : (es : List (ℕ × ℕ)) (e : ℕ × ℕ) → IsStrictlySortedBy nat_cmp (keys_of es) → Has es e → guard_of es e.0 ≡ Some e.1
-guard_found [] e sorted h = absurd h
-guard_found (d ∷ es) e sorted h = ⊎_elim same (λ r. later (is_at (nat_cmp e.0) d.0) refl r (guard_found es e (sorted_tail nat_cmp d.0 (keys_of es) sorted) r)) h
-  where
-    same : d ≡ e → cond (is_at (nat_cmp e.0) d.0) (Some d.1) (guard_of es e.0) ≡ Some e.1
-    same s = subst (λ (p : ℕ × ℕ). cond (is_at (nat_cmp p.0) d.0) (Some d.1) (guard_of es p.0) ≡ Some p.1) s (rw (eq_is_eq d.0) refl)
-
-    later : (b : Bool) → is_at (nat_cmp e.0) d.0 ≡ b → Has es e → guard_of es e.0 ≡ Some e.1 → cond b (Some d.1) (guard_of es e.0) ≡ Some e.1
-    later true s r rest =
-        let one : e.0 ≡ d.0 = is_eq_eq e.0 d.0 s in
-        let low : d.0 < e.0 = key_above d.0 es e (sorted_head nat_cmp d.0 (keys_of es) sorted) r in
-        absurd (omega (arith, one, low))
-    later false s r rest = rest
-
 -- ---- open terms
 
 sure_in : (known : List Truth) (es : List (ℕ × ℕ)) (e : ℕ × ℕ) → Has es e → truly (known_of known e.1) ≡ true → Has (sure_targets known es) e.0
@@ -115,15 +69,6 @@ sure_in known (d ∷ es) e h on = ⊎_elim (λ same. here same) (λ r. later (tr
 
     here : d ≡ e → Has (cond (truly (known_of known d.1)) (d.0 ∷ sure_targets known es) (sure_targets known es)) e.0
     here same = subst (λ (z : ℕ × ℕ). Has (cond (truly (known_of known z.1)) (z.0 ∷ sure_targets known es) (sure_targets known es)) e.0) (sym same) (rw on (inl refl))
-
--- a term that may be only in one set has a target with its guard
-pub open_entry : (known : List Truth) (os es : List (ℕ × ℕ)) (k : ℕ) → Has (open_targets known os es) k → (e : ℕ × ℕ) × Has es e × (e.0 ≡ k) × ((falsely (known_of known e.1) || has_too known os e.0 e.1) ≡ false)
-open_entry known os [] k h = absurd h
-open_entry known os (d ∷ es) k h = go (falsely (known_of known d.1) || has_too known os d.0 d.1) refl (λ r. let f = open_entry known os es k r in (f.0, inr f.1, f.2, f.3)) h
-  where
-    go : (b : Bool) → (falsely (known_of known d.1) || has_too known os d.0 d.1) ≡ b → (Has (open_targets known os es) k → (e : ℕ × ℕ) × Has (d ∷ es) e × (e.0 ≡ k) × ((falsely (known_of known e.1) || has_too known os e.0 e.1) ≡ false)) → Has (cond b (open_targets known os es) (d.0 ∷ open_targets known os es)) k → (e : ℕ × ℕ) × Has (d ∷ es) e × (e.0 ≡ k) × ((falsely (known_of known e.1) || has_too known os e.0 e.1) ≡ false)
-    go true off rest m = rest m
-    go false off rest m = ⊎_elim (λ same. (d, inl refl, same, off)) rest m
 
 may_true : (x : Truth) (b : Bool) → x ≡ Known b → falsely x ≡ false → truly x ≡ true
 may_true x true is off = ap truly is

@@ -15,13 +15,16 @@ use Rattle.cert_steps.specs.NodeTables.{TableParts, AreTables, holds_at, term_at
 use Rattle.cert_steps.specs.Targets.{chosen}
 use Rattle.cert_questions.specs.declared.known.TestCase.{TestCase}
 use Rattle.cert_questions.specs.declared.known.Truth.TheVariants.{Known, Undecided as UndecidedBy}
-use Rattle.cert_matching.specs.declared.matching.TargetSides.{TargetSides}
+use Rattle.cert_questions.specs.declared.sides.TargetSides.{TargetSides}
 use Rattle.cert_questions.specs.Cases.{Extends, IsOpen, IsKnown, known_of}
 use Rattle.cert_matching.specs.LeastFailures.{HoldsThroughout}
 use Rattle.cert_matching.specs.Working.Reaching.{ArePairsBelow}
 use Rattle.cert_questions.specs.Questions.{QuestionParts, IsQuestion, AreNamed, IsTestCase, Counts, AreMatchedIn, MatchAt, NamesByTargets, NamesByMoves, NamesAtEnd}
-use Rattle.cert_matching.specs.Working.Outcomes.{IsWaited}
-use Rattle.cert_matching.specs.Working.Matching.{sure_targets, is_sure, lists, counting, AreTargetSides, AreCovered, AreSurelyMatched, AreSettled, AreTestsSettled, IsWaitedBy, is_excluded, DoesCount}
+use Rattle.cert_questions.specs.Waiting.{IsWaited}
+use Rattle.cert_questions.specs.Sides.{sure_targets, is_sure, AreTargetSides, AreSettled, IsWaitedBy}
+use Rattle.cert_matching.specs.Working.Matching.{lists, counting, AreCovered, AreSurelyMatched}
+use Rattle.cert_questions.specs.Waiting.{AreTestsSettled}
+use Rattle.cert_questions.specs.Moves.{is_excluded, DoesCount}
 use Rattle.cert_matching.proofs.Halves.{open_front, open_back, extends_front, extends_back}
 use Rattle.cert_matching.proofs.CountedPairs.{counting_has, counting_below, counting_all}
 use Rattle.cert_matching.proofs.Covering.{AreRight}

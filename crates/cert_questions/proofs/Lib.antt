@@ -8,3 +8,7 @@ pub mod Passes
 pub mod RootRanges
 pub mod SetAcceptances
 pub mod CertPairs
+pub mod SideTurns
+pub mod NextTests
+pub mod TargetKeys
+pub mod MoveTurns

@@ -3,3 +3,6 @@ pub mod Cases
 pub mod Indices
 pub mod Questions
 pub mod Passes
+pub mod Sides
+pub mod Waiting
+pub mod Moves

@@ -41,7 +41,7 @@ impl Drop for TestCase {
 }
 
 /// Returns what is known of the test.
-pub fn value_of(known: &[Truth], test: usize) -> Truth
+pub(crate) fn value_of(known: &[Truth], test: usize) -> Truth
     ensures { result ≡ known_of known.now test }
 {
     match known.get(test) {
@@ -61,7 +61,7 @@ pub fn test_value(known: &[Truth], test: Option<usize>) -> Truth
 }
 
 /// Whether the value is known to be true.
-pub fn is_true(known: Truth) -> bool
+pub(crate) fn is_true(known: Truth) -> bool
     ensures { result ≡ truly known }
 {
     matches!(known, Truth::Known(true))
@@ -77,7 +77,7 @@ fn negation(x: Truth) -> Truth
 }
 
 /// Returns what is known of a conjunction, given what is known of its parts.
-pub fn conjunction(x: Truth, y: Truth) -> Truth
+pub(crate) fn conjunction(x: Truth, y: Truth) -> Truth
     ensures { result ≡ known_and x y }
 {
     match (x, y) {

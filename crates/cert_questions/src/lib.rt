@@ -7,12 +7,18 @@
 mod asked;
 mod index;
 mod known;
+mod moves;
 mod pass;
 mod question;
 mod relevant;
+mod sides;
+mod waiting;
 
 pub use index::PairIndex;
-pub use known::{TestCase, Truth, conjunction, is_true, test_value, value_of};
+pub use known::{TestCase, Truth, test_value};
+pub use moves::{MoveStatus, move_status};
 pub use pass::{Pass, PassNumbers};
 pub use question::{ActionPass, Question};
 pub use relevant::asked_tests;
+pub use sides::{TargetSide, TargetSides, is_sure, side_of};
+pub use waiting::{waiting_guard, waiting_pair};

@@ -3,11 +3,14 @@ use Rattle.std.specs.Option.{option_map_or}
 use Rattle.std.proofs.lemmas.Bool.{iff_false}
 use Rattle.term_nodes.specs.NumberSets.{NumberPair}
 use Rattle.cert_questions.specs.declared.known.Truth.{Truth}
-use Rattle.cert_matching.specs.declared.matching.TargetSide.{TargetSide}
-use Rattle.cert_matching.specs.declared.matching.TargetSides.{TargetSides}
+use Rattle.cert_questions.specs.declared.sides.TargetSide.{TargetSide}
+use Rattle.cert_questions.specs.declared.sides.TargetSides.{TargetSides}
 use Rattle.cert_questions.specs.Indices.{AreIndexed}
 use Rattle.cert_questions.specs.Questions.{ActionPassParts, QuestionParts}
-use Rattle.cert_matching.specs.Working.Matching.{is_sure, counting, AreTargetSides, IsWaitedByOne, AreTestsSettled, AreCovered, AreSurelyMatched, IsMoveStatus}
+use Rattle.cert_questions.specs.Sides.{is_sure, AreTargetSides, IsWaitedByOne}
+use Rattle.cert_matching.specs.Working.Matching.{counting, AreCovered, AreSurelyMatched}
+use Rattle.cert_questions.specs.Waiting.{AreTestsSettled}
+use Rattle.cert_questions.specs.Moves.{IsMoveStatus}
 use Rattle.cert_matching.proofs.CountedPairs.{counted_as}
 use Rattle.cert_matching.proofs.StepAnswers.{side_sure, none_alone}
 use Rattle.cert_matching.proofs.StepStates.{waits_open, guard_open, universal_match, matched_holds, unmatched_fails}

@@ -1,8 +1,8 @@
 use Rattle.std.proofs.Common.{◌≡◌, List, subst}
 use Rattle.cert_questions.specs.declared.known.Truth.{Truth}
-use Rattle.cert_matching.specs.declared.matching.TargetSide.{TargetSide}
+use Rattle.cert_questions.specs.declared.sides.TargetSide.{TargetSide}
 use Rattle.cert_questions.specs.Questions.{QuestionParts}
-use Rattle.cert_matching.specs.Working.Matching.{IsTargetSide, AreTargetSides}
+use Rattle.cert_questions.specs.Sides.{IsTargetSide, AreTargetSides}
 use Rattle.cert_matching.proofs.StepStates.{excluded_holds}
 use Rattle.cert_matching.proofs.matching.outcome_of.Goals as goal
 

@@ -1,8 +1,8 @@
 use Rattle.std.proofs.Common.{take}
 use Rattle.std.specs.Option.{MatchOption}
-use Rattle.cert_matching.specs.Working.Outcomes.{IsWaited}
-use Rattle.cert_matching.specs.Working.Matching.{AreTestsSettled}
-use Rattle.cert_matching.proofs.matching.waiting_pair.Given as goal
+use Rattle.cert_questions.specs.Waiting.{IsWaited}
+use Rattle.cert_questions.specs.Waiting.{AreTestsSettled}
+use Rattle.cert_questions.proofs.waiting.waiting_pair.Given as goal
 
 -- a test that an earlier pair waits for, or the tests of all earlier pairs are settled
 abbrev pub invariant-loop-pair : goal.invariant-loop-pair

@@ -12,8 +12,9 @@ use Rattle.cert_questions.specs.declared.known.Truth.{Truth}
 use Rattle.cert_questions.specs.declared.known.Truth.TheVariants.{Known, Undecided as UndecidedBy}
 use Rattle.cert_questions.specs.Cases.{known_of, known_test}
 use Rattle.cert_questions.specs.Questions.{QuestionParts}
-use Rattle.cert_matching.specs.Working.Outcomes.{IsWaited}
-use Rattle.cert_matching.specs.Working.Matching.{IsWaitedBy, AreTestsSettled}
+use Rattle.cert_questions.specs.Waiting.{IsWaited}
+use Rattle.cert_questions.specs.Sides.{IsWaitedBy}
+use Rattle.cert_questions.specs.Waiting.{AreTestsSettled}
 
 -- the guard of a term waits
 pub guard_waits : (known : List Truth) (es : List (ℕ × ℕ)) (term g k : ℕ) → guard_of es term ≡ Some g → known_of known g ≡ UndecidedBy k → IsWaitedBy known es k

@@ -1,12 +1,12 @@
 use Rattle.std.proofs.Common.{◌≡◌, ℕ, List, [], ◌∷◌, ◌++◌, Option, true, false, sym, ap, ◌∙◌, subst}
 use Rattle.std.specs.Option.{option_or}
 use Rattle.cert_questions.specs.declared.known.Truth.TheVariants.{Known}
-use Rattle.cert_matching.specs.declared.matching.TargetSide.{TargetSide}
+use Rattle.cert_questions.specs.declared.sides.TargetSide.{TargetSide}
 use Rattle.cert_questions.specs.Cases.{known_of}
-use Rattle.cert_matching.specs.Working.Matching.{has_too}
-use Rattle.cert_matching.proofs.SideTurns.{IsSideOf, IsFound, side_skipped, found_true, found_waits, side_shared, side_alone, side_whole}
-use Rattle.cert_matching.proofs.matching.side_of.Goals as goal
-use Rattle.cert_matching.proofs.matching.side_of.Goals.{in-Known-true+in_ok-push-in-Known-true, in-Undecided}
+use Rattle.cert_questions.specs.Sides.{has_too}
+use Rattle.cert_questions.proofs.SideTurns.{IsSideOf, IsFound, side_skipped, found_true, found_waits, side_shared, side_alone, side_whole}
+use Rattle.cert_questions.proofs.sides.side_of.Goals as goal
+use Rattle.cert_questions.proofs.sides.side_of.Goals.{in-Known-true+in_ok-push-in-Known-true, in-Undecided}
 
 pub loop-term-preserved-in-Known-false : goal.loop-term-preserved-in-Known-false
 loop-term-preserved-in-Known-false c =

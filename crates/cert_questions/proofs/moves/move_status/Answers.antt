@@ -1,9 +1,9 @@
 use Rattle.std.proofs.Common.{◌≡◌, ℕ, List, ap, ◌∙◌, false}
 use Rattle.cert_questions.specs.declared.known.Truth.TheVariants.{Known}
 use Rattle.cert_questions.specs.Questions.{ActionPassParts, QuestionParts}
-use Rattle.cert_matching.proofs.KnownMoves.{next_free, next_tied, next_waits}
-use Rattle.cert_matching.proofs.matching.move_status.Goals as goal
-use Rattle.cert_matching.proofs.matching.move_status.Goals.{in-Known-false-conjunction, in-Undecided-conjunction+then-is_true-2, in-Undecided-conjunction+else-is_true-2}
+use Rattle.cert_questions.proofs.MoveTurns.{next_free, next_tied, next_waits}
+use Rattle.cert_questions.proofs.moves.move_status.Goals as goal
+use Rattle.cert_questions.proofs.moves.move_status.Goals.{in-Known-false-conjunction, in-Undecided-conjunction+then-is_true-2, in-Undecided-conjunction+else-is_true-2}
 
 pub loop-from-preserved : goal.loop-from-preserved
 loop-from-preserved c =

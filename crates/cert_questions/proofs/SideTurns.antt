@@ -11,10 +11,10 @@ use Rattle.kat_model.specs.Members.{Has, IsSubset}
 use Rattle.cert_steps.specs.Targets.{guard_of}
 use Rattle.cert_questions.specs.declared.known.Truth.{Truth}
 use Rattle.cert_questions.specs.declared.known.Truth.TheVariants.{Known, Undecided as UndecidedBy}
-use Rattle.cert_matching.specs.declared.matching.TargetSide.{TargetSide}
+use Rattle.cert_questions.specs.declared.sides.TargetSide.{TargetSide}
 use Rattle.cert_questions.specs.Cases.{known_of, truly, falsely}
-use Rattle.cert_matching.specs.Working.Matching.{sure_targets, has_too, open_targets, AreSettled, AreSettledAmong, IsWaitedBy, IsTargetSide}
-use Rattle.cert_matching.proofs.StepAnswers.{guard_found, open_entry}
+use Rattle.cert_questions.specs.Sides.{sure_targets, has_too, open_targets, AreSettled, AreSettledAmong, IsWaitedBy, IsTargetSide}
+use Rattle.cert_questions.proofs.TargetKeys.{guard_found, open_entry}
 
 -- the guards of targets that may be only on this side have known values
 abbrev pub AreOpenSettled : List Truth → List (ℕ × ℕ) → List (ℕ × ℕ) → Type 0

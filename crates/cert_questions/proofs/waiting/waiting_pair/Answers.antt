@@ -7,11 +7,11 @@ use Rattle.certificate.specs.PairParts.{PairParts}
 use Rattle.cert_questions.specs.declared.known.Truth.{Truth}
 use Rattle.cert_questions.specs.Cases.{known_test}
 use Rattle.cert_questions.specs.Questions.{ActionPassParts, QuestionParts}
-use Rattle.cert_matching.specs.Working.Outcomes.{IsWaited}
-use Rattle.cert_matching.specs.Working.Matching.{AreTestsSettled}
-use Rattle.cert_matching.proofs.NextTests.{pair_waits, pairs_more}
-use Rattle.cert_matching.proofs.matching.waiting_pair.Goals as goal
-use Rattle.cert_matching.proofs.matching.waiting_pair.Goals.{in-Undecided+else-has_surely_all, in_default}
+use Rattle.cert_questions.specs.Waiting.{IsWaited}
+use Rattle.cert_questions.specs.Waiting.{AreTestsSettled}
+use Rattle.cert_questions.proofs.NextTests.{pair_waits, pairs_more}
+use Rattle.cert_questions.proofs.waiting.waiting_pair.Goals as goal
+use Rattle.cert_questions.proofs.waiting.waiting_pair.Goals.{in-Undecided+else-has_surely_all, in_default}
 
 pub returns-then-has_surely_all-2 : goal.returns-then-has_surely_all-2
 returns-then-has_surely_all-2 c =
