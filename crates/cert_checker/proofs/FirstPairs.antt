@@ -37,7 +37,8 @@ use Rattle.cert_questions.specs.Passes.{PassParts, IsPass, PassGrows, IsActionPa
 use Rattle.cert_questions.proofs.Passes.{pass_with, turn_with}
 use Rattle.cert_checker.proofs.PairPlaces.{undecided_extends, undecided_length}
 use Rattle.cert_questions.proofs.CertPairs.{set_kept, test_kept, test_there}
-use Rattle.cert_checker.proofs.PairTurns.{outputs_told, both_trans, by_path, question_of, matched_in_turn, question_posed}
+use Rattle.cert_checker.proofs.PairTurns.{outputs_told, both_trans, by_path, matched_in_turn}
+use Rattle.cert_questions.proofs.PosedQuestions.{question_of, question_posed}
 
 -- ---- a test that is true at each allowed atom
 

@@ -1,7 +1,6 @@
 pub mod EarlierPlaces
 pub mod FirstPairs
 pub mod FirstReasons
-pub mod NodeRanges
 pub mod OneAnswer
 pub mod PairPlaces
 pub mod PairTurns

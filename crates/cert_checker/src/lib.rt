@@ -15,7 +15,6 @@ mod checking;
 mod first_pairs;
 mod laws;
 mod places;
-mod range;
 
 pub use answer::{Answer, Reason};
 pub use checking::check;

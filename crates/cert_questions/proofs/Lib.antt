@@ -12,3 +12,5 @@ pub mod SideTurns
 pub mod NextTests
 pub mod TargetKeys
 pub mod MoveTurns
+pub mod NodeRanges
+pub mod PosedQuestions

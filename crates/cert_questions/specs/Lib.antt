@@ -1,3 +1,4 @@
+pub mod Ranges
 pub mod Roots
 pub mod Cases
 pub mod Indices

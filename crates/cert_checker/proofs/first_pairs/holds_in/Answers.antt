@@ -10,7 +10,7 @@ use Rattle.cert_questions.specs.Questions.{QuestionParts, MatchAt}
 use Rattle.cert_questions.specs.Passes.{PassParts}
 use Rattle.cert_checker.proofs.FirstPairs.{throughout_entries, throughout_posed, throughout_told}
 use Rattle.cert_matching.proofs.LeastFailures.{Below, unbounded}
-use Rattle.cert_checker.proofs.PairTurns.{narrow}
+use Rattle.cert_questions.proofs.PosedQuestions.{narrow}
 use Rattle.cert_questions.proofs.Passes.{passes_itself, grown}
 use Rattle.cert_checker.proofs.first_pairs.holds_in.Goals as goal
 

@@ -10,7 +10,7 @@ use Rattle.cert_questions.specs.Passes.{PassParts}
 use Rattle.cert_checker.specs.Working.Places.{IsFirstOf, PairHolds, reason_at, turn_number}
 use Rattle.cert_checker.proofs.PairPlaces.{none_fails, first_fails, pair_holds, undecided_length, tested_at}
 use Rattle.cert_questions.proofs.CertPairs.{pair_at}
-use Rattle.cert_checker.proofs.PairTurns.{narrow}
+use Rattle.cert_questions.proofs.PosedQuestions.{narrow}
 use Rattle.cert_questions.proofs.Passes.{pass_kept, turn_kept, passes_trans, passes_itself}
 use Rattle.cert_checker.proofs.places.first_failure.Goals as goal
 

@@ -15,7 +15,8 @@ use Rattle.cert_questions.specs.Questions.{ActionPassParts, QuestionParts, IsAsk
 use Rattle.cert_questions.specs.Passes.{PassParts}
 use Rattle.cert_matching.proofs.LeastFailures.{Below, unbounded}
 use Rattle.cert_questions.proofs.Passes.{grown}
-use Rattle.cert_checker.proofs.PairTurns.{by_path, question_of, left_steps, right_steps, left_numbers, right_numbers, own_test, left_entries, right_entries, pair_posed, pair_told}
+use Rattle.cert_checker.proofs.PairTurns.{by_path, left_entries, right_entries, pair_posed, pair_told}
+use Rattle.cert_questions.proofs.PosedQuestions.{question_of, left_steps, right_steps, left_numbers, right_numbers, own_test}
 use Rattle.cert_checker.proofs.places.pair_failure.Goals as goal
 
 pub of_set-requires-clause-steps : goal.of_set-requires-clause-steps

@@ -2,8 +2,8 @@ use Rattle.std.proofs.Common.{rules}
 use borrow.Author.Tests.{tests}
 use Rattle.std.proofs.lemmas.Iterator.{IsFirst-from_position, YieldsList-from_slice}
 use Rattle.term_nodes.specs.declared.TestNode.TheVariants.{Prim}
-use Rattle.cert_checker.proofs.NodeRanges.{IsOut, IsIn, first_told}
-use Rattle.cert_checker.proofs.range.test_out.Goals as goal
+use Rattle.cert_questions.proofs.NodeRanges.{IsOut, IsIn, first_told}
+use Rattle.cert_questions.proofs.range.test_out.Goals as goal
 
 pub returns : goal.returns
 returns c =

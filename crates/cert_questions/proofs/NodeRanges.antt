@@ -5,7 +5,7 @@ use Rattle.std.specs.List.{HoldsAt, AllWithin}
 use Rattle.std.proofs.lemmas.Option.{slice_get_within, slice_get-get_or, get_or_from_slice_get}
 use Rattle.kat_model.specs.Members.{Has}
 use Rattle.kat_model.proofs.Places.{place_of_member}
-use Rattle.cert_checker.specs.Working.Ranges.{IsFirstOut}
+use Rattle.cert_questions.specs.Ranges.{IsFirstOut}
 
 module _ {N : Type 0} (make : ℕ → N) (n : ℕ) where
   -- the node has a number out of range; the node has no number out of range
