@@ -1,7 +1,7 @@
 //! The questions of the checker: for the outputs of a certificate's pairs and for each action, whether the pair holds at
-//! two atoms, the beginning and the end of a move; and what is known of the tests that a question names when some
-//! primitive tests are decided. `cert_matching` answers them. Functions that return a `Result` fail only when out of
-//! memory.
+//! two atoms, the beginning and the end of a move; and what is known of the tests, the targets and the move of a
+//! question when some primitive tests are decided. `cert_matching` answers them. A pass requires nodes that are in range
+//! (`test_out`, `action_out`). Functions that return a `Result` fail only when out of memory.
 #![tactic(auto)]
 
 mod asked;
