@@ -17,7 +17,7 @@ use Rattle.certificate.specs.PairParts.{PairParts, only_sets}
 use Rattle.certificate.specs.Certs.{HasItsTest, nodes_of}
 use Rattle.certificate.specs.Accepted.{set_pairs, test_of, tested_pair_of, tested_pairs}
 use Rattle.cert_steps.specs.NodeTables.{TableParts, TablesGrow, term_at, nodes_in}
-use Rattle.cert_steps.specs.Targets.{AreEntries, StandFor, chosen, set_leads_to}
+use Rattle.cert_steps.specs.Targets.{StandFor, chosen, set_leads_to}
 use Rattle.cert_steps.proofs.StepSets.{stand_kept}
 use Rattle.cert_matching.specs.LeastFailures.{IsFirstFailure}
 use Rattle.cert_questions.specs.Cases.{undecided}
@@ -190,12 +190,6 @@ module _ (p : PassParts) (mid last : TableParts) (begun : IsPass p) (to_mid : Ta
 
   rights : StandFor last right (set_leads_to action_pass.action (terms_of (nodes_of p.cert) r.right))
   rights = subst (λ es. StandFor last right (set_leads_to action_pass.action es)) (set_kept p.problem p.cert begun.cert mid half.nodes r.right (begun.cert.pairs r listed).right.there) other
-
-  pub left_entries : AreEntries last left
-  left_entries = lefts.entries
-
-  pub right_entries : AreEntries last right
-  right_entries = rights.entries
 
   pub pair_posed : (q : QuestionParts) → IsAskedOf last action_pass r.test left right q → AreNamed last q q.asked → IsPosed q
   pair_posed q e named = question_posed (record p { tables = last }) whole action_pass turns q r.test left right e named (own_test p begun r listed mid last to_mid to_last) lefts.entries rights.entries

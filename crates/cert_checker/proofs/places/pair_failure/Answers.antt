@@ -9,13 +9,14 @@ use Rattle.certificate.specs.PairParts.{PairParts}
 use Rattle.cert_steps.specs.NodeTables.{TablesGrow, nodes_in}
 use Rattle.cert_steps.specs.Targets.{AreSteps, StandFor, set_leads_to}
 use Rattle.cert_steps.proofs.GrowingTables.{grows_trans}
+use Rattle.cert_steps.proofs.TargetSets.{entries_kept}
 use Rattle.cert_matching.specs.LeastFailures.{IsFirstFailure}
 use Rattle.cert_questions.specs.Cases.{undecided}
 use Rattle.cert_questions.specs.Questions.{ActionPassParts, QuestionParts, IsAskedOf, MatchAt}
 use Rattle.cert_questions.specs.Passes.{PassParts}
 use Rattle.cert_matching.proofs.LeastFailures.{Below, unbounded}
 use Rattle.cert_questions.proofs.Passes.{grown}
-use Rattle.cert_checker.proofs.PairTurns.{by_path, left_entries, right_entries, pair_posed, pair_told}
+use Rattle.cert_checker.proofs.PairTurns.{by_path, pair_posed, pair_told}
 use Rattle.cert_questions.proofs.PosedQuestions.{question_of, left_steps, right_steps, left_numbers, right_numbers, own_test}
 use Rattle.cert_checker.proofs.places.pair_failure.Goals as goal
 
@@ -78,43 +79,11 @@ of-requires-clause-pair_test c =
 
 pub of-requires-clause-left : goal.of-requires-clause-left
 of-requires-clause-left c =
-    let p = c.args.pass.now in
-    let action_pass = c.args.action_pass.now in
-    let r = c.args.pair.now in
-    let t : c.pass.inside.tables ≡ p.tables = ap (λ (z : PassParts). z.tables) c.pass.view_is in
-    let a : c.action_pass.inside.action ≡ action_pass.action = ap (λ (z : ActionPassParts). z.action) c.action_pass.view_is in
-    let l : c.as_slice.result.now ≡ r.left = c.as_slice.ensures ∙ ap (λ (z : PairParts). z.left) c.pair.view_is in
-    let k : c.as_slice-2.result.now ≡ r.right = c.as_slice-2.ensures ∙ ap (λ (z : PairParts). z.right) c.pair.view_is in
-    let mid = c.of_set.new.tables in
-    let to_mid = subst (λ z. TablesGrow z mid) t c.of_set.ensures.grows.grows in
-    let last = c.of_set-2.new.tables in
     let to_last = c.of_set-2.ensures.grows.grows in
-    let lefts = c.in_ok-left.left.entries in
-    let rights = c.in_ok-right.right.entries in
-    let own = (by_path (λ i. StandFor mid lefts (set_leads_to (a i) (terms_of (nodes_in (t i)) (l i))))).0 c.in_ok-left.ensures.targets in
-    let other = (by_path (λ i. StandFor last rights (set_leads_to (a i) (terms_of (nodes_in mid) (k i))))).0 c.in_ok-right.ensures.targets in
-    let test : c.pair.inside.test ≡ r.test = ap (λ (z : PairParts). z.test) c.pair.view_is in
-    left_entries p mid last c.requires.pass to_mid to_last action_pass c.requires.action_pass r c.requires.pair lefts rights own other
+    entries_kept c.of_set.new.tables c.of_set-2.new.tables to_last.was to_last c.in_ok-left.left.entries c.in_ok-left.ensures.targets.entries
 
 pub of-requires-clause-right : goal.of-requires-clause-right
-of-requires-clause-right c =
-    let p = c.args.pass.now in
-    let action_pass = c.args.action_pass.now in
-    let r = c.args.pair.now in
-    let t : c.pass.inside.tables ≡ p.tables = ap (λ (z : PassParts). z.tables) c.pass.view_is in
-    let a : c.action_pass.inside.action ≡ action_pass.action = ap (λ (z : ActionPassParts). z.action) c.action_pass.view_is in
-    let l : c.as_slice.result.now ≡ r.left = c.as_slice.ensures ∙ ap (λ (z : PairParts). z.left) c.pair.view_is in
-    let k : c.as_slice-2.result.now ≡ r.right = c.as_slice-2.ensures ∙ ap (λ (z : PairParts). z.right) c.pair.view_is in
-    let mid = c.of_set.new.tables in
-    let to_mid = subst (λ z. TablesGrow z mid) t c.of_set.ensures.grows.grows in
-    let last = c.of_set-2.new.tables in
-    let to_last = c.of_set-2.ensures.grows.grows in
-    let lefts = c.in_ok-left.left.entries in
-    let rights = c.in_ok-right.right.entries in
-    let own = (by_path (λ i. StandFor mid lefts (set_leads_to (a i) (terms_of (nodes_in (t i)) (l i))))).0 c.in_ok-left.ensures.targets in
-    let other = (by_path (λ i. StandFor last rights (set_leads_to (a i) (terms_of (nodes_in mid) (k i))))).0 c.in_ok-right.ensures.targets in
-    let test : c.pair.inside.test ≡ r.test = ap (λ (z : PairParts). z.test) c.pair.view_is in
-    right_entries p mid last c.requires.pass to_mid to_last action_pass c.requires.action_pass r c.requires.pair lefts rights own other
+of-requires-clause-right c = c.in_ok-right.ensures.targets.entries
 
 pub least_failure-requires-clause-question : goal.least_failure-requires-clause-question
 least_failure-requires-clause-question c =
