@@ -84,7 +84,7 @@ PARTS = [
 CONSTANT = re.compile(r"(?m)^((?:///.*\n)*)(pub(?:\(crate\))? const (\w+): [^;]*;)$")
 HEAD = re.compile(r"(?:(?:abbrev|opaque|unfoldable|pub|record|data|mutual)\s+)+(\S+)")
 USE = re.compile(r"(?m)^[ \t]*(?:ghost )?use ([\w.]+?)\.\{([^}]*)\}")
-PASSED = re.compile(r"(?m)^pub use ([\w.]+)\.(\w+)$")
+PASSED = re.compile(r"(?m)^pub use (Rattle\.\w+\.specs\.[\w.]+)$")
 WORD = re.compile(r"[\s\[\](){},;.λ×]+")
 
 
@@ -95,6 +95,15 @@ def imports(text):
         for item in filter(None, (it.strip() for it in items.split(","))):
             name, _, alias = item.partition(" as ")
             found[(alias or name).strip()] = module, name.strip()
+    return found
+
+
+def passed_modules():
+    """What the modules stand for that the crates' specs/Lib.antt pass on from the crates below."""
+    found = {}
+    for path in TOP.glob("crates/*/specs/Lib.antt"):
+        for module in PASSED.findall(path.read_text()):
+            found[f"Rattle.{path.parent.parent.name}.specs.{module.rpartition('.')[2]}"] = module
     return found
 
 
@@ -124,7 +133,8 @@ class Specs:
     """All definitions of the crates' specs/, by module and name, and what the names of each module stand for."""
 
     def __init__(self):
-        self.found, self.imported, self.passed, self.kit = {}, {}, {}, set()
+        self.found, self.imported, self.kit = {}, {}, set()
+        self.passed = passed_modules()
         for path in sorted(TOP.glob("crates/*/specs/**/*.antt")):
             below = path.relative_to(TOP / "crates").with_suffix("").parts
             self.read(path, ".".join(["Rattle", *below]))
@@ -143,9 +153,6 @@ class Specs:
     def read(self, path, module):
         text = path.read_text()
         self.imported[module] = imports(text)
-        # a file of a lower crate that a Lib.antt passes on
-        for lower, name in PASSED.findall(text):
-            self.passed[f"{module.removesuffix('.Lib')}.{name}"] = f"{lower}.{name}"
         now, comment = None, []
         for number, line in enumerate(text.split("\n"), 1):
             if line.startswith("-- ----"):
@@ -168,11 +175,16 @@ class Specs:
                 if constructor and " data " in f" {now.head} ":
                     self.found.setdefault((module, constructor[1]), now)
 
+    def home(self, known):
+        """Where a name is defined: a crate may pass on modules of the crates below it."""
+        while known and known[0] in self.passed:
+            known = self.passed[known[0]], known[1]
+        return known
+
     def named(self, parts, module, imported):
         """The definitions that these words name in a file of that module."""
         for part in parts:
-            known = imported.get(part)
-            known = known and (self.passed.get(known[0], known[0]), known[1])
+            known = self.home(imported.get(part))
             if known and known[0].startswith("Rattle.std"):
                 self.kit.add(known)
             found = self.found.get(known) or self.found.get((module, part))
@@ -264,7 +276,7 @@ def shown(definitions):
 
 def roots_of(part, specs, lines):
     """The definitions that the part's clauses name; the clauses themselves are added to the lines."""
-    roots = [specs.found[f"Rattle.{crate}.specs.{module}", name] for crate, module, name in part.names]
+    roots = [specs.found[specs.home((f"Rattle.{crate}.specs.{module}", name))] for crate, module, name in part.names]
     asked = [function(*clause) for clause in part.clauses] + [traits(path) for path in part.traits]
     for texts, imported in asked:
         lines += ["```rust", *texts, "```", ""]

@@ -21,10 +21,10 @@ use Rattle.file_parts.specs.Files.{FileParts}
 use Rattle.file_parts.specs.Concrete.{IsStoreOf}
 use Rattle.file_parts.specs.Ranges.{IsCondInRange, IsProgInRange}
 use Rattle.abstraction.specs.Abstracts.{test_rows_of, action_rows_of}
-use Rattle.abstraction.specs.Comparisons.{Assignment, cond_comparisons, prog_comparisons, prog_assignments}
+use Rattle.abstract_tables.specs.Comparisons.{Assignment, cond_comparisons, prog_comparisons, prog_assignments}
 use Rattle.abstraction.specs.Readings.{Reading, holds_by, LeadsBy, row_by, StepsBy}
-use Rattle.abstraction.specs.Tests.{cond_test, assignment_action, prog_flow}
-use Rattle.abstraction.proofs.ProgramRuns.{guarded_relates, relates_guarded}
+use Rattle.abstract_tables.specs.Tests.{cond_test, assignment_action, prog_flow}
+use Rattle.abstract_tables.proofs.ProgramRuns.{guarded_relates, relates_guarded}
 use Rattle.abstraction.proofs.RowTruths.{tables_with, assigned, two_within, three_within, named_truth, form_truth, assigned_row, named_row, assigned_store}
 
 module _ (f : FileParts) (cs : List Atomic) (xs : List Assignment) (r : Reading) where

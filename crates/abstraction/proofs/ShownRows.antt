@@ -13,9 +13,9 @@ use Rattle.abstraction.specs.declared.rows.ActionRow.{ActionRow}
 use Rattle.abstraction.specs.declared.rows.ActionRow.TheVariants as action
 use Rattle.abstraction.specs.declared.rows.TestRow.{TestRow}
 use Rattle.abstraction.specs.declared.rows.TestRow.TheVariants as test
-use Rattle.abstraction.specs.Comparisons.{Assignment}
-use Rattle.abstraction.specs.Tables.{Tables, first_comparisons, file_assignments}
-use Rattle.abstraction.specs.Rounds.{tables_of}
+use Rattle.abstract_tables.specs.Comparisons.{Assignment}
+use Rattle.abstract_tables.specs.Tables.{Tables, first_comparisons, file_assignments}
+use Rattle.abstract_tables.specs.Rounds.{tables_of}
 use Rattle.abstraction.specs.Abstracts.{AbstractParts, abstract_of, abstract_parts, file_problem}
 use Rattle.abstraction.specs.ShownTables.{declared_tests, row_comparisons, declared_actions, row_assignments, shown_tables}
 

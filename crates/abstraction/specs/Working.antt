@@ -1,5 +1,1 @@
-pub mod StatementFlows
-pub mod ConstantForms
-pub mod PairFacts
-pub mod PairTests
 pub mod FileTables

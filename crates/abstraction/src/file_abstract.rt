@@ -4,20 +4,18 @@ ghost use Rattle.std.specs.List.{range_with_len};
 ghost use Rattle.kat_model.specs.Trees.{kat_tree};
 ghost use Rattle.goal_forms.specs.Sides.{side_trees};
 ghost use Rattle.file_parts.specs.Trees.{goal_tree};
-ghost use Rattle.abstraction.specs.Comparisons.{Assignment};
-ghost use Rattle.abstraction.specs.Facts.{Hypothesis};
+ghost use Rattle.abstract_tables.specs.Comparisons.{Assignment};
+ghost use Rattle.abstract_hypotheses.specs.Facts.{Hypothesis};
 ghost use Rattle.abstraction.specs.Laws.{DerivedHold, AgreesWhereSame};
 ghost use Rattle.abstraction.specs.Abstracts.{with_goal, HasNumbersInRange, IsAbstraction};
 ghost use Rattle.abstraction.specs.Working.FileTables.{parts_with, IsWithinLimits};
 
-use crate::facts::RuledTerm;
 use crate::fault::AbstractFault;
 use crate::file_tables::file_tables;
-use crate::goals::goal_sides;
-use crate::hypotheses::hypotheses;
 use crate::problem::Abstract;
-use crate::rows::{ActionRow, Rule, TestRow};
-use crate::tables::{AssignedForm, RowTables};
+use crate::rows::{ActionRow, TestRow};
+use abstract_hypotheses::{Rule, RuledTerm, hypotheses_of};
+use abstract_tables::{AssignedForm, RowTables, goal_sides};
 use file_parts::{File, Goal};
 use goal_forms::Sides;
 use kat_model::{Kat, NoMemory, Problem};
@@ -59,6 +57,14 @@ fn test_rows(
     Ok(rows)
 }
 
+// Returns the row of an action that is this assignment.
+fn action_row(assigned: AssignedForm) -> ActionRow
+    ensures { result ≡ ActionRow.Assign assigned.var assigned.form }
+{
+    let (var, form) = assigned.into_parts();
+    ActionRow::Assign(var, form)
+}
+
 // Returns the rows of all actions.
 fn action_rows(
     alloc: Global,
@@ -69,7 +75,7 @@ fn action_rows(
 {
     let mut rows = declared_actions(alloc, declared)?;
     for assigned in assignments {
-        rows.push(assigned.into_row())?;
+        rows.push(action_row(assigned))?;
     }
     Ok(rows)
 }
@@ -138,7 +144,7 @@ fn make_abstract(alloc: Global, file: &File, goal: &Goal) -> Result<Abstract, Ab
 {
     let tables = file_tables(alloc, file, goal)?;
     let sides = goal_sides(alloc, &tables, goal)?;
-    let hyps = hypotheses(alloc, &tables, &file.hyps)?;
+    let hyps = hypotheses_of(alloc, &tables, &file.hyps)?;
     abstract_with(alloc, tables, sides, hyps)
 }
 

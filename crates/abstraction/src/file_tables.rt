@@ -3,16 +3,13 @@ ghost use Rattle.std.specs.Prelude.{◌≡◌, ◌+◌, ◌-◌, ◌≤◌, leng
 ghost use Rattle.kat_model.specs.Stores.{modulus};
 ghost use Rattle.kat_model.specs.declared.limits.TheConstants.{MAX_TESTS, MAX_ACTIONS};
 ghost use Rattle.file_parts.specs.Trees.{goal_tree};
-ghost use Rattle.abstraction.specs.Tables.{first_comparisons, file_assignments};
-ghost use Rattle.abstraction.specs.Rounds.{tables_of};
+ghost use Rattle.abstract_tables.specs.Tables.{first_comparisons, file_assignments};
+ghost use Rattle.abstract_tables.specs.Rounds.{tables_of};
 ghost use Rattle.abstraction.specs.Abstracts.{with_goal};
 ghost use Rattle.abstraction.specs.Working.FileTables.{IsTestTable, IsActionTable, IsTables};
 
-use crate::assignments::first_assignments;
-use crate::comparisons::first_comparisons;
 use crate::fault::AbstractFault;
-use crate::rounds::add_rounds;
-use crate::tables::{AssignedForm, RowTables};
+use abstract_tables::{AssignedForm, RowTables, add_rounds, first_assignments, first_comparisons};
 use file_parts::{File, Goal};
 use kat_model::{MAX_ACTIONS, MAX_TESTS};
 use linear_forms::Atomic;

@@ -2,28 +2,20 @@
 //! hypotheses about assignments and comparisons.
 #![tactic(auto)]
 
-mod assignments;
-mod comparisons;
-mod conditions;
-mod facts;
 mod fault;
 mod file_abstract;
 mod file_tables;
-mod flows;
-mod goals;
-mod hypotheses;
 mod laws;
 mod problem;
-mod rounds;
 mod rows;
 mod shown;
-mod tables;
 
+pub use abstract_hypotheses::Rule;
 pub use fault::AbstractFault;
 pub use file_abstract::{abstracted, abstracted_for};
 pub use laws::{
     derived_hypotheses_hold, goals_hold_by_readings, same_sides_agree, tables_are_shown,
 };
 pub use problem::Abstract;
-pub use rows::{ActionRow, Rule, TestRow};
+pub use rows::{ActionRow, TestRow};
 pub use shown::{flow_of, test_of};

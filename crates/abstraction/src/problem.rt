@@ -1,7 +1,8 @@
 //! The problem of a file.
 ghost use Rattle.std.specs.Prelude.{◌≡◌};
 
-use crate::rows::{ActionRow, Rule, TestRow};
+use crate::rows::{ActionRow, TestRow};
+use abstract_hypotheses::Rule;
 use kat_model::{Problem, Width};
 use std::marker::Model;
 

@@ -7,7 +7,7 @@ use Rattle.kat_model.specs.Trees.{Term, kat_tree}
 use Rattle.text_print.specs.Printing.{name_of}
 use Rattle.file_parts.specs.Files.{FileParts}
 use Rattle.abstraction.specs.Abstracts.{AbstractParts}
-use Rattle.abstraction.specs.declared.rows.Rule.{Rule}
+use Rattle.abstraction.specs.Rule.{Rule}
 use Rattle.certificate.specs.Certs.{CertParts}
 use Rattle.tool_explain.specs.Used.{marked}
 use Rattle.tool_explain.specs.Certificates.{pairs_line, count_line, rules_text, certificate_text}

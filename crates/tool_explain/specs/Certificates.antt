@@ -9,8 +9,8 @@ use Rattle.text_print.specs.Printing.{name_of}
 use Rattle.problem_texts.specs.Questions.{hyp_text}
 use Rattle.file_parts.specs.Files.{FileParts}
 use Rattle.abstraction.specs.Abstracts.{AbstractParts}
-use Rattle.abstraction.specs.declared.rows.Rule.{Rule}
-use Rattle.abstraction.specs.declared.rows.Rule.TheVariants.{Stated, Assign, F1, F2, F3, F4, F5, F6}
+use Rattle.abstraction.specs.Rule.{Rule}
+use Rattle.abstraction.specs.Rule.TheVariants.{Stated, Assign, F1, F2, F3, F4, F5, F6}
 use Rattle.certificate.specs.Certs.{CertParts}
 use Rattle.certificate.specs.Accepted.{IsAccepted}
 use Rattle.certificate.specs.declared.nodes.Style.{Style}

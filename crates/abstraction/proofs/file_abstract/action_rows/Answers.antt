@@ -1,5 +1,5 @@
 use Rattle.std.proofs.Common.{◌++◌, ◌∙◌, map, sym, ap}
-use Rattle.abstraction.specs.Comparisons.{Assignment}
+use Rattle.abstract_tables.specs.Comparisons.{Assignment}
 use Rattle.abstraction.specs.declared.rows.ActionRow.{ActionRow}
 use Rattle.abstraction.specs.declared.rows.ActionRow.TheVariants.{Assign}
 use Rattle.abstraction.proofs.MovedRows.{moved, moved_all}
@@ -14,7 +14,7 @@ loop-assigned-init c = ap (λ l. c.in_ok-rows.rows.items ++ map assign_row l) c.
 pub loop-assigned-preserved : goal.loop-assigned-preserved
 loop-assigned-preserved c =
     moved assign_row c.loop-assigned.rows.items c.loop-assigned.assigned-iterator.rest.items _ c.loop-assigned.invariant
-    c.push.new.self.items c.next.new.self.rest.items c.in-Some.assigned c.into_row.result c.in_ok-push.ensures.items c.into_row.ensures c.in-Some.ensures.steps.0
+    c.push.new.self.items c.next.new.self.rest.items c.in-Some.assigned c.action_row.result c.in_ok-push.ensures.items c.action_row.ensures c.in-Some.ensures.steps.0
 
 pub returns : goal.returns
 returns c =

@@ -1,0 +1,4 @@
+pub mod ConstantForms
+pub mod NumberedRows
+pub mod SharedTests
+pub mod JoinedHypotheses

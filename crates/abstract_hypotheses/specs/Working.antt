@@ -1,0 +1,3 @@
+pub mod ConstantForms
+pub mod PairFacts
+pub mod PairTests

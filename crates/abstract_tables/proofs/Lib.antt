@@ -1,0 +1,10 @@
+pub mod SameRows
+pub mod StatementRows
+pub mod GatheredRows
+pub mod AppendedRows
+pub mod FlowLists
+pub mod TestRanges
+pub mod EachElement
+pub mod TableForms
+pub mod GoalRows
+pub mod ProgramRuns
