@@ -1,5 +1,5 @@
 //! Guarded strings and finite tables, and what a term relates in them: states of a table by evaluation over it, and
-//! positions of a string by one pass over it.
+//! positions of a string by passes over it. Functions that return a `Result` fail only when out of memory.
 #![tactic(auto)]
 
 mod bench;

@@ -1,5 +1,6 @@
-//! Congruence under listed pairs: the pairs that a walk has listed with their index, and whether their closure joins the
-//! targets of a step, as far as the tests that a case decides determine the targets.
+//! Congruence under listed pairs: the pairs that a walk has listed with their index, and whether their closure joins
+//! the targets of a step, as far as the tests that a case decides determine the targets. Functions that return a
+//! `Result` fail only when out of memory, except `MarkSet::count_case`.
 #![tactic(auto)]
 
 mod cases;
