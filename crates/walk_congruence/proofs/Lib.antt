@@ -1,5 +1,3 @@
-pub mod Rounds
-pub mod Reached
 pub mod MarkSteps
 pub mod AllMarked
 pub mod MarkEnds
