@@ -14,7 +14,7 @@ use Rattle.kat_model.proofs.Sameness.{AcceptAlike, alike_relates, closed_relates
 use Rattle.kat_model.proofs.Splits.{split_keeps}
 use Rattle.term_nodes.specs.NodeLists.{NodeParts}
 use Rattle.walk_under.specs.TestedWalks.{TestedEntry, IsTestedWalk}
-use Rattle.walk_under.specs.Working.Listings.{entry_of, entries_of}
+use Rattle.walk_under.specs.Working.IdEntries.{entry_of, entries_of}
 use Rattle.walk_under.specs.Working.Counting.{with_counted, HasEnded}
 use Rattle.walk_under.specs.declared.walk.TestedWorklist.{TestedWorklist}
 use Rattle.walk_under.proofs.WalkSteps.{first_entry}

@@ -1,12 +1,3 @@
-pub mod Bars
-pub mod Asking
-pub mod Allowance
-pub mod Entries
-pub mod Filing
-pub mod Reaching
-pub mod Parts
-pub mod Listings
+pub mod IdEntries
 pub mod Walking
-pub mod StoredTests
-pub mod Merging
 pub mod Counting

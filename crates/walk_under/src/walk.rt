@@ -11,18 +11,13 @@ ghost use Rattle.term_nodes.specs.Growth.{Grows};
 ghost use Rattle.partial_derivs.specs.Moves.{IsTermOf};
 ghost use Rattle.partial_derivs.specs.Tables.{AreRight};
 ghost use Rattle.test_diagrams.specs.Functions.{value_of, IsDiagramId, IsAtomOf, KeepsFunctions};
-ghost use Rattle.walk_under.specs.Working.Entries.{EntryParts};
-ghost use Rattle.walk_under.specs.Working.Listings.{IsNextPart, IsLevelAtom, IsPlaceWith};
-ghost use Rattle.walk_under.specs.Working.Merging.{AreMergedIds};
+ghost use Rattle.walk_entries.specs.Entries.{EntryParts};
+ghost use Rattle.walk_entries.specs.Listings.{IsLevelAtom, IsPlaceWith};
+ghost use Rattle.walk_under.specs.Working.IdEntries.{IsNextPart};
+ghost use Rattle.walk_entries.specs.Merging.{AreMergedIds};
 ghost use Rattle.walk_under.specs.Working.Walking.{WalkContext, walk_context, first_ids, new_ids, AreClosedIds, IsUnderWay, IsAtSource, IsOpenAt, IsVisited, AreNextItems, IsTaking, IsTakenPair, HasStepped, IsDifference, TellApart, AcceptAlike, IsRunEnd};
 ghost use Rattle.walk_under.specs.declared.walk.RunEnd.TheVariants.{Full};
 
-use crate::allowed::AllowedMoves;
-use crate::entry::{Entry, StepOrigin};
-use crate::entry_list::EntryList;
-use crate::listing::{Listing, TargetSets, listed_atoms, place_with, unlisted_part};
-use crate::merging::merged_pairs;
-use crate::parts::{Part, differing_part, parts_of};
 use kat_model::{Items, NoMemory};
 use partial_derivs::Derivatives;
 use std::alloc::Global;
@@ -30,6 +25,11 @@ use std::mem;
 use string_tables::{GString, Move};
 use term_store::{Store, TermId};
 use test_diagrams::{DiagramId, Diagrams};
+use walk_entries::{
+    Entry, EntryList, Listing, Part, StepOrigin, TargetSets, differing_part, listed_atoms,
+    merged_pairs, parts_of, place_with, unlisted_part,
+};
+use walk_moves::AllowedMoves;
 use walk_pairs::{
     BothSteps, ClosedIds, Item, StoredPair, actions_in_order, difference, differing_atom, items_of,
 };
@@ -251,7 +251,7 @@ impl TestedWorklist {
             shorts,
             actions,
         )?;
-        let entry = first_entry(alloc, sides, moves.allowed())?;
+        let entry = first_entry(alloc, sides, moves.allowed)?;
         let mut entries = EntryList::new(alloc);
         entries.push(alloc, entry)?;
         self.listing = Listing {

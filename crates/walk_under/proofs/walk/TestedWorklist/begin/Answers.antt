@@ -1,8 +1,7 @@
 use Rattle.std.proofs.Common.{List, ◌∷◌, ◌++◌, [], map, refl, ap, ◌∙◌, subst}
 use Rattle.term_nodes.specs.NodeTrees.{tree_at}
-use Rattle.walk_under.specs.Working.Entries.{EntryParts}
-use Rattle.walk_under.specs.Working.Allowance.{IsAllowance}
-use Rattle.walk_under.specs.Working.Walking.{first_ids}
+use Rattle.walk_entries.specs.Entries.{EntryParts}
+use Rattle.walk_moves.specs.Allowance.{IsAllowance}
 use Rattle.walk_under.specs.declared.walk.TestedWorklist.{TestedWorklist}
 use Rattle.walk_under.proofs.Running.{walk_begun}
 use Rattle.walk_under.proofs.walk.TestedWorklist.begin.Goals as goal
@@ -17,7 +16,7 @@ returns-clause-under_way c q tests actions ids =
     (subst (λ n. IsAllowance c.of_hyps.new.diagrams shorts n moves) actions c.in_ok-moves.ensures.allowance) c.in_ok-moves.ensures.right c.count.ensures.store
     (c.in_ok-push.ensures.items
     ∙ ap (λ (l : List EntryParts). l ++ c.in_ok-entry.entry ∷ []) c.new-entries.ensures.items
-    ∙ ap (λ (e : EntryParts). e ∷ []) (c.in_ok-entry.ensures ∙ ap (first_ids sides) c.allowed.ensures))
+    ∙ ap (λ (e : EntryParts). e ∷ []) c.in_ok-entry.ensures)
     refl
 
 pub returns-clause-kept : goal.returns-clause-kept

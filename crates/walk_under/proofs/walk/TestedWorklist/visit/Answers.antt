@@ -3,22 +3,21 @@ use Rattle.std.specs.Bool.{IsTrue}
 use Rattle.std.proofs.lemmas.Bool.{eqb-true, eqb-false}
 use Rattle.std.proofs.lemmas.List.{take_all}
 use Rattle.kat_model.specs.Members.{Has}
-use Rattle.partial_derivs.proofs.Items.{take_item}
+use Rattle.partial_derivs.proofs.Items.{has_item, take_item}
 use Rattle.test_diagrams.specs.Functions.{DiagramsParts, value_of, IsAtomOf, KeepsFunctions}
 use Rattle.test_diagrams.proofs.Kept.{KeepsFunctions-itself, KeepsFunctions-trans}
 use Rattle.walk_pairs.specs.declared.items.Item.{Item}
-use Rattle.walk_under.specs.declared.parts.Part.{Part}
+use Rattle.walk_entries.specs.declared.parts.Part.{Part}
 use Rattle.walk_under.specs.declared.walk.TestedWorklist.{TestedWorklist}
 use Rattle.walk_under.specs.declared.walk.StepSource.{StepSource}
-use Rattle.walk_under.specs.Working.Entries.{EntryParts}
-use Rattle.walk_under.specs.Working.Allowance.{IsWithin}
-use Rattle.walk_under.specs.Working.Reaching.{IsPartOf}
-use Rattle.walk_under.specs.Working.Parts.{HasPartAt, AreParts}
-use Rattle.walk_under.specs.Working.Listings.{IsNextPart}
+use Rattle.walk_entries.specs.Entries.{EntryParts}
+use Rattle.walk_moves.specs.Allowance.{IsWithin}
+use Rattle.walk_entries.specs.Reaching.{IsPartOf}
+use Rattle.walk_entries.specs.Parts.{HasPartAt, AreParts}
+use Rattle.walk_under.specs.Working.IdEntries.{IsNextPart}
 use Rattle.walk_under.specs.Working.Walking.{WalkContext, IsAtSource, AreNextItems}
-use Rattle.walk_under.proofs.AllowedImages.{within_kept}
-use Rattle.walk_under.proofs.PartCases.{region_somewhere, part_at_last}
-use Rattle.hypothesis_counts.proofs.ShortIds.{read_item}
+use Rattle.walk_moves.proofs.AllowedImages.{within_kept}
+use Rattle.walk_entries.proofs.PartCases.{region_somewhere, part_at_last}
 use Rattle.walk_under.proofs.Standing.{next_part_kept, source_later}
 use Rattle.walk_under.proofs.Visiting.{visited_then, visited_part, visited_nowhere, visited_from, next_items_kept, next_same, part_next}
 use Rattle.walk_under.proofs.walk.TestedWorklist.visit.Goals as goal
@@ -94,7 +93,7 @@ visit_part-requires-clause-stands c =
     let nexts = parts_next s w x y k l source from c.args.items.now c.in_ok-region.region c.in_ok-parts.parts.items c.requires.stands.2 c.requires.stands.3 c.in_ok-region.ensures.part c.in_ok-parts.ensures.parts in
     let inv = c.loop-part.invariant s from here (λ p h. nexts p (subst (λ (ps : List Part). Has ps p) c.deref-part-items.ensures.value h)) in
     let part : Part = c.part-item.result in
-    let member = read_item c.deref-part-items.result.now c.loop-part.part-index part c.loop-part-test.true c.part-item.is in
+    let member = has_item c.deref-part-items.result.now c.loop-part.part-index part c.loop-part-test.true c.part-item.is in
     let own = nexts part (subst (λ (ps : List Part). Has ps part) c.deref-part-items.ensures.value member) in
     (s, from, inv.stands, next_part_kept s.store y c.loop-part.self.diagrams inv.kept from source.test source.act part here.atoms.is_id own)
 
@@ -108,7 +107,7 @@ loop-part-preserved c s from here nexts =
     let k = c.loop-part.part-index in
     let part : Part = c.part-item.result in
     let inv = c.loop-part.invariant s from here nexts in
-    let member = read_item parts k part c.loop-part-test.true c.part-item.is in
+    let member = has_item parts k part c.loop-part-test.true c.part-item.is in
     let own = next_part_kept s.store y.diagrams v.diagrams inv.kept from source.test source.act part here.atoms.is_id (nexts part member) in
     let step = c.in_ok-visit_part.ensures s from inv.stands own in
     visited_part s source from y c.visit_part.new.self _ (λ atom. HasPartAt y.diagrams (take (k + 1) parts) atom)

@@ -1,9 +1,9 @@
 use Rattle.std.proofs.Common.{take}
 use Rattle.kat_model.specs.Members.{Has}
-use Rattle.walk_under.specs.declared.parts.Part.{Part}
-use Rattle.walk_under.specs.Working.Entries.{EntryParts}
-use Rattle.walk_under.specs.Working.Parts.{HasPartAt}
-use Rattle.walk_under.specs.Working.Listings.{IsNextPart}
+use Rattle.walk_entries.specs.declared.parts.Part.{Part}
+use Rattle.walk_entries.specs.Entries.{EntryParts}
+use Rattle.walk_entries.specs.Parts.{HasPartAt}
+use Rattle.walk_under.specs.Working.IdEntries.{IsNextPart}
 use Rattle.walk_under.specs.Working.Walking.{WalkContext, IsAtSource, IsVisited}
 use Rattle.walk_under.proofs.walk.TestedWorklist.visit.Given as goal
 

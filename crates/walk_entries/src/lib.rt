@@ -1,0 +1,17 @@
+//! The listed pairs of a walk under tests, each with the atoms at which it was reached: lookup by sets, joining of sets at
+//! atoms, the parts into which a step divides its atoms, and the merged pairs.
+#![tactic(auto)]
+
+mod entry;
+mod entry_list;
+mod listing;
+mod merging;
+mod parts;
+mod reaching;
+mod test_table;
+
+pub use entry::{Entry, StepOrigin};
+pub use entry_list::EntryList;
+pub use listing::{Listing, TargetSets, listed_atoms, place_with, unlisted_part};
+pub use merging::merged_pairs;
+pub use parts::{Part, differing_part, parts_of};

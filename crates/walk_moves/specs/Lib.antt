@@ -1,0 +1,3 @@
+pub mod Bars
+pub mod Allowance
+pub mod Working
