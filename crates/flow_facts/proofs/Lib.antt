@@ -1,6 +1,5 @@
 pub mod CappedHypotheses
 pub mod SameTests
-pub mod ArcTests
 pub mod ArcFacts
 pub mod FactsByList
 pub mod IntervalSteps

@@ -1,7 +1,6 @@
 //! Facts between the tests of a flow problem, each as a hypothesis: a term that relates no states.
 #![tactic(auto)]
 
-mod arcs;
 mod completion;
 mod facts;
 mod hypothesis;

@@ -4,7 +4,7 @@ use Rattle.std.proofs.lemmas.Result.{on_ok_weaker}
 use Rattle.kat_model.specs.Stores.{modulus}
 use Rattle.kat_model.specs.declared.limits.TheConstants.{MAX_HYPS}
 use Rattle.flow_facts.specs.HypothesisViews.{flow_hypothesis}
-use Rattle.flow_facts.specs.ArcViews.{arc_of}
+use Rattle.flow_arcs.specs.ArcViews.{arc_of}
 use Rattle.flow_facts.proofs.FactsByList.{three_signs}
 use Rattle.flow_facts.proofs.interval_facts.add_three_arc_facts.Goals as goal
 
