@@ -4,7 +4,7 @@ use Rattle.kat_model.specs.Members.{Has, IsSubset}
 use Rattle.kat_model.specs.Stores.{modulus}
 use Rattle.kat_model.proofs.Lists.{has_left}
 use Rattle.unique_rows.proofs.RowMembers.{with_all_new_has}
-use Rattle.linear_forms.specs.declared.comparison.Atomic.{Atomic}
+use Rattle.linear_forms.specs.Atomic.{Atomic}
 use Rattle.file_parts.specs.Files.{FileParts}
 use Rattle.abstract_tables.specs.Comparisons.{Assignment, goal_comparisons, goal_assignments}
 use Rattle.linear_forms.specs.Sameness.{is_same_comparison}

@@ -3,7 +3,7 @@ use Rattle.std.specs.Prelude.{ℕ, List, [], Bool, ◌&&◌, nat_eq}
 use Rattle.kat_model.specs.Stores.{modulus}
 use Rattle.kat_model.specs.declared.expression.Width.{Width}
 use Rattle.linear_forms.specs.Sameness.{is_same_form, is_same_comparison}
-use Rattle.linear_forms.specs.declared.comparison.Atomic.{Atomic}
+use Rattle.linear_forms.specs.Atomic.{Atomic}
 use Rattle.unique_rows.specs.UniqueRows.{with_all_new}
 use Rattle.file_parts.specs.Files.{FileParts}
 use Rattle.abstract_tables.specs.Comparisons.{Assignment, goal_comparisons, goal_assignments}

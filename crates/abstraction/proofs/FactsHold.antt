@@ -9,8 +9,8 @@ use Rattle.linear_forms.specs.Forms.{FormTree, constant, var_term, product_term}
 use Rattle.linear_forms.specs.Arithmetic.{form_sum, form_difference}
 use Rattle.linear_forms.specs.Values.{form_value}
 use Rattle.linear_forms.specs.Comparisons.{atomic_holds, canonical}
-use Rattle.linear_forms.specs.declared.comparison.Atomic.{Atomic}
-use Rattle.linear_forms.specs.declared.comparison.Atomic.TheVariants.{Zero, Less}
+use Rattle.linear_forms.specs.Atomic.{Atomic}
+use Rattle.linear_forms.specs.Atomic.TheVariants.{Zero, Less}
 use Rattle.abstract_hypotheses.specs.declared.rule.Rule.{Rule}
 use Rattle.abstract_hypotheses.specs.declared.rule.Rule.TheVariants.{F1, F2, F3, F4, F5, F6}
 use Rattle.linear_forms.specs.Sameness.{is_same_form}

@@ -16,9 +16,9 @@ use Rattle.kat_model.proofs.Places.{slice_get-append_left}
 use Rattle.linear_forms.specs.Values.{form_value}
 use Rattle.linear_forms.specs.Arithmetic.{normal_form}
 use Rattle.linear_forms.specs.Comparisons.{atomic_holds, cond_form_holds, comparison_form}
-use Rattle.linear_forms.specs.declared.comparison.Atomic.{Atomic}
-use Rattle.linear_forms.specs.declared.comparison.CondForm.{CondForm}
-use Rattle.linear_forms.specs.declared.comparison.CondForm.TheVariants.{True, False, Pos, Neg}
+use Rattle.linear_forms.specs.Atomic.{Atomic}
+use Rattle.linear_forms.specs.CondForm.{CondForm}
+use Rattle.linear_forms.specs.CondForm.TheVariants.{True, False, Pos, Neg}
 use Rattle.linear_forms.proofs.StoredValues.{value_below, form_value-normal_form}
 use Rattle.linear_forms.proofs.Truths.{comparison_form_holds}
 use Rattle.while_lang.specs.Programs.{ProgTree, empty, skip_then, abort_then, assert_then, act_then, assign_then, branch_then, loop_then}

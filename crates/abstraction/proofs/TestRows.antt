@@ -8,9 +8,9 @@ use Rattle.kat_model.specs.Trees.{TestTree, bottom, top, prim, complement}
 use Rattle.kat_model.specs.Stores.{Store}
 use Rattle.kat_model.specs.Steps.{Atom, truth}
 use Rattle.linear_forms.specs.Comparisons.{IsAtomic, atomic_holds, cond_form_holds}
-use Rattle.linear_forms.specs.declared.comparison.Atomic.{Atomic}
-use Rattle.linear_forms.specs.declared.comparison.CondForm.{CondForm}
-use Rattle.linear_forms.specs.declared.comparison.CondForm.TheVariants.{True, False, Pos, Neg}
+use Rattle.linear_forms.specs.Atomic.{Atomic}
+use Rattle.linear_forms.specs.CondForm.{CondForm}
+use Rattle.linear_forms.specs.CondForm.TheVariants.{True, False, Pos, Neg}
 use Rattle.linear_forms.specs.Sameness.{is_same_comparison}
 use Rattle.abstract_tables.specs.Tables.{Tables}
 use Rattle.abstract_tables.specs.Tests.{test_number, form_test}

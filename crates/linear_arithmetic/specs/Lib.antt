@@ -1,0 +1,15 @@
+pub mod Forms
+pub mod Codes
+pub mod Ranks
+pub mod Views
+pub mod Falls
+pub mod Order
+pub mod Sameness
+pub mod Arithmetic
+pub mod Values
+pub mod Substitution
+pub mod NormalForms
+pub mod Comparisons
+pub mod Coefficients
+pub mod Laws
+pub mod Working
