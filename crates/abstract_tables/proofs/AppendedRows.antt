@@ -10,7 +10,7 @@ use Rattle.linear_forms.specs.Atomic.{Atomic}
 use Rattle.abstract_tables.specs.Comparisons.{Assignment, atomics}
 use Rattle.linear_forms.specs.Sameness.{is_same_comparison}
 use Rattle.abstract_tables.specs.Rounds.{is_appended, append_all, substitutions, round, rounds}
-use Rattle.linear_forms.proofs.Sameness.{is_same_comparison-same}
+use Rattle.linear_arithmetic.proofs.Sameness.{is_same_comparison-same}
 use Rattle.abstract_tables.specs.declared.rounds.TheConstants.{MAX_APPENDED_NODES}
 
 list_any-append : {X : Type 0} (p : X → Bool) (xs ys : List X) → list_any p xs ≡ true → list_any p (xs ++ ys) ≡ true

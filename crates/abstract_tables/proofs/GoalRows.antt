@@ -10,7 +10,7 @@ use Rattle.abstract_tables.specs.Comparisons.{Assignment, goal_comparisons, goal
 use Rattle.linear_forms.specs.Sameness.{is_same_comparison}
 use Rattle.abstract_tables.specs.Tables.{is_same_assignment, first_comparisons, file_assignments}
 use Rattle.abstract_tables.specs.Rounds.{is_appended, append_all, substitutions, round, rounds, file_comparisons}
-use Rattle.linear_forms.proofs.Sameness.{is_same_comparison-true}
+use Rattle.linear_arithmetic.proofs.Sameness.{is_same_comparison-true}
 use Rattle.abstract_tables.proofs.SameRows.{is_same_assignment-true}
 
 -- a list keeps its members when an element may be appended

@@ -9,8 +9,8 @@ use Rattle.linear_forms.specs.Comparisons.{IsAtomic, IsCondForm, comparison_form
 use Rattle.linear_forms.specs.Atomic.{Atomic}
 use Rattle.linear_forms.specs.CondForm.{CondForm}
 use Rattle.linear_forms.specs.CondForm.TheVariants.{True, False, Pos, Neg}
-use Rattle.linear_forms.proofs.StoredValues.{modulus_above_one}
-use Rattle.linear_forms.proofs.Forming.{is_form_normal, is_cond_comparison, is_cond_substituted}
+use Rattle.linear_arithmetic.proofs.StoredValues.{modulus_above_one}
+use Rattle.linear_arithmetic.proofs.Forming.{is_form_normal, is_cond_comparison, is_cond_substituted}
 use Rattle.while_lang.specs.Programs.{ProgTree, empty, skip_then, abort_then, assert_then, act_then, assign_then, branch_then, loop_then}
 use Rattle.file_parts.specs.Files.{SideTree, term_side, prog_side, GoalTree, equal, below, triple, FileParts}
 use Rattle.file_parts.specs.Ranges.{IsProgInRange, IsSideInRange, IsGoalInRange}

@@ -9,8 +9,8 @@ use Rattle.linear_forms.specs.Values.{form_value}
 use Rattle.linear_forms.specs.Comparisons.{atomic_holds, cond_form_holds, substituted}
 use Rattle.linear_forms.specs.Atomic.{Atomic}
 use Rattle.linear_forms.specs.CondForm.{CondForm}
-use Rattle.linear_forms.proofs.StoredValues.{modulus_above_one}
-use Rattle.linear_forms.proofs.Truths.{substituted_holds}
+use Rattle.linear_arithmetic.proofs.StoredValues.{modulus_above_one}
+use Rattle.linear_arithmetic.proofs.Truths.{substituted_holds}
 use Rattle.abstract_hypotheses.specs.declared.rule.Rule.TheVariants.{Assign}
 use Rattle.abstract_tables.specs.Comparisons.{Assignment}
 use Rattle.abstract_tables.specs.Tables.{Tables}

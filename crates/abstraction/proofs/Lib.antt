@@ -1,7 +1,3 @@
-pub use Rattle.abstract_tables.proofs.AppendedRows
-pub use Rattle.abstract_tables.proofs.GoalRows
-pub use Rattle.abstract_tables.proofs.ProgramRuns
-pub use Rattle.abstract_hypotheses.proofs.NumberedRows
 pub mod MovedRows
 pub mod ShownRows
 pub mod HypothesisRanges

@@ -16,7 +16,7 @@ use Rattle.abstract_tables.specs.Tables.{Tables}
 use Rattle.abstract_tables.specs.Tests.{test_number, form_test}
 use Rattle.abstract_hypotheses.specs.Facts.{TestRowOf}
 use Rattle.abstract_hypotheses.specs.Derived.{test_rows}
-use Rattle.linear_forms.proofs.Sameness.{is_same_comparison-true}
+use Rattle.linear_arithmetic.proofs.Sameness.{is_same_comparison-true}
 
 -- a row of a comparison: its forms are well formed, and the test with its number is true exactly when the comparison
 -- holds

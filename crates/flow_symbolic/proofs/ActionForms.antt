@@ -2,7 +2,7 @@
 use Rattle.std.proofs.Common.{◌≡◌, ℕ, suc, ◌+◌, ◌≤◌, ◌<◌, Bool, true, false, not, ◌&&◌, IsTrue, ◌↔◌, List, [], ◌∷◌, ◌++◌, length, Option, Some, None, if◌then◌else◌, refl, sym, ◌∙◌, ap, subst, arith}
 use mathlib.Core.Path.{ap₂}
 use Rattle.std.specs.Ordering.{is_eq}
-use Rattle.linear_forms.proofs.SameOrder.{is_eq-true}
+use Rattle.linear_arithmetic.proofs.SameOrder.{is_eq-true}
 use Rattle.flow_model.specs.declared.sort.Sort.{Sort}
 use Rattle.flow_forms.specs.Forms.{FlowFormTree, variable}
 use Rattle.flow_forms.specs.Order.{form_cmp}

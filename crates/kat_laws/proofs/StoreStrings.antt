@@ -27,8 +27,8 @@ use Rattle.abstraction.specs.StoreFrames.{store_frame}
 use Rattle.abstraction.specs.Tables.{file_assignments}
 use Rattle.abstraction.specs.Tests.{cond_test, prog_flow}
 use Rattle.abstraction.proofs.DerivedHypotheses.{abstract_parts_of}
-use Rattle.abstraction.proofs.GoalRows.{goal_comparisons_within, goal_assignments_within}
-use Rattle.abstraction.proofs.ProgramRuns.{ends_as_related}
+use Rattle.abstract_tables.proofs.GoalRows.{goal_comparisons_within, goal_assignments_within}
+use Rattle.abstract_tables.proofs.ProgramRuns.{ends_as_related}
 use Rattle.abstraction.proofs.RowTruths.{tables_with, frame_with, three_within, cond_read, prog_read}
 use Rattle.kat_laws.specs.StoreStrings.{SpellsOnStores, FailsOn}
 use Rattle.kat_laws.specs.Laws.{IsStoreRefuted}

@@ -18,8 +18,8 @@ use Rattle.abstraction.specs.Rounds.{rounds, tables_of}
 use Rattle.abstraction.specs.Facts.{Hypothesis}
 use Rattle.abstraction.specs.Derived.{stated_from, hypotheses}
 use Rattle.abstraction.specs.Abstracts.{with_goal, file_problem}
-use Rattle.abstraction.proofs.AppendedRows.{no_rounds}
-use Rattle.abstraction.proofs.NumberedRows.{stated_terms}
+use Rattle.abstract_tables.proofs.AppendedRows.{no_rounds}
+use Rattle.abstract_hypotheses.proofs.NumberedRows.{stated_terms}
 use Rattle.optimiser_theory.specs.Meanings.{declared_tables}
 
 -- ---- expressions and comparisons

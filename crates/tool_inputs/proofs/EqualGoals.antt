@@ -16,8 +16,8 @@ use Rattle.abstraction.specs.Rounds.{rounds, tables_of}
 use Rattle.abstraction.specs.Goals.{goal_sides}
 use Rattle.abstraction.specs.Derived.{stated_from, hypotheses}
 use Rattle.abstraction.specs.Abstracts.{file_problem, abstract_parts, abstract_of}
-use Rattle.abstraction.proofs.AppendedRows.{no_rounds}
-use Rattle.abstraction.proofs.NumberedRows.{stated_terms}
+use Rattle.abstract_tables.proofs.AppendedRows.{no_rounds}
+use Rattle.abstract_hypotheses.proofs.NumberedRows.{stated_terms}
 use Rattle.problem_texts.specs.Laws.{AsksEqual}
 use Rattle.tool_inputs.specs.FileProblem.{Asks}
 
