@@ -3,6 +3,7 @@
 
     python3 bench/gate.py [--anew]         runs `rt ci` and prints, for each crate, the processor seconds of its proof,
                                            of its tests and of its must-fail edits; --anew proves and tries all
+    python3 bench/gate.py --build          the same for `./kat --build`, which proves and builds the program anew
     python3 bench/gate.py --functions N..  checks these crates and their tests from nothing on one processor, over the
                                            libraries that a run left, and prints the twenty functions that took longest
 
@@ -67,10 +68,10 @@ def watch(gate, used, ended):
                 used[pid, found[0], found[1]] = found[2]
 
 
-def gate(flags):
-    """Runs the gate and prints its table."""
+def gate(words):
+    """Runs the gate, or the build of the program, and prints its table."""
     began = time.monotonic()
-    ran = subprocess.Popen(["rt", "ci", *flags], cwd=TOP, stdin=subprocess.DEVNULL, stdout=subprocess.PIPE, text=True, errors="replace")
+    ran = subprocess.Popen(words, cwd=TOP, stdin=subprocess.DEVNULL, stdout=subprocess.PIPE, text=True, errors="replace")
     used, ended = {}, threading.Event()
     looking = threading.Thread(target=watch, args=(ran, used, ended))
     looking.start()
@@ -141,6 +142,8 @@ if __name__ == "__main__":
     if sys.argv[1:2] == ["--functions"]:
         functions(sys.argv[2:])
     elif sys.argv[1:] in ([], ["--anew"]):
-        sys.exit(gate(sys.argv[1:]))
+        sys.exit(gate(["rt", "ci", *sys.argv[1:]]))
+    elif sys.argv[1:] == ["--build"]:
+        sys.exit(gate(["./kat", "--build"]))
     else:
         sys.exit(__doc__)

@@ -1,22 +1,12 @@
--- Tests of forms and sorts are those of their orders.
+-- A test of sorts is that of their order.
 use Rattle.std.proofs.Common.{◌≡◌, Bool, true, false, IsTrue, ◌↔◌, refl, sym, ap, subst, Ordering, Less, Equal, Greater}
 use Rattle.std.specs.Ordering.{is_eq}
 use Rattle.kat_model.specs.Stores.{bits}
 use Rattle.kat_model.proofs.Numbers.{nat_cmp-own}
 use Rattle.flow_model.specs.declared.sort.Sort.{Sort}
 use Rattle.flow_model.specs.declared.sort.Sort.TheVariants.{Number, Opaque}
-use Rattle.flow_forms.specs.Forms.{FlowFormTree}
-use Rattle.flow_forms.specs.Order.{sort_cmp, form_cmp}
+use Rattle.flow_forms.specs.Order.{sort_cmp}
 use Rattle.flow_forms.proofs.SameForms.{same_sort}
-use Rattle.flow_forms.proofs.SameComparisons.{one_form, own_test}
-
-pub form_answers : (r : Bool) (f g : FlowFormTree) → IsTrue r ↔ (f ≡ g) → r ≡ is_eq (form_cmp f g)
-form_answers true f g h = sym (subst (λ x. is_eq (form_cmp f x) ≡ true) (h.0 refl) (own_test f))
-form_answers false f g h = by_test (is_eq (form_cmp f g)) (one_form f g)
-  where
-    by_test : (b : Bool) → (b ≡ true → f ≡ g) → false ≡ b
-    by_test true k = h.1 (k refl)
-    by_test false k = refl
 
 own_sort : (a : Sort) → is_eq (sort_cmp a a) ≡ true
 own_sort (Number w) = ap is_eq (nat_cmp-own (bits w))

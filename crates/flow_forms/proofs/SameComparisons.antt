@@ -38,6 +38,15 @@ own_width W64 = refl
 pub own_test : (f : FlowFormTree) → is_eq (form_cmp f f) ≡ true
 own_test f = ap is_eq (own_form f)
 
+-- a test of equality is the test of the order
+pub form_answers : (r : Bool) (f g : FlowFormTree) → IsTrue r ↔ (f ≡ g) → r ≡ is_eq (form_cmp f g)
+form_answers true f g h = sym (subst (λ x. is_eq (form_cmp f x) ≡ true) (h.0 refl) (own_test f))
+form_answers false f g h = by_test (is_eq (form_cmp f g)) (one_form f g)
+  where
+    by_test : (b : Bool) → (b ≡ true → f ≡ g) → false ≡ b
+    by_test true k = h.1 (k refl)
+    by_test false k = refl
+
 pub own_comparison : (c : FlowComparisonTree) → is_same_comparison c c ≡ true
 own_comparison (zero_form w f) = ap₂ (λ x y. x && y) (own_width w) (own_test f)
 own_comparison (less_form w f g) = ap₂ (λ x y. x && y) (ap₂ (λ x y. x && y) (own_width w) (own_test f)) (own_test g)

@@ -27,7 +27,7 @@ walk_all-append : (go : ℕ → Walk → Walk) (xs ys : List ℕ) (w : Walk) →
 walk_all-append go [] ys w = refl
 walk_all-append go (x ∷ xs) ys w = walk_all-append go xs ys (go x w)
 
-filter-pushed : (p : ℕ → Bool) (xs : List ℕ) (x : ℕ) → filter p (xs ++ x ∷ []) ≡ filter p xs ++ (if p x then x ∷ [] else [])
+pub filter-pushed : (p : ℕ → Bool) (xs : List ℕ) (x : ℕ) → filter p (xs ++ x ∷ []) ≡ filter p xs ++ (if p x then x ∷ [] else [])
 filter-pushed p [] x = refl
 filter-pushed p (y ∷ xs) x = by_test (p y) (filter-pushed p xs x)
   where

@@ -49,12 +49,15 @@ place_parts : (g : Graph) (k : ℕ) → k < length g → is_place g k ≡ (is_re
 place_parts g k h =
     get_or-map-range_with_len (λ k. is_reached g k && (nat_eq k 0 || is_cut g k)) 0 (length g) k k false h (omega arith)
 
+-- each block has a mark
+pub length-marks : (g : Graph) → length (place_marks g) ≡ length g
+length-marks g = length-map-range_with_len (λ k. is_reached g k && (nat_eq k 0 || is_cut g k)) 0 (length g)
+
 pub place_within : (g : Graph) (k : ℕ) → is_place g k ≡ true → k < length g
 place_within g k e = ⊎_elim (λ h. h) (λ h. absurd (false≢true (sym (past h) ∙ e))) (cases_lt k (length g))
   where
     past : length g ≤ k → is_place g k ≡ false
-    past h =
-        get_or_past (place_marks g) k false (let l = length-map-range_with_len (λ k. is_reached g k && (nat_eq k 0 || is_cut g k)) 0 (length g) in omega (arith, l, h))
+    past h = get_or_past (place_marks g) k false (let l = length-marks g in omega (arith, l, h))
 
 pub place_reached : (g : Graph) (k : ℕ) → is_place g k ≡ true → IsReached g k
 place_reached g k e =

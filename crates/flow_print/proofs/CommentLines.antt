@@ -13,7 +13,7 @@ use Rattle.text_scopes.specs.declared.meaning.Meaning.TheVariants.{Test, Action}
 use Rattle.problem_texts.specs.Questions.{plain_name}
 use Rattle.problem_texts.specs.CommentedTexts.{IsComment, AreComments, EachAreComments, AreOneLine}
 use Rattle.problem_texts.specs.Laws.{AsksEqual}
-use Rattle.problem_texts.proofs.Comments.{comment_nil, comment_append, comment_chosen, shown_comment, comment_decimal, comment_name}
+use Rattle.problem_texts.proofs.Comments.{comment_nil, comment_append, comment_chosen, shown_comment, comment_decimal, comment_name, plain_test, plain_action}
 use Rattle.problem_texts.proofs.PlainNames.{plain_are_names}
 use Rattle.problem_texts.proofs.PlainReadings.{commented_reads_back}
 use Rattle.flow_forms.specs.Forms.{FlowFormTree, constant, term, one, factor, variable, applied, converted, no_arguments, argument}
@@ -175,12 +175,6 @@ module _ (names : NameTable) (lines : AreLines names) where
   action_line (given rs) = comment_append (codes "return ") (results_text names true rs) (shown_comment (codes "return ") refl) (results_line true rs)
 
 -- ---- rows and reasons
-
-plain_test : (k : ℕ) → IsComment (plain_name (Test k))
-plain_test k = comment_append (codes "t") (decimal k) (shown_comment (codes "t") refl) (comment_decimal k)
-
-plain_action : (k : ℕ) → IsComment (plain_name (Action k))
-plain_action k = comment_append (codes "a") (decimal k) (shown_comment (codes "a") refl) (comment_decimal k)
 
 row_line : (m : Meaning) (text : List ℕ) → IsComment (plain_name m) → IsComment text → IsComment (row_comment m text)
 row_line m text name is = four_lines (codes " ") (plain_name m) (codes " is ") text (shown_comment (codes " ") refl) name (shown_comment (codes " is ") refl) is

@@ -1,6 +1,5 @@
 -- The functions write the text, part by part.
 use Rattle.std.proofs.Common.{◌≡◌, ◌≤◌, ◌<◌, ◌+◌, ℕ, zero, suc, List, [], ◌∷◌, ◌++◌, length, map, drop, get_or, refl, sym, ap, ◌∙◌, arith, append_assoc}
-use Rattle.std.specs.Prelude.{codes}
 use Rattle.kat_model.specs.declared.limits.TheConstants.{MAX_TESTS, MAX_ACTIONS}
 use Rattle.kat_model.specs.declared.tree.Kat.{Kat}
 use Rattle.kat_model.specs.Trees.{Term, kat_tree}
@@ -10,7 +9,7 @@ use Rattle.text_print.specs.Printing.{name_of}
 use Rattle.problem_texts.specs.Questions.{plain_name, tests_text, actions_text, hyp_text, goal_text}
 use Rattle.problem_texts.specs.CommentedTexts.{comments_text, commented_hyps}
 use Rattle.problem_texts.specs.Working.Scopes.{IsPlain}
-use Rattle.problem_texts.proofs.PlainScopes.{plain_as, term_same}
+use Rattle.problem_texts.proofs.PlainScopes.{plain_as, hyp_same, goal_same}
 use Rattle.flow_problem.specs.FlowFacts.{FlowRule}
 use Rattle.flow_problem.specs.Points.{FlowProblem}
 use Rattle.flow_print.specs.NameTables.{NameTable}
@@ -31,18 +30,12 @@ pub hyps_left : (xs : List Kat) (k : ℕ) (x : Kat) → k < length xs → x ≡ 
 hyps_left xs k x below is = let next : suc k ≡ k + 1 = omega arith in first_left xs k x below is ∙ ap (λ (n : ℕ). kat_tree x ∷ map kat_tree (drop n xs)) next
 
 module _ (w : ScopeParts) (tests actions : ℕ) (few : tests ≤ MAX_TESTS) (small : actions ≤ MAX_ACTIONS) (plain : IsPlain w tests actions) where
-  hyp_same : (e : Term) → IsInRange tests actions e → hyp_text (name_of w) e ≡ hyp_text plain_name e
-  hyp_same e h = ap (λ (l : List ℕ). codes "hyp " ++ l ++ codes " = 0;\n") (term_same w tests actions few small plain e h)
-
-  pub goal_same : (left right : Term) → IsInRange tests actions left → IsInRange tests actions right → goal_text (name_of w) left right ≡ goal_text plain_name left right
-  goal_same left right h i = rw (term_same w tests actions few small plain left h, term_same w tests actions few small plain right i) refl
-
   hyp_appended : (rules : List FlowRule) (k : ℕ) (e : Term) (es : List Term) (old : List ℕ) → IsInRange tests actions e
       → ((old ++ comments_text (comments_before rules k)) ++ hyp_text (name_of w) e) ++ hyps_text rules (k + 1) es ≡ old ++ hyps_text rules k (e ∷ es)
   hyp_appended rules k e es old h =
       let comments = comments_text (comments_before rules k) in
       let rest = hyps_text rules (k + 1) es in
-      ap (λ (l : List ℕ). ((old ++ comments) ++ l) ++ rest) (hyp_same e h)
+      ap (λ (l : List ℕ). ((old ++ comments) ++ l) ++ rest) (hyp_same w tests actions few small plain e h)
       ∙ append_assoc (old ++ comments) (hyp_text plain_name e) rest
       ∙ append_assoc old comments (hyp_text plain_name e ++ rest)
       ∙ ap (λ (l : List ℕ). old ++ l) (sym (append_assoc comments (hyp_text plain_name e) rest))

@@ -1,47 +1,21 @@
 -- The places and live variables of a graph mark it.
-use Rattle.std.proofs.Common.{◌≡◌, ℕ, zero, suc, ◌+◌, ◌<◌, inl, inr, ⊎_elim, Bool, true, false, ◌&&◌, ◌||◌, nat_eq, List, [], ◌∷◌, length, filter, cond, slice_index_or, refl, ◌∙◌, ap, subst, arith}
+use Rattle.std.proofs.Common.{◌≡◌, ℕ, ◌<◌, Bool, true, false, ◌||◌, nat_eq, List, [], ◌∷◌, length, filter, cond, slice_index_or, refl, arith}
 use Rattle.std.specs.List.{range_with_len}
-use Rattle.std.proofs.lemmas.Bool.{and_from, both_ways, cases_lt}
-use Rattle.std.proofs.lemmas.List.{length-map, get_or_past}
-use Rattle.kat_model.specs.Members.{Has}
-use Rattle.kat_model.proofs.Filters.{filter_has}
+use Rattle.std.proofs.lemmas.Bool.{and_from}
 use Rattle.flow_model.specs.Graphs.{Graph}
-use Rattle.flow_places.specs.Places.{is_reached, is_cut, place_marks, is_place, places}
+use Rattle.flow_places.specs.Places.{is_reached, is_cut, is_place, places}
 use Rattle.flow_places.specs.Loops.{entry, HasUncutLoop}
 use Rattle.flow_places.proofs.CutRuns.{comes_to_end}
-use Rattle.flow_places.proofs.Reaching.{reached_exactly}
+use Rattle.flow_places.proofs.Reaching.{reached_exactly, place_has}
 use Rattle.flow_places.proofs.LiveTests.{live_exactly}
 use Rattle.flow_problem.specs.Points.{FlowProblem, AsksOf}
 use Rattle.flow_problem.specs.FlowProblems.{FlowQuestion, MarksGraph, HasMarks}
 use Rattle.flow_problem.specs.PlacedProblems.{graph_marks, pair_marks, IsFlowPair, IsFlowProblem}
 use Rattle.flow_problem.proofs.WholeProblems.{problem_asks}
 
-length-range : (a n : ℕ) → length (range_with_len a n) ≡ n
-length-range a zero = refl
-length-range a (suc n) = ap suc (length-range (a + 1) n)
-
 entry_place : (g : Graph) → 0 < length g → is_place g 0 ≡ true
 entry_place [] h = absurd (omega arith)
 entry_place (b ∷ bs) h = and_from (is_reached (b ∷ bs) 0) (nat_eq 0 0 || is_cut (b ∷ bs) 0) ((reached_exactly (b ∷ bs) 0).1 (entry 0 b refl refl)) refl
-
-length-marks : (g : Graph) → length (place_marks g) ≡ length g
-length-marks g = length-map (range_with_len 0 (length g)) (λ k. is_reached g k && (nat_eq k 0 || is_cut g k)) ∙ length-range 0 (length g)
-
-place_within : (g : Graph) (k : ℕ) → is_place g k ≡ true → k < length g
-place_within g k e =
-    ⊎_elim
-    (λ l. l)
-    (λ past. let none = get_or_past (place_marks g) k false (omega (arith, past, length-marks g)) in absurd (both_ways (is_place g k) none e))
-    (cases_lt k (length g))
-
-range_has : (a n k : ℕ) → k < n → Has (range_with_len a n) (a + k)
-range_has a zero k h = absurd (omega arith)
-range_has a (suc n) zero h = inl (omega arith)
-range_has a (suc n) (suc k) h = inr (subst (Has (range_with_len (a + 1) n)) (omega arith) (range_has (a + 1) n k (omega arith)))
-
-place_listed : (g : Graph) (k : ℕ) → is_place g k ≡ true → Has (places g) k
-place_listed g k e =
-    filter_has (is_place g) (range_with_len 0 (length g)) k (subst (Has (range_with_len 0 (length g))) (omega arith) (range_has 0 (length g) k (place_within g k e))) e
 
 first_kept : (b : Bool) (ks : List ℕ) → b ≡ true → slice_index_or (cond b (0 ∷ ks) ks) 0 0 ≡ 0
 first_kept true ks e = refl
@@ -55,7 +29,7 @@ pub graph_marked : (g : Graph) → 0 < length g → (HasUncutLoop g → ⊥) →
 graph_marked g h cut = record {
   entry = entry_place g h;
   first = first_place g h;
-  listed = place_listed g;
+  listed = place_has g;
   settles = λ I k n s place settled. (comes_to_end I g k s cut place).settles n settled;
   live = λ k x h. (live_exactly g k x).1 h;
 }

@@ -6,15 +6,14 @@ use Rattle.kat_model.proofs.Lists.{has_left, has_right, has_append, has_flat_map
 use Rattle.flow_model.specs.declared.sort.Sort.{Sort}
 use Rattle.flow_model.specs.Sorts.{State, IsState}
 use Rattle.flow_model.specs.Interpretations.{Interpretation}
-use Rattle.flow_forms.specs.Comparisons.{FlowComparisonTree, comparison_holds, is_same_comparison}
-use Rattle.flow_ways.specs.Conditions.{FlowCondTree, atom, negation, Fact, facts_of, value_known}
+use Rattle.flow_forms.specs.Comparisons.{FlowComparisonTree, comparison_holds}
+use Rattle.flow_ways.specs.Conditions.{FlowCondTree, atom, negation, facts_of, value_known}
 use Rattle.flow_ways.specs.Ways.{Way, AllHold}
-use Rattle.flow_ways.proofs.CondValues.{FactsHold, FactsHold-append, facts_hold}
+use Rattle.flow_ways.proofs.CondValues.{FactsHold, FactsHold-append, known_holds, facts_hold}
 use Rattle.flow_problem.specs.Edges.{Edge, Marks}
 use Rattle.flow_problem.specs.Points.{point_after}
 use Rattle.flow_problem.specs.EdgeTerms.{comparisons_of, edge_comparisons}
 use Rattle.flow_problem.specs.Splits.{CellTest, cell_test, cell_tests, action_reads, action_fits, edge_where_equal, edge_where_other, edges_by, facts_of_all, split_edge, split_edges}
-use Rattle.flow_forms.proofs.SameComparisons.{one_comparison}
 use Rattle.flow_problem.proofs.GraphTerms.{DoesAs, AreWays}
 use Rattle.flow_problem.proofs.SplitValues.{IsTestOf, action_same, test_of_cell}
 
@@ -31,14 +30,6 @@ all_parts I s (b ∷ bs) cs h = let k = all_parts I s bs cs h.1 in ((h.0, k.0), 
 all_facts : (I : Interpretation) (s : State) (bs : List FlowCondTree) → AllHold I s bs → FactsHold I s (facts_of_all bs)
 all_facts I s [] h = tt
 all_facts I s (b ∷ bs) h = FactsHold-append I s (facts_of b true) (facts_of_all bs) (facts_hold I s b true h.0) (all_facts I s bs h.1)
-
-known_holds : (I : Interpretation) (s : State) (fs : List Fact) (c : FlowComparisonTree) (v : Bool) → FactsHold I s fs → value_known fs c ≡ Some v → comparison_holds I s c ≡ v
-known_holds I s [] c v h e = absurd cc
-known_holds I s (f ∷ fs) c v h e = by_test (is_same_comparison f.0 c) (one_comparison f.0 c) (λ q. known_holds I s fs c v h.1 q) e
-  where
-    by_test : (b : Bool) → (b ≡ true → f.0 ≡ c) → (value_known fs c ≡ Some v → comparison_holds I s c ≡ v) → (if b then Some f.1 else value_known fs c) ≡ Some v → comparison_holds I s c ≡ v
-    by_test true p later q = let same : f.1 ≡ v = cc in ap (comparison_holds I s) (sym (p refl)) ∙ h.0 ∙ same
-    by_test false p later q = later q
 
 -- ---- edges that lead where others lead
 

@@ -112,7 +112,7 @@ edges_refine : (I : Interpretation) (sorts : List Sort) (s : State) → IsState 
 edges_refine I sorts s is true tests es = split_all_refine I sorts s is (cell_tests sorts tests) es (cell_tests_are sorts tests)
 edges_refine I sorts s is false tests es = refines_itself I sorts s es
 
-edges_within : (sorts : List Sort) (b : Bool) (tests : List FlowComparisonTree) (es : List Edge) → AreWithin tests es → AreWithin tests (edges_with b tests sorts es)
+pub edges_within : (sorts : List Sort) (b : Bool) (tests : List FlowComparisonTree) (es : List Edge) → AreWithin tests es → AreWithin tests (edges_with b tests sorts es)
 edges_within sorts true tests es within = split_all_within sorts tests (cell_tests sorts tests) es (cell_tests_there sorts tests) within
 edges_within sorts false tests es within = within
 

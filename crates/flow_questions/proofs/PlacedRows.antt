@@ -1,10 +1,9 @@
 -- The edges from the places of a graph, by the tables of the program.
-use Rattle.std.proofs.Common.{◌≡◌, ℕ, zero, suc, ◌+◌, ◌<◌, ◌≤◌, inl, inr, Bool, true, false, List, [], ◌∷◌, ◌++◌, length, map, filter, slice_index_or, if◌then◌else◌, refl, sym, ◌∙◌, ap, subst, arith}
+use Rattle.std.proofs.Common.{◌≡◌, ℕ, suc, ◌+◌, ◌<◌, ◌≤◌, inl, inr, Bool, true, false, List, [], ◌∷◌, ◌++◌, length, map, filter, slice_index_or, if◌then◌else◌, refl, sym, ◌∙◌, ap, subst, arith}
 use Rattle.std.specs.Prelude.{Vec}
 use Rattle.std.specs.declared.alloc.Global.{Global}
 use Rattle.std.specs.List.{range_with_len}
 use Rattle.std.proofs.lemmas.Bool.{both_ways}
-use Rattle.std.proofs.lemmas.List.{length-map}
 use mathlib.Core.Path.{ap₂}
 use Rattle.kat_model.specs.Members.{Has}
 use Rattle.flow_model.specs.declared.sort.Sort.{Sort}
@@ -21,7 +20,8 @@ use Rattle.flow_places.specs.Live.{live}
 use Rattle.flow_places.specs.Tables.{noted}
 use Rattle.flow_places.specs.declared.fault.PlaceFault.{PlaceFault}
 use Rattle.flow_places.specs.declared.fault.PlaceFault.TheVariants as place
-use Rattle.flow_places.proofs.PlaceMarks.{range_pushed}
+use Rattle.flow_places.proofs.PlaceMarks.{range_pushed, filter-pushed}
+use Rattle.flow_places.proofs.Reaching.{length-marks}
 use Rattle.flow_problem.specs.Edges.{Edge, edge_of, way_edges}
 use Rattle.flow_problem.specs.PlacedProblems.{graph_marks}
 use Rattle.flow_edges.specs.EdgeTables.{table_marks}
@@ -30,15 +30,6 @@ use Rattle.flow_questions.specs.Asked.{HasManyWays, HasLargeForm, ways_at}
 use Rattle.flow_questions.specs.Working.Placed.{of_place_fault, of_way_fault, AllAre, SomeIs, table_edges, table_ways, AreFew, HasWayFault, IsSound, HasGraphFault}
 
 -- ---- lists of places
-
-filter-pushed : (p : ℕ → Bool) (xs : List ℕ) (x : ℕ) → filter p (xs ++ x ∷ []) ≡ filter p xs ++ (if p x then x ∷ [] else [])
-filter-pushed p [] x = refl
-filter-pushed p (y ∷ xs) x = by_test (p y) (filter-pushed p xs x)
-  where
-    by_test : (b : Bool) → filter p (xs ++ x ∷ []) ≡ filter p xs ++ (if p x then x ∷ [] else []) →
-        (if b then y ∷ filter p (xs ++ x ∷ []) else filter p (xs ++ x ∷ [])) ≡ (if b then y ∷ filter p xs else filter p xs) ++ (if p x then x ∷ [] else [])
-    by_test true e = ap (λ zs. y ∷ zs) e
-    by_test false e = e
 
 -- the places among n + 1 blocks
 pub one_more : (p : ℕ → Bool) (n : ℕ) → filter p (range_with_len 0 (n + 1)) ≡ filter p (range_with_len 0 n) ++ (if p n then n ∷ [] else [])
@@ -49,14 +40,10 @@ one_more p n =
     ∙ ap (filter p) (range_pushed 0 n ∙ ap (λ k. range_with_len 0 n ++ k ∷ []) last)
     ∙ filter-pushed p (range_with_len 0 n) n
 
-length-range : (a n : ℕ) → length (range_with_len a n) ≡ n
-length-range a zero = refl
-length-range a (suc n) = ap suc (length-range (a + 1) n)
-
 -- the blocks that the table of places names are the places of the graph
 pub listed_places : (g : Graph) (marks : List Bool) (ks : List ℕ) → marks ≡ place_marks g → ks ≡ filter (λ k. slice_index_or marks k false) (range_with_len 0 (length marks)) → ks ≡ places g
 listed_places g marks ks m e =
-    let long : length (place_marks g) ≡ length g = length-map (range_with_len 0 (length g)) _ ∙ length-range 0 (length g) in
+    let long : length (place_marks g) ≡ length g = length-marks g in
     e
     ∙ ap (λ (ms : List Bool). filter (λ k. slice_index_or ms k false) (range_with_len 0 (length ms))) m
     ∙ ap (λ n. filter (is_place g) (range_with_len 0 n)) long

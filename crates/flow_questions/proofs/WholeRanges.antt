@@ -21,7 +21,8 @@ use Rattle.flow_problem.specs.FlowRounds.{comparisons_before, with_comparison, w
 use Rattle.flow_problem.specs.FlowProblems.{FlowQuestion, PairMarks, first_tests, edges_with, edges_before, edges_after, flow_actions, flow_tests, flow_parts}
 use Rattle.flow_problem.specs.PlacedProblems.{graph_marks, pair_marks}
 use Rattle.flow_problem.proofs.SameActions.{one_action}
-use Rattle.flow_problem.proofs.SplitEdges.{AreWithin, split_all_within, cell_tests_there}
+use Rattle.flow_problem.proofs.SplitEdges.{AreWithin}
+use Rattle.flow_problem.proofs.WholeProblems.{edges_within}
 use Rattle.flow_problem.proofs.TableMembers.{rounds_keep, action_met}
 use Rattle.flow_problem.proofs.PlacedGraphs.{graph_marked}
 use Rattle.flow_questions.proofs.TermRanges.{AreListed, graph_in}
@@ -48,10 +49,6 @@ rounds_within (suc n) sorts actions table h =
     rounds_within n sorts actions (flow_round sorts actions table) (all_within table (flat_map (comparisons_before sorts table) actions) h)
 
 -- ---- edges are listed
-
-with_within : (sorts : List Sort) (b : Bool) (tests : List FlowComparisonTree) (es : List Edge) → AreWithin tests es → AreWithin tests (edges_with b tests sorts es)
-with_within sorts true tests es within = split_all_within sorts tests (cell_tests sorts tests) es (cell_tests_there sorts tests) within
-with_within sorts false tests es within = within
 
 module _ (q : FlowQuestion) (marks : PairMarks) where
   abbrev sorts : List Sort
@@ -87,14 +84,14 @@ module _ (q : FlowQuestion) (marks : PairMarks) where
 
   listed_before : (k : ℕ) → Has marks.before.places k → AreListed (flow_tests q marks) (flow_actions q marks) (edges_before q marks k)
   listed_before k place e h = record {
-    tests_there = λ c m. among_tests c (with_within sorts q.splits table (way_edges q.pair.before sorts marks.before k)
+    tests_there = λ c m. among_tests c (edges_within sorts q.splits table (way_edges q.pair.before sorts marks.before k)
         (λ d l. met_within d (has_left met_before met_after d (flat_map_has (way_edges q.pair.before sorts marks.before) marks.before.places k d place l))) e h c m);
     action_there = action_there e (has_left acting_before acting_after e (flat_map_has (edges_before q marks) marks.before.places k e place h));
   }
 
   listed_after : (k : ℕ) → Has marks.after.places k → AreListed (flow_tests q marks) (flow_actions q marks) (edges_after q marks k)
   listed_after k place e h = record {
-    tests_there = λ c m. among_tests c (with_within sorts q.splits table (way_edges q.pair.after sorts marks.after k)
+    tests_there = λ c m. among_tests c (edges_within sorts q.splits table (way_edges q.pair.after sorts marks.after k)
         (λ d l. met_within d (has_right met_before met_after d (flat_map_has (way_edges q.pair.after sorts marks.after) marks.after.places k d place l))) e h c m);
     action_there = action_there e (has_right acting_before acting_after e (flat_map_has (edges_after q marks) marks.after.places k e place h));
   }

@@ -1,27 +1,17 @@
 -- The forms that an action sets.
-use Rattle.std.proofs.Common.{◌≡◌, ℕ, suc, ◌+◌, ◌≤◌, ◌<◌, Bool, true, false, not, ◌&&◌, IsTrue, ◌↔◌, List, [], ◌∷◌, ◌++◌, length, Option, Some, None, if◌then◌else◌, refl, sym, ◌∙◌, ap, subst, arith}
+use Rattle.std.proofs.Common.{◌≡◌, ℕ, suc, ◌+◌, ◌≤◌, ◌<◌, Bool, not, ◌&&◌, IsTrue, ◌↔◌, List, [], ◌∷◌, ◌++◌, length, Option, Some, None, if◌then◌else◌, refl, ◌∙◌, ap, arith}
 use mathlib.Core.Path.{ap₂}
 use Rattle.std.specs.Ordering.{is_eq}
-use Rattle.linear_arithmetic.proofs.SameOrder.{is_eq-true}
 use Rattle.flow_model.specs.declared.sort.Sort.{Sort}
 use Rattle.flow_forms.specs.Forms.{FlowFormTree, variable}
 use Rattle.flow_forms.specs.Order.{form_cmp}
 use Rattle.flow_forms.specs.Expressions.{form_of_cell}
-use Rattle.flow_forms.proofs.SameForms.{same_form as equal_forms, own_form}
+use Rattle.flow_forms.proofs.SameComparisons.{form_answers}
 use Rattle.flow_ways.specs.Actions.{is_own, action_from}
 use Rattle.flow_symbolic.proofs.CourseLists.{pushed_then}
 
--- a test of equality is the test of the order
-own_test : (r : Bool) (f g : FlowFormTree) → IsTrue r ↔ (f ≡ g) → r ≡ is_eq (form_cmp f g)
-own_test true f g h = sym (subst (λ x. is_eq (form_cmp f x) ≡ true) (h.0 refl) (ap is_eq (own_form f)))
-own_test false f g h = by_test (is_eq (form_cmp f g)) (λ e. equal_forms f g (is_eq-true (form_cmp f g) e))
-  where
-    by_test : (b : Bool) → (b ≡ true → f ≡ g) → false ≡ b
-    by_test true k = h.1 (k refl)
-    by_test false k = refl
-
 pub own_answers : (r : Bool) (k : ℕ) (sort : Sort) (f own : FlowFormTree) → own ≡ form_of_cell sort (variable k) → IsTrue r ↔ (f ≡ own) → r ≡ is_own k sort f
-own_answers r k sort f own e h = own_test r f own h ∙ ap (λ x. is_eq (form_cmp f x)) e
+own_answers r k sort f own e h = form_answers r f own h ∙ ap (λ x. is_eq (form_cmp f x)) e
 
 pub set_then : (k : ℕ) (live : ℕ → Bool) (sorts : List Sort) (fs : List FlowFormTree) (set : Option FlowFormTree) (old mid new : List (Option FlowFormTree)) → mid ≡ old ++ set ∷ [] → new ≡ mid ++ action_from (k + 1) live sorts fs → new ≡ old ++ set ∷ action_from (suc k) live sorts fs
 set_then k live sorts fs set old mid new e f =

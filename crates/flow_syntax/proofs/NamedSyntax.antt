@@ -20,7 +20,7 @@ IsNamedMove finished = Unit {0}
 IsNamedMove (moved step next) = Unit {0}
 IsNamedMove (refused e) = IsNamedFault e
 
-if_named : {A : Type 0} (b : Bool) (x y : Result A TextFault) → IsNamed x → IsNamed y → IsNamed (cond b x y)
+pub if_named : {A : Type 0} (b : Bool) (x y : Result A TextFault) → IsNamed x → IsNamed y → IsNamed (cond b x y)
 if_named true x y h k = h
 if_named false x y h k = k
 

@@ -1,5 +1,5 @@
 -- No item has the fault `NoMemory`.
-use Rattle.std.proofs.Common.{ℕ, ◌+◌, List, [], ◌∷◌, ◌++◌, length, Bool, true, false, cond, Option, Some, None, Result, not, nat_eq, nat_lt}
+use Rattle.std.proofs.Common.{ℕ, ◌+◌, List, [], ◌∷◌, ◌++◌, length, Bool, Option, Some, None, not, nat_eq, nat_lt}
 use Rattle.std.specs.Prelude.{◌&&◌}
 use Rattle.kat_model.specs.Stores.{modulus}
 use Rattle.kat_model.specs.declared.expression.Rel.{Rel}
@@ -20,15 +20,12 @@ use Rattle.flow_text.specs.declared.limits.TheConstants.{MAX_BLOCKS, MAX_PARAMET
 use Rattle.flow_text.specs.declared.meaning.Meaning.{Meaning}
 use Rattle.flow_text.specs.declared.meaning.Meaning.TheVariants.{SortName, Function, Variable, GraphName}
 use Rattle.flow_syntax.specs.Terminals.{spelled_number}
+use Rattle.flow_syntax.proofs.NamedSyntax.{if_named}
 use Rattle.flow_syntax.specs.Syntax.{NodeSyntax, numeral, named, called, converted, operation, ExprSyntax, CondNodeSyntax, always, never, compared, compared_signed, negation, both, either, CondSyntax, StatementSyntax, assign, claim, JumpSyntax, goto, branch, return, abort, BlockSyntax, a_block, ItemSyntax, sorts, function, variables, graph, rounds, split, equal}
 use Rattle.flow_text.specs.Scopes.{FunctionParts, function_parts, ScopeParts, meaning, meaning_in, may_declare, with_sort, with_variable, sorts_declared, variables_declared, sort_meant, sort_or_width, sort_named, width_named, few_parameters, next_parameter, parameters_after, same_sort, may_have_function, may_have_graph, scope_before}
 use Rattle.flow_text.specs.Resolving.{Wanted, operand, second_operand, number_of_width, number_in, with_sort_wanted, variable_in, application_of, function_in, conversion_in, sort_or_u64, sort_of_first, sort_of_sides, node_in, sort_wanted, next_node, nodes_after, expression_of, relation_on, rel_named, width_of_sort, comparison_of, signed_comparison_of, part_of, parts_after, condition_of}
 use Rattle.flow_syntax.specs.Sizes.{nodes_with}
 use Rattle.flow_text.specs.Checking.{is_set, target_of, target_meant, next_target, targets_after, expressions_after, expressions_of, seconds, assigned, statement_of, statements_after, block_or_fault, found, block_names, block_name, returned, jump_of, may_have_block, block_of, next_block, blocks_after, graph_of, GraphSyntax, a_graph, Known, nothing_known, graph_meant, at_most_once, with_nodes, few_rounds, item_known, items_known, sorts_returned, shared_sorts, whole_graph, next_graph, graphs_after, with_goal, file_of}
-
-if_named : {A : Type 0} (b : Bool) (x y : Result A TextFault) → IsNamed x → IsNamed y → IsNamed (cond b x y)
-if_named true x y h k = h
-if_named false x y h k = k
 
 -- ---- names
 

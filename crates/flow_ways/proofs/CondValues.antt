@@ -92,7 +92,7 @@ pub FactsHold-append : (I : Interpretation) (s : State) (fs gs : List Fact) → 
 FactsHold-append I s [] gs h k = k
 FactsHold-append I s (f ∷ fs) gs h k = (h.0, FactsHold-append I s fs gs h.1 k)
 
-known_holds : (I : Interpretation) (s : State) (fs : List Fact) (c : FlowComparisonTree) (v : Bool) → FactsHold I s fs → value_known fs c ≡ Some v → comparison_holds I s c ≡ v
+pub known_holds : (I : Interpretation) (s : State) (fs : List Fact) (c : FlowComparisonTree) (v : Bool) → FactsHold I s fs → value_known fs c ≡ Some v → comparison_holds I s c ≡ v
 known_holds I s [] c v h e = absurd cc
 known_holds I s (f ∷ fs) c v h e =
     by_test (is_same_comparison f.0 c) (one_comparison f.0 c) (λ q. known_holds I s fs c v h.1 q) e

@@ -18,7 +18,7 @@ use Rattle.linear_forms.specs.Atomic.TheVariants.{Zero, Less}
 use Rattle.problem_texts.specs.Questions.{plain_name, tests_text, actions_text, hyp_text, goal_text}
 use Rattle.problem_texts.specs.CommentedTexts.{IsComment, comment_text, comments_text, Comments, commented_hyps, commented_text, AreComments, EachAreComments, AreOneLine}
 use Rattle.problem_texts.specs.Laws.{AsksEqual}
-use Rattle.problem_texts.proofs.Comments.{comment_nil, comment_append, comment_chosen, shown_comment, comment_decimal, name_is_comment}
+use Rattle.problem_texts.proofs.Comments.{comment_nil, comment_append, comment_chosen, shown_comment, comment_decimal, name_is_comment, plain_test, plain_action}
 use Rattle.problem_texts.proofs.PlainNames.{plain_are_names}
 use Rattle.problem_texts.proofs.PlainReadings.{commented_reads_back}
 use Rattle.abstraction.specs.Abstracts.{AbstractParts}
@@ -102,12 +102,6 @@ shown_is_commented w a same =
     (hyps_lines None a.rules a.problem.hyps same)
 
 -- ---- each comment is one line
-
-plain_test : (k : ℕ) → IsComment (plain_name (Test k))
-plain_test k = comment_append (codes "t") (decimal k) (shown_comment (codes "t") refl) (comment_decimal k)
-
-plain_action : (k : ℕ) → IsComment (plain_name (Action k))
-plain_action k = comment_append (codes "a") (decimal k) (shown_comment (codes "a") refl) (comment_decimal k)
 
 and_test_line : (k : ℕ) → IsComment (and_test k)
 and_test_line k = comment_append (codes " ") (plain_name (Test k)) (shown_comment (codes " ") refl) (plain_test k)

@@ -1,7 +1,7 @@
 -- The functions write the text, part by part.
 use Rattle.std.proofs.Common.{◌≡◌, ◌≤◌, ℕ, List, [], ◌∷◌, ◌++◌, length, None, Bool, Option, Some, refl, sym, ap, ◌∙◌, append_assoc}
 use Rattle.std.proofs.lemmas.List.{append-nil, nil_from_length}
-use Rattle.std.specs.Prelude.{codes, flat_map}
+use Rattle.std.specs.Prelude.{flat_map}
 use Rattle.std.specs.List.{zip, enumerate_from}
 use Rattle.kat_model.specs.declared.limits.TheConstants.{MAX_TESTS, MAX_ACTIONS}
 use Rattle.kat_model.specs.Trees.{Term}
@@ -10,24 +10,18 @@ use Rattle.text_scopes.specs.ScopeParts.{ScopeParts}
 use Rattle.text_print.specs.Printing.{name_of}
 use Rattle.problem_texts.specs.Questions.{plain_name, tests_text, actions_text, hyp_text, goal_text}
 use Rattle.problem_texts.specs.Working.Scopes.{IsPlain}
-use Rattle.problem_texts.proofs.PlainScopes.{plain_as, term_same}
+use Rattle.problem_texts.proofs.PlainScopes.{plain_as, hyp_same, goal_same}
 use Rattle.abstraction.specs.declared.rows.ActionRow.{ActionRow}
 use Rattle.abstraction.specs.declared.rows.TestRow.{TestRow}
 use Rattle.abstraction.specs.Rule.{Rule}
 use Rattle.kat_report.specs.Shows.{test_comment, action_comment, rule_comment, is_new, hyps_text}
 
 module _ (w : ScopeParts) (tests actions : ℕ) (few : tests ≤ MAX_TESTS) (small : actions ≤ MAX_ACTIONS) (plain : IsPlain w tests actions) where
-  hyp_same : (e : Term) → IsInRange tests actions e → hyp_text (name_of w) e ≡ hyp_text plain_name e
-  hyp_same e h = ap (λ (l : List ℕ). codes "hyp " ++ l ++ codes " = 0;\n") (term_same w tests actions few small plain e h)
-
-  pub goal_same : (left right : Term) → IsInRange tests actions left → IsInRange tests actions right → goal_text (name_of w) left right ≡ goal_text plain_name left right
-  goal_same left right h i = rw (term_same w tests actions few small plain left h, term_same w tests actions few small plain right i) refl
-
   hyp_appended : (before : Option Rule) (rule : Rule) (rules : List Rule) (e : Term) (es : List Term) (old : List ℕ) → IsInRange tests actions e → ((old ++ rule_comment (is_new before rule) rule) ++ hyp_text (name_of w) e) ++ hyps_text (Some rule) (zip rules es) ≡ old ++ hyps_text before (zip (rule ∷ rules) (e ∷ es))
   hyp_appended before rule rules e es old h =
       let comment = rule_comment (is_new before rule) rule in
       let rest = hyps_text (Some rule) (zip rules es) in
-      ap (λ (l : List ℕ). ((old ++ comment) ++ l) ++ rest) (hyp_same e h)
+      ap (λ (l : List ℕ). ((old ++ comment) ++ l) ++ rest) (hyp_same w tests actions few small plain e h)
       ∙ append_assoc (old ++ comment) (hyp_text plain_name e) rest
       ∙ append_assoc old comment (hyp_text plain_name e ++ rest)
       ∙ ap (λ (l : List ℕ). old ++ l) (sym (append_assoc comment (hyp_text plain_name e) rest))

@@ -1,7 +1,6 @@
 -- A fault of a block is never `NoMemory` if its actions give no such fault, because the steps suffice.
-use Rattle.std.proofs.Common.{ℕ, zero, suc, ◌+◌, ◌*◌, ◌<◌, List, [], ◌∷◌, length, Bool, true, false, cond as if_true, nat_lt, Ok, Err, arith, drop, length-drop}
-use Rattle.kat_model.specs.declared.limits.TheConstants.{MAX_OPEN}
-use Rattle.text_tokens.specs.declared.fault.TextFault.TheVariants.{Syntax, TooDeep}
+use Rattle.std.proofs.Common.{ℕ, zero, suc, ◌+◌, ◌*◌, ◌<◌, List, [], ◌∷◌, length, Bool, true, false, cond as if_true, Ok, Err, arith, drop, length-drop}
+use Rattle.text_tokens.specs.declared.fault.TextFault.TheVariants.{Syntax}
 use Rattle.text_grammar.specs.declared.terminal.Terminal.{Terminal}
 use Rattle.text_grammar.specs.declared.terminal.Terminal.TheVariants.{Name, Keyword, Separator}
 use Rattle.text_grammar.specs.declared.terminal.Keyword.TheVariants as word
@@ -16,6 +15,7 @@ use Rattle.while_lang.specs.BlockActions.{BlockActions}
 use Rattle.while_lang.specs.Blocks.{enter, BlockAim, block, stmts_after, stmt_after, branch_after, BlockParser, cond_by, expr_by, then_semicolon, block_by, stmts_by, assign_by, named_by, loop_by, stmt_by, else_by, branch_by}
 use Rattle.while_lang.specs.Blocks.{blocks_by, steps, block_within, parse_block}
 use Rattle.while_lang.proofs.BlockSteps.{IsShort, cond_short, within_short}
+use Rattle.while_lang.proofs.BlockFaults.{enter_named}
 
 -- no action fails with `NoMemory`
 pub record NameBlocks {E B L T M S : Type 0} (g : BlockActions E B L T M S) : Type 0 where
@@ -26,9 +26,6 @@ pub record NameBlocks {E B L T M S : Type 0} (g : BlockActions E B L T M S) : Ty
 pub wanted_named : {V : Type 0} (p : Terminal → Bool) (ts : List Lexeme) (k : List Lexeme → Parsed V) → ((us : List Lexeme) → length us < length ts → IsNamed (k us)) → IsNamed (wants p ts >>= k)
 wanted_named p [] k h = tt
 wanted_named p (lexeme s at text ∷ ts) k h = elim (p s) as (λ b. IsNamed (if_true b (Ok ts) (Err (Syntax at)) >>= k)) [ true ↦ h ts (omega arith) | false ↦ tt ]
-
-pub enter_named : (d at : ℕ) → IsNamed (enter d at)
-enter_named d at = if_named (nat_lt d MAX_OPEN) (Ok (d + 1)) (Err (TooDeep at)) (λ e. tt) (λ e. tt)
 
 module _ {E B L T M S : Type 0} (g : BlockActions E B L T M S) (names : NameBlocks g) where
   abbrev NamesBelow : BlockParser S → ℕ → Type 0

@@ -1,13 +1,13 @@
 -- A fault of a part of an item is the fault of the item, and the functions that read the item return it.
-use Rattle.std.proofs.Common.{◌≡◌, ℕ, List, Bool, Result, Ok, Err, refl, sym, subst, ap, ◌∙◌}
+use Rattle.std.proofs.Common.{◌≡◌, ℕ, List, Bool, Result, Ok, Err, refl, sym, subst}
 use Rattle.std.specs.Result.{IsErrAnd}
-use Rattle.std.proofs.lemmas.Result.{err_from_is_err_and}
 use Rattle.text_tokens.specs.declared.fault.TextFault.{TextFault}
 use Rattle.text_tokens.specs.declared.fault.TextFault.TheVariants.{NoMemory}
 use Rattle.text_grammar.specs.declared.terminal.Terminal.{Terminal}
 use Rattle.text_grammar.specs.Lexemes.{Lexeme}
 use Rattle.text_grammar.specs.Parsed.{Parsed, ◌>>=◌, Makes, Reads, Wants, wants}
 use Rattle.text_grammar.proofs.NamedFaults.{IsNamedFault, IsNamed, wants_named}
+use Rattle.while_lang.proofs.BlockFaults.{returned}
 use Rattle.problem_file.specs.Working.Walks.{StepEnds, Does}
 
 -- ---- the faults of parts
@@ -24,9 +24,6 @@ check_fault part NoMemory h = elim h [ ]
 check_fault part e h = (tt, h)
 
 -- ---- what a function returns then
-
-returned : {A : Type 0} (r : Result A TextFault) (e : TextFault) → IsErrAnd r (λ y. y ≡ e) → r ≡ Err e
-returned r e h = let a = err_from_is_err_and r h in a.1 ∙ ap (λ (f : TextFault). Err f) a.2
 
 module _ {S : Type 0} (memory : Type 0) (ts : List Lexeme) (s : S) (whole : Parsed S) (e : TextFault) (r : Result ℕ TextFault) (same : IsErrAnd r (λ y. y ≡ e)) where
   pub fault_ends : IsNamedFault e → whole ≡ Err e → StepEnds memory ts r s whole

@@ -1,6 +1,6 @@
 -- Bytes that may be a comment: concatenations, decimals, and names.
 use Rattle.std.proofs.Common.{◌≡◌, ◌<◌, ◌≤◌, ◌/◌, ◌%◌, ℕ, zero, suc, List, [], ◌∷◌, ◌++◌, Bool, true, false, not, nat_lt, ◌&&◌, ◌||◌, ◌⊎◌, ◌==◌, cond, if◌then◌else◌, Option, Some, None, inl, inr, ⊎_elim, refl, sym, ap, subst, ◌∙◌, arith}
-use Rattle.std.specs.Prelude.{encode_utf8, encode_utf8_all}
+use Rattle.std.specs.Prelude.{codes, encode_utf8, encode_utf8_all}
 use Rattle.std.specs.List.{list_all}
 use Rattle.std.specs.Char.{is_ascii_alphanumeric}
 use Rattle.std.specs.FinMap.{keys}
@@ -19,10 +19,12 @@ use Rattle.text_tokens.proofs.Beginnings.{name_begins, begins_continues}
 use Rattle.text_tokens.proofs.Gaps.{char_high}
 use Rattle.text_tokens.proofs.Printed.{token_utf8}
 use Rattle.text_scopes.specs.declared.meaning.Meaning.{Meaning}
+use Rattle.text_scopes.specs.declared.meaning.Meaning.TheVariants.{Test, Action}
 use Rattle.text_scopes.specs.ScopeParts.{ScopeParts, meaning, Means, IsWellFormed}
 use Rattle.text_scopes.proofs.MeaningOrder.{same_meaning}
 use Rattle.text_print.specs.Printing.{is_meant, first_name, name_of}
 use Rattle.problem_texts.specs.CommentedTexts.{IsComment}
+use Rattle.problem_texts.specs.Questions.{plain_name}
 
 -- no byte is a line feed
 abbrev pub IsLine : List ℕ → Type 0
@@ -131,3 +133,9 @@ name_is_comment w well m =
     (λ (none : name_of w m ≡ []). subst IsComment (sym none) comment_nil)
     (λ (means : Means w (name_of w m) m). comment_name (name_of w m) (well.identifiers (name_of w m) m means).name)
     (first_or_none w m (keys w.meanings))
+
+pub plain_test : (k : ℕ) → IsComment (plain_name (Test k))
+plain_test k = comment_append (codes "t") (decimal k) (shown_comment (codes "t") refl) (comment_decimal k)
+
+pub plain_action : (k : ℕ) → IsComment (plain_name (Action k))
+plain_action k = comment_append (codes "a") (decimal k) (shown_comment (codes "a") refl) (comment_decimal k)

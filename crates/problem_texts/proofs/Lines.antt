@@ -1,8 +1,7 @@
 -- Texts of lines, each with tokens or with a comment, have the tokens of their lines.
-use Rattle.std.proofs.Common.{◌≡◌, ◌≤◌, ◌<◌, ℕ, ◌+◌, List, [], ◌∷◌, ◌++◌, length, drop, Bool, true, false, not, ◌==◌, if◌then◌else◌, refl, sym, ap, ◌∙◌, arith, subst, append_assoc, length-append}
+use Rattle.std.proofs.Common.{◌≡◌, ◌≤◌, ◌<◌, ℕ, ◌+◌, List, [], ◌∷◌, ◌++◌, length, drop, true, false, not, ◌==◌, refl, sym, ap, ◌∙◌, arith, subst, append_assoc, length-append}
 use Rattle.std.proofs.lemmas.List.{drop_at, drop-drop}
 use Rattle.std.proofs.lemmas.Bool.{and_parts}
-use Rattle.std.proofs.lemmas.Bool.Decides.{nat_tests}
 use Rattle.std.proofs.lemmas.Str.{IsUtf8-append, IsUtf8-nil, IsUtf8-from_ascii}
 use Rattle.std.proofs.lemmas.Str.Ascii.{IsAscii-cons}
 use Rattle.std.specs.List.{list_all}
@@ -10,11 +9,10 @@ use Rattle.std.specs.Str.{IsUtf8}
 use Rattle.text_tokens.specs.declared.lexer.TheConstants.{MAX_LEN}
 use Rattle.text_tokens.specs.declared.token.Kind.{Kind}
 use Rattle.text_tokens.specs.declared.token.Kind.TheVariants.{Name, Number, Symbol}
-use Rattle.text_tokens.specs.Kinds.{is_separator}
 use Rattle.text_tokens.specs.TokenParts.{TokenParts, token_parts}
 use Rattle.text_tokens.specs.Lex.{gap_len, gap_end, IsLongest, LexesFrom, Lexes}
 use Rattle.text_tokens.specs.Pieces.{Piece, lexeme, gap, spelled, parts_from, EndsBefore, AreSeparate}
-use Rattle.text_tokens.proofs.Printed.{piece_longest, token_no_gap, spelled_utf8}
+use Rattle.text_tokens.proofs.Printed.{piece_longest, token_no_gap, separator_len, spelled_utf8}
 use Rattle.problem_texts.specs.CommentedTexts.{IsComment, comment_text}
 
 -- ---- lines as pieces
@@ -92,17 +90,6 @@ skip_front text at front rest ms end here skips more =
 
 -- ---- gaps
 
-no_mark : (b : ℕ) → is_separator b ≡ true → (b == 35) ≡ false
-no_mark b e = grind (arith, nat_tests)
-
-second : (s t : Bool) (k m n : ℕ) → s ≡ false → t ≡ true → (if s then k else (if t then m else n)) ≡ m
-second true t k m n e f = cc
-second false true k m n e f = refl
-second false false k m n e f = cc
-
-separator_skips : (b : ℕ) (bs : List ℕ) → is_separator b ≡ true → gap_len false (b ∷ bs) ≡ 1 + gap_len false bs
-separator_skips b bs e = second (b == 35) (is_separator b) (1 + gap_len true bs) (1 + gap_len false bs) 0 (no_mark b e) e
-
 in_comment : (bytes rest : List ℕ) → list_all (λ b. not (b == 10)) bytes ≡ true → gap_len true (bytes ++ (10 ∷ rest)) ≡ length bytes + 1 + gap_len false rest
 in_comment [] rest all = omega arith
 in_comment (b ∷ bs) rest all =
@@ -150,7 +137,7 @@ line_lexes (lexeme kind token ∷ ps) good tail utf8 text at ms end here more =
 line_lexes (gap b ∷ ps) good tail utf8 text at ms end here more =
     let rest = line_text ps ++ tail in
     let place : at + length (b ∷ line_text ps) ≡ at + 1 + length (line_text ps) = omega arith in
-    skip_front text at (b ∷ []) rest (parts_from (at + 1) ps ++ ms) end here (separator_skips b rest good.0)
+    skip_front text at (b ∷ []) rest (parts_from (at + 1) ps ++ ms) end here (separator_len b rest good.0)
     (line_lexes ps good.1 tail utf8 text (at + 1) ms end (later text at (b ∷ []) rest here) (subst (λ (n : ℕ). LexesFrom text n ms end) place more))
 
 -- ---- all lines

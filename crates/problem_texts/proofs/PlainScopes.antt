@@ -15,7 +15,7 @@ use Rattle.text_scopes.specs.ScopeParts.{ScopeParts, meaning, Means, IsUndeclare
 use Rattle.text_scopes.proofs.Inverse.{insert_extends}
 use Rattle.text_print.specs.Printing.{name_of, cond_of, is_star, cond_text, test_text, term_text, CondIsNamed, TermIsNamed}
 use Rattle.text_print.proofs.NameOf.{name_is}
-use Rattle.problem_texts.specs.Questions.{plain_name, hyp_text}
+use Rattle.problem_texts.specs.Questions.{plain_name, hyp_text, goal_text}
 use Rattle.problem_texts.specs.NamedTexts.{IsOneOf, AreNames}
 use Rattle.problem_texts.specs.Working.Scopes.{DeclaresNames, IsPlain}
 use Rattle.problem_texts.proofs.PlainNames.{plain_are_names}
@@ -199,6 +199,12 @@ module _ (w : ScopeParts) (tests actions : ℕ) (few : tests ≤ MAX_TESTS) (sma
   term_same (sum e f) h = rw (term_same e h.0, term_same f h.1) refl
   term_same (product e f) h = rw (term_same e h.0, term_same f h.1) refl
   term_same (star e) h = ap (λ (l : List ℕ). cond (is_star e) (codes "(" ++ l ++ codes ")*") (l ++ codes "*")) (term_same e h)
+
+  pub hyp_same : (e : Term) → IsInRange tests actions e → hyp_text (name_of w) e ≡ hyp_text plain_name e
+  hyp_same e h = ap (λ (l : List ℕ). codes "hyp " ++ l ++ codes " = 0;\n") (term_same e h)
+
+  pub goal_same : (left right : Term) → IsInRange tests actions left → IsInRange tests actions right → goal_text (name_of w) left right ≡ goal_text plain_name left right
+  goal_same left right h i = rw (term_same left h, term_same right i) refl
 
   pub hyps_same : (es : List Term) → AreInRange tests actions es → flat_map (hyp_text (name_of w)) es ≡ flat_map (hyp_text plain_name) es
   hyps_same [] h = refl

@@ -200,7 +200,7 @@ token_lexes before token rest kind ms end is longest more =
 separator_no_comment : (b : ℕ) → is_separator b ≡ true → (b == 35) ≡ false
 separator_no_comment b e = grind (arith, nat_tests)
 
-separator_len : (b : ℕ) (bs : List ℕ) → is_separator b ≡ true → gap_len false (b ∷ bs) ≡ 1 + gap_len false bs
+pub separator_len : (b : ℕ) (bs : List ℕ) → is_separator b ≡ true → gap_len false (b ∷ bs) ≡ 1 + gap_len false bs
 separator_len b bs e = choose_second (b == 35) (is_separator b) (1 + gap_len true bs) (1 + gap_len false bs) 0 (separator_no_comment b e) e
 
 -- a separator does not change where the gap ends

@@ -21,7 +21,7 @@ entered d at place r is h = ap (enter d) (sym is) ∙ sym h
 
 -- ---- what a function returns then
 
-returned : {A : Type 0} (r : Result A TextFault) (e : TextFault) → IsErrAnd r (λ y. y ≡ e) → r ≡ Err e
+pub returned : {A : Type 0} (r : Result A TextFault) (e : TextFault) → IsErrAnd r (λ y. y ≡ e) → r ≡ Err e
 returned r e h = let a = err_from_is_err_and r h in a.1 ∙ ap (λ (f : TextFault). Err f) a.2
 
 module _ {V W : Type 0} (memory : Type 0) (means : V → W) (ts : List Lexeme) (whole : Parsed W) (e : TextFault) (r : Result (V × ℕ) TextFault) (same : IsErrAnd r (λ y. y ≡ e)) where

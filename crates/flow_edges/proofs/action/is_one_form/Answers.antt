@@ -1,5 +1,5 @@
 use Rattle.flow_forms.specs.Forms.{form_tree}
-use Rattle.flow_edges.proofs.SameActions.{form_answers}
+use Rattle.flow_forms.proofs.SameComparisons.{form_answers}
 use Rattle.flow_edges.proofs.action.is_one_form.Goals as goal
 
 pub returns : goal.returns
