@@ -5,9 +5,10 @@ ghost use Rattle.kat_model.specs.declared.limits.TheConstants.{MAX_ACTIONS};
 ghost use Rattle.unique_rows.specs.UniqueRows.{with_new_within, with_all_new, with_all_new_within};
 ghost use Rattle.flow_problem.specs.Edges.{is_same_action};
 ghost use Rattle.flow_problem.specs.EdgeTerms.{edge_actions};
-ghost use Rattle.flow_edges.specs.EdgeViews.{flow_action, flow_edge};
+ghost use Rattle.flow_edges.specs.EdgeViews.{flow_action};
 ghost use Rattle.flow_tables.specs.GraphRows.{row_edges};
 
+use crate::edge_table::{EdgeTable, add_graphs};
 use crate::fault::TableFault;
 use crate::rows::is_left_out;
 use flow_edges::{FlowAction, FlowEdge, is_idle};
@@ -29,70 +30,32 @@ fn add_action(
     Ok(rows.push(row)?)
 }
 
-// Adds the action of an edge, if it changes something.
-fn add_edge(alloc: Global, edge: &FlowEdge, rows: &mut Vec<FlowAction>) -> Result<(), NoMemory>
-    ensures { OnOk result (map flow_action rows.new.items ≡ with_all_new_within MAX_ACTIONS is_same_action (map flow_action rows.old.items) (edge_actions (flow_edge edge.now))) }
-{
-    if is_idle(&edge.action) {
-        return Ok(());
+impl EdgeTable for Vec<FlowAction> {
+    ghost use Rattle.std.specs.Prelude.{map};
+    ghost use Rattle.kat_model.specs.declared.limits.TheConstants.{MAX_ACTIONS};
+    ghost use Rattle.flow_problem.specs.Edges.{FlowActionTree, is_same_action};
+    ghost use Rattle.flow_problem.specs.EdgeTerms.{edge_actions};
+    ghost use Rattle.flow_edges.specs.EdgeViews.{flow_action};
+
+    ghost Row = { FlowActionTree };
+
+    ghost rows = { λ v. map flow_action v.items };
+
+    ghost same = { is_same_action };
+
+    ghost most = { MAX_ACTIONS };
+
+    ghost edge_rows = { edge_actions };
+
+    fn add_edge(&mut self, alloc: Global, edge: &FlowEdge) -> Result<(), NoMemory> {
+        if is_idle(&edge.action) {
+            return Ok(());
+        }
+        add_action(alloc, &edge.action, self)
     }
-    add_action(alloc, &edge.action, rows)
-}
-
-#[cycle(add_edges)]
-fn add_edges(alloc: Global, edges: &[FlowEdge], rows: &mut Vec<FlowAction>) -> Result<(), NoMemory>
-    ensures { OnOk result (map flow_action rows.new.items ≡ with_all_new_within MAX_ACTIONS is_same_action (map flow_action rows.old.items) (flat_map edge_actions (map flow_edge edges.now))) }
-{
-    match edges {
-        [] => Ok(()),
-        [edge, rest @ ..] => add_edges_from(alloc, edge, rest, rows),
-    }
-}
-
-#[cycle(add_edges)]
-#[tactic(auto, using(crate::proofs::TableRows::first_then))]
-fn add_edges_from(
-    alloc: Global,
-    edge: &FlowEdge,
-    rest: &[FlowEdge],
-    rows: &mut Vec<FlowAction>,
-) -> Result<(), NoMemory>
-    ensures { OnOk result (map flow_action rows.new.items ≡ with_all_new_within MAX_ACTIONS is_same_action (map flow_action rows.old.items) (edge_actions (flow_edge edge.now) ++ flat_map edge_actions (map flow_edge rest.now))) }
-{
-    add_edge(alloc, edge, rows)?;
-    add_edges(alloc, rest, rows)
-}
-
-#[cycle(add_places)]
-fn add_places(
-    alloc: Global,
-    list: &[Vec<FlowEdge>],
-    rows: &mut Vec<FlowAction>,
-) -> Result<(), NoMemory>
-    ensures { OnOk result (map flow_action rows.new.items ≡ with_all_new_within MAX_ACTIONS is_same_action (map flow_action rows.old.items) (flat_map edge_actions (flat_map row_edges list.now))) }
-{
-    match list {
-        [] => Ok(()),
-        [edges, rest @ ..] => add_places_from(alloc, edges, rest, rows),
-    }
-}
-
-#[cycle(add_places)]
-#[tactic(auto, using(crate::proofs::TableRows::part_then))]
-fn add_places_from(
-    alloc: Global,
-    edges: &Vec<FlowEdge>,
-    rest: &[Vec<FlowEdge>],
-    rows: &mut Vec<FlowAction>,
-) -> Result<(), NoMemory>
-    ensures { OnOk result (map flow_action rows.new.items ≡ with_all_new_within MAX_ACTIONS is_same_action (map flow_action rows.old.items) (flat_map edge_actions (row_edges edges.now ++ flat_map row_edges rest.now))) }
-{
-    add_edges(alloc, edges, rows)?;
-    add_places(alloc, rest, rows)
 }
 
 // Returns the actions of the edges of two graphs, each once; stops at `MAX_ACTIONS` + 1 of them.
-#[tactic(auto, using(crate::proofs::TableRows::parts_then))]
 fn first_rows(
     alloc: Global,
     before: &[Vec<FlowEdge>],
@@ -101,8 +64,7 @@ fn first_rows(
     ensures { IfOk result (λ rows. map flow_action rows.items ≡ with_all_new_within MAX_ACTIONS is_same_action [] (flat_map edge_actions (flat_map row_edges before.now ++ flat_map row_edges after.now))) }
 {
     let mut rows = Vec::new(alloc);
-    add_places(alloc, before, &mut rows)?;
-    add_places(alloc, after, &mut rows)?;
+    add_graphs(alloc, before, after, &mut rows)?;
     Ok(rows)
 }
 

@@ -6,9 +6,9 @@ ghost use Rattle.flow_forms.specs.Comparisons.{comparison_tree, is_same_comparis
 ghost use Rattle.flow_ways.specs.CondTrees.{cond_tree};
 ghost use Rattle.unique_rows.specs.UniqueRows.{with_new_within, with_all_new, with_all_new_within};
 ghost use Rattle.flow_problem.specs.EdgeTerms.{comparisons_of, edge_comparisons};
-ghost use Rattle.flow_edges.specs.EdgeViews.{flow_edge};
 ghost use Rattle.flow_tables.specs.GraphRows.{row_edges};
 
+use crate::edge_table::{EdgeTable, add_graphs};
 use crate::fault::TableFault;
 use crate::rows::is_left_out;
 use flow_edges::FlowEdge;
@@ -80,70 +80,28 @@ fn add_conds_from(
     add_conds(alloc, rest, rows)
 }
 
-fn add_edge(alloc: Global, edge: &FlowEdge, rows: &mut Vec<FlowComparison>) -> Result<(), NoMemory>
-    ensures { OnOk result (map comparison_tree rows.new.items ≡ with_all_new_within MAX_TESTS is_same_comparison (map comparison_tree rows.old.items) (edge_comparisons (flow_edge edge.now))) }
-{
-    add_conds(alloc, &edge.tests, rows)
-}
+impl EdgeTable for Vec<FlowComparison> {
+    ghost use Rattle.std.specs.Prelude.{map};
+    ghost use Rattle.kat_model.specs.declared.limits.TheConstants.{MAX_TESTS};
+    ghost use Rattle.flow_forms.specs.Comparisons.{FlowComparisonTree, comparison_tree, is_same_comparison};
+    ghost use Rattle.flow_problem.specs.EdgeTerms.{edge_comparisons};
 
-#[cycle(add_edges)]
-fn add_edges(
-    alloc: Global,
-    edges: &[FlowEdge],
-    rows: &mut Vec<FlowComparison>,
-) -> Result<(), NoMemory>
-    ensures { OnOk result (map comparison_tree rows.new.items ≡ with_all_new_within MAX_TESTS is_same_comparison (map comparison_tree rows.old.items) (flat_map edge_comparisons (map flow_edge edges.now))) }
-{
-    match edges {
-        [] => Ok(()),
-        [edge, rest @ ..] => add_edges_from(alloc, edge, rest, rows),
+    ghost Row = { FlowComparisonTree };
+
+    ghost rows = { λ v. map comparison_tree v.items };
+
+    ghost same = { is_same_comparison };
+
+    ghost most = { MAX_TESTS };
+
+    ghost edge_rows = { edge_comparisons };
+
+    fn add_edge(&mut self, alloc: Global, edge: &FlowEdge) -> Result<(), NoMemory> {
+        add_conds(alloc, &edge.tests, self)
     }
-}
-
-#[cycle(add_edges)]
-#[tactic(auto, using(crate::proofs::TableRows::first_then))]
-fn add_edges_from(
-    alloc: Global,
-    edge: &FlowEdge,
-    rest: &[FlowEdge],
-    rows: &mut Vec<FlowComparison>,
-) -> Result<(), NoMemory>
-    ensures { OnOk result (map comparison_tree rows.new.items ≡ with_all_new_within MAX_TESTS is_same_comparison (map comparison_tree rows.old.items) (edge_comparisons (flow_edge edge.now) ++ flat_map edge_comparisons (map flow_edge rest.now))) }
-{
-    add_edge(alloc, edge, rows)?;
-    add_edges(alloc, rest, rows)
-}
-
-#[cycle(add_places)]
-fn add_places(
-    alloc: Global,
-    list: &[Vec<FlowEdge>],
-    rows: &mut Vec<FlowComparison>,
-) -> Result<(), NoMemory>
-    ensures { OnOk result (map comparison_tree rows.new.items ≡ with_all_new_within MAX_TESTS is_same_comparison (map comparison_tree rows.old.items) (flat_map edge_comparisons (flat_map row_edges list.now))) }
-{
-    match list {
-        [] => Ok(()),
-        [edges, rest @ ..] => add_places_from(alloc, edges, rest, rows),
-    }
-}
-
-#[cycle(add_places)]
-#[tactic(auto, using(crate::proofs::TableRows::part_then))]
-fn add_places_from(
-    alloc: Global,
-    edges: &Vec<FlowEdge>,
-    rest: &[Vec<FlowEdge>],
-    rows: &mut Vec<FlowComparison>,
-) -> Result<(), NoMemory>
-    ensures { OnOk result (map comparison_tree rows.new.items ≡ with_all_new_within MAX_TESTS is_same_comparison (map comparison_tree rows.old.items) (flat_map edge_comparisons (row_edges edges.now ++ flat_map row_edges rest.now))) }
-{
-    add_edges(alloc, edges, rows)?;
-    add_places(alloc, rest, rows)
 }
 
 // Returns the comparisons of the edges of two graphs, each once; stops at `MAX_TESTS` + 1 of them.
-#[tactic(auto, using(crate::proofs::TableRows::parts_then))]
 fn first_rows(
     alloc: Global,
     before: &[Vec<FlowEdge>],
@@ -152,8 +110,7 @@ fn first_rows(
     ensures { IfOk result (λ rows. map comparison_tree rows.items ≡ with_all_new_within MAX_TESTS is_same_comparison [] (flat_map edge_comparisons (flat_map row_edges before.now ++ flat_map row_edges after.now))) }
 {
     let mut rows = Vec::new(alloc);
-    add_places(alloc, before, &mut rows)?;
-    add_places(alloc, after, &mut rows)?;
+    add_graphs(alloc, before, after, &mut rows)?;
     Ok(rows)
 }
 

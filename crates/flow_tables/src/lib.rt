@@ -3,6 +3,7 @@
 
 mod actions;
 mod comparisons;
+mod edge_table;
 mod fault;
 mod graph;
 mod rows;
