@@ -1,11 +1,11 @@
 //! Sums, differences, multiples and products of forms.
 ghost use Rattle.std.specs.Prelude.{◌≡◌, IfOk};
 ghost use Rattle.kat_model.specs.Stores.{modulus};
-ghost use Rattle.flow_forms.specs.Forms.{form_tree};
-ghost use Rattle.flow_forms.specs.Arithmetic.{form_sum, multiple as form_multiple, negative as form_negative, form_difference, term_times as form_times_term, form_product};
+ghost use Rattle.flow_forms.specs.Forms.{constant, form_tree};
+ghost use Rattle.flow_forms.specs.Arithmetic.{form_sum, multiple as form_multiple, negative as form_negative, form_difference, nonzero_term as term_unless_zero, joined as joined_products, term_times as form_times_term, form_product};
 
-use crate::form::FlowForm;
 use crate::form::merging::{nonzero_term, one_cell};
+use crate::form::{FlowForm, copy_both};
 use kat_model::{NoMemory, Width};
 use std::alloc::Global;
 
@@ -33,6 +33,20 @@ pub fn multiple(
     form.times(alloc, width, number)
 }
 
+/// Returns a form multiplied by a number, plus another form.
+pub(crate) fn multiple_plus(
+    alloc: Global,
+    width: Width,
+    number: u64,
+    form: FlowForm,
+    rest: FlowForm,
+) -> Result<FlowForm, NoMemory>
+    ensures { IfOk result (λ f. form_tree f ≡ form_sum (modulus width) (form_multiple (modulus width) number (form_tree form)) (form_tree rest)) }
+{
+    let first = multiple(alloc, width, number, form)?;
+    sum(alloc, width, first, rest)
+}
+
 /// Returns the negative of a form.
 pub fn negative(alloc: Global, width: Width, form: FlowForm) -> Result<FlowForm, NoMemory>
     ensures { IfOk result (λ f. form_tree f ≡ form_negative (modulus width) (form_tree form)) }
@@ -53,6 +67,20 @@ pub fn difference(
     sum(alloc, width, left, right)
 }
 
+// Returns a number times the product of two products.
+fn joined_times(
+    alloc: Global,
+    times: u64,
+    left: &FlowForm,
+    right: &FlowForm,
+) -> Result<FlowForm, NoMemory>
+    ensures { IfOk result (λ f. form_tree f ≡ term_unless_zero times (joined_products (form_tree left.now) (form_tree right.now)) (constant 0)) }
+{
+    let (left, right) = copy_both(alloc, left, right)?;
+    let both = left.joined(alloc, right)?;
+    nonzero_term(alloc, times, both, FlowForm::Constant(0))
+}
+
 // Returns a term times a sum.
 fn term_times(
     alloc: Global,
@@ -70,15 +98,12 @@ fn term_times(
         }
         FlowForm::Term(u, other, rest) => {
             let rest = term_times(alloc, width, times, product, rest)?;
-            let product = product.copy(alloc)?;
-            let both = product.joined(alloc, other.copy(alloc)?)?;
-            let first = nonzero_term(alloc, width.mul(times, *u), both, FlowForm::Constant(0))?;
+            let first = joined_times(alloc, width.mul(times, *u), product, other)?;
             sum(alloc, width, first, rest)
         }
         cell => {
             let other = one_cell(alloc, cell.copy(alloc)?)?;
-            let both = product.copy(alloc)?.joined(alloc, other)?;
-            nonzero_term(alloc, width.residue(times), both, FlowForm::Constant(0))
+            joined_times(alloc, width.residue(times), product, &other)
         }
     }
 }

@@ -3,7 +3,7 @@ ghost use Rattle.std.specs.Prelude.{◌≡◌, ◌↔◌, IfOk, IsTrue};
 ghost use Rattle.flow_forms.specs.Forms.{form_tree};
 ghost use Rattle.flow_forms.specs.Comparisons.{comparison_tree, literal_tree, opposite as opposite_literal};
 
-use crate::form::FlowForm;
+use crate::form::{FlowForm, copy_both};
 use crate::order::{bits, same_form};
 use kat_model::{NoMemory, Width};
 use std::alloc::Global;
@@ -45,13 +45,11 @@ impl FlowComparison {
         match self {
             FlowComparison::Zero(width, f) => Ok(FlowComparison::Zero(*width, f.copy(alloc)?)),
             FlowComparison::Less(width, f, g) => {
-                let left = f.copy(alloc)?;
-                let right = g.copy(alloc)?;
+                let (left, right) = copy_both(alloc, f, g)?;
                 Ok(FlowComparison::Less(*width, left, right))
             }
             FlowComparison::Same(f, g) => {
-                let left = f.copy(alloc)?;
-                let right = g.copy(alloc)?;
+                let (left, right) = copy_both(alloc, f, g)?;
                 Ok(FlowComparison::Same(left, right))
             }
         }

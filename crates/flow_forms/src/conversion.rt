@@ -3,7 +3,7 @@ ghost use Rattle.std.specs.Prelude.{◌≡◌, false, IfOk};
 ghost use Rattle.flow_forms.specs.Forms.{converted as converted_form, form_tree, cell_form};
 ghost use Rattle.flow_forms.specs.Conversions.{is_narrower as has_fewer_bits, is_same_width as has_same_bits, shortened as shortened_form, truncated as truncated_form, is_one as has_no_cells, is_zero as is_zero_form, is_alone as is_product_alone, is_kept as keeps_form, widened_cell as widened_from_cell, widened_product as widened_from_product, widened as widened_form, sum_conversion as converted_sum, form_conversion};
 
-use crate::arithmetic::{multiple, product, sum};
+use crate::arithmetic::{multiple_plus, product};
 use crate::form::FlowForm;
 use crate::order::bits as bits_of;
 use flow_model::convert_number;
@@ -36,6 +36,20 @@ fn conversion_cell(
     FlowForm::of_cell(alloc, cell)
 }
 
+// Returns the sum that is one conversion of a copy of a form.
+fn copied_conversion(
+    alloc: Global,
+    signed: bool,
+    from: Width,
+    to: Width,
+    form: &FlowForm,
+) -> Result<FlowForm, NoMemory>
+    ensures { IfOk result (λ f. form_tree f ≡ cell_form (converted_form signed from to (form_tree form.now))) }
+{
+    let form = form.copy(alloc)?;
+    conversion_cell(alloc, signed, from, to, form)
+}
+
 // Returns a cell, converted without sign.
 fn truncated_cell(
     alloc: Global,
@@ -59,8 +73,7 @@ fn truncated(alloc: Global, from: Width, to: Width, form: &FlowForm) -> Result<F
         FlowForm::Term(t, cells, rest) => {
             let rest = truncated(alloc, from, to, rest)?;
             let cells = truncated(alloc, from, to, cells)?;
-            let first = multiple(alloc, to, *t, cells)?;
-            sum(alloc, to, first, rest)
+            multiple_plus(alloc, to, *t, cells, rest)
         }
         FlowForm::One => Ok(FlowForm::Constant(1)),
         FlowForm::Factor(cell, rest) => {
@@ -93,7 +106,7 @@ fn shortened(
         return truncated(alloc, from, to, form);
     }
     if is_narrower(from, to) {
-        return conversion_cell(alloc, signed, from, to, form.copy(alloc)?);
+        return copied_conversion(alloc, signed, from, to, form);
     }
     form.copy(alloc)
 }
@@ -144,11 +157,11 @@ fn widened_cell(
     match cell {
         FlowForm::Converted(inner, v, w, part) => {
             if is_kept(signed, from, *inner, *v, *w) {
-                return conversion_cell(alloc, *inner, *v, to, part.copy(alloc)?);
+                return copied_conversion(alloc, *inner, *v, to, part);
             }
-            conversion_cell(alloc, signed, from, to, form.copy(alloc)?)
+            copied_conversion(alloc, signed, from, to, form)
         }
-        _ => conversion_cell(alloc, signed, from, to, form.copy(alloc)?),
+        _ => copied_conversion(alloc, signed, from, to, form),
     }
 }
 
@@ -168,9 +181,9 @@ fn widened_product(
             if is_one(rest) {
                 return widened_cell(alloc, signed, from, to, form, cell);
             }
-            conversion_cell(alloc, signed, from, to, form.copy(alloc)?)
+            copied_conversion(alloc, signed, from, to, form)
         }
-        _ => conversion_cell(alloc, signed, from, to, form.copy(alloc)?),
+        _ => copied_conversion(alloc, signed, from, to, form),
     }
 }
 
@@ -189,9 +202,9 @@ fn widened(
             if is_alone(*times, rest) {
                 return widened_product(alloc, signed, from, to, form, product);
             }
-            conversion_cell(alloc, signed, from, to, form.copy(alloc)?)
+            copied_conversion(alloc, signed, from, to, form)
         }
-        _ => conversion_cell(alloc, signed, from, to, form.copy(alloc)?),
+        _ => copied_conversion(alloc, signed, from, to, form),
     }
 }
 

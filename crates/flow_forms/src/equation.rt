@@ -8,7 +8,7 @@ ghost use Rattle.flow_forms.specs.Equations.{equation_tree, part_tree};
 use crate::arithmetic::{difference, negative};
 use crate::comparison::{FlowComparison, FlowLiteral};
 use crate::conversion::{is_narrower, is_one, is_same_width, is_zero};
-use crate::form::FlowForm;
+use crate::form::{FlowForm, copy_both};
 use crate::order::{cmp_form, sign_rank};
 use flow_model::convert_number;
 use kat_model::{NoMemory, Width};
@@ -101,9 +101,8 @@ fn second_cell(
         FlowForm::Converted(signed, from, to, form) => {
             let is_kind = is_same_kind(part, equation.width, *signed, *from, *to);
             if is_kind && are_opposite(equation.width, part.times, times) {
-                let left = part.form.copy(alloc)?;
-                let right = form.copy(alloc)?;
                 let width = part.from;
+                let (left, right) = copy_both(alloc, &part.form, form)?;
                 let form = difference(alloc, width, left, right)?;
                 return Ok(Equation { width, form });
             }

@@ -54,6 +54,32 @@ impl Drop for FlowForm {
     }
 }
 
+// Moves both forms to boxes. If there is no memory for the second box, the first is dropped.
+fn boxed_pair(
+    alloc: Global,
+    left: FlowForm,
+    right: FlowForm,
+) -> Result<(Box<FlowForm>, Box<FlowForm>), NoMemory>
+    ensures { IfOk result (λ both. (form_tree both.0.value ≡ form_tree left) × (form_tree both.1.value ≡ form_tree right)) }
+{
+    let left = Box::new(alloc, left)?;
+    let right = Box::new(alloc, right)?;
+    Ok((left, right))
+}
+
+/// Returns copies of both forms. Fails only when out of memory.
+pub(crate) fn copy_both(
+    alloc: Global,
+    left: &FlowForm,
+    right: &FlowForm,
+) -> Result<(FlowForm, FlowForm), NoMemory>
+    ensures { IfOk result (λ both. (form_tree both.0 ≡ form_tree left.now) × (form_tree both.1 ≡ form_tree right.now)) }
+{
+    let left = left.copy(alloc)?;
+    let right = right.copy(alloc)?;
+    Ok((left, right))
+}
+
 impl FlowForm {
     /// Returns `Term` over a product and a sum. Fails only when out of memory; the parts are dropped then.
     pub fn new_term(
@@ -64,8 +90,7 @@ impl FlowForm {
     ) -> Result<Self, NoMemory>
         ensures { IfOk result (λ f. form_tree f ≡ term coefficient (form_tree product) (form_tree rest)) }
     {
-        let product = Box::new(alloc, product)?;
-        let rest = Box::new(alloc, rest)?;
+        let (product, rest) = boxed_pair(alloc, product, rest)?;
         Ok(FlowForm::Term(coefficient, product, rest))
     }
 
@@ -73,8 +98,7 @@ impl FlowForm {
     pub fn new_factor(alloc: Global, cell: FlowForm, rest: FlowForm) -> Result<Self, NoMemory>
         ensures { IfOk result (λ f. form_tree f ≡ factor (form_tree cell) (form_tree rest)) }
     {
-        let cell = Box::new(alloc, cell)?;
-        let rest = Box::new(alloc, rest)?;
+        let (cell, rest) = boxed_pair(alloc, cell, rest)?;
         Ok(FlowForm::Factor(cell, rest))
     }
 
@@ -112,8 +136,7 @@ impl FlowForm {
     ) -> Result<Self, NoMemory>
         ensures { IfOk result (λ f. form_tree f ≡ argument sort (form_tree form) (form_tree rest)) }
     {
-        let form = Box::new(alloc, form)?;
-        let rest = Box::new(alloc, rest)?;
+        let (form, rest) = boxed_pair(alloc, form, rest)?;
         Ok(FlowForm::Argument(sort, form, rest))
     }
 
@@ -126,21 +149,20 @@ impl FlowForm {
     }
 
     /// Returns a copy of the tree. Fails only when out of memory.
+    #[cycle(copies)]
     pub fn copy(&self, alloc: Global) -> Result<FlowForm, NoMemory>
         ensures { IfOk result (λ f. form_tree f ≡ form_tree self.now) }
     {
         match self {
             FlowForm::Constant(c) => Ok(FlowForm::Constant(*c)),
             FlowForm::Term(t, product, rest) => {
-                let product = product.copy(alloc)?;
-                let rest = rest.copy(alloc)?;
-                FlowForm::new_term(alloc, *t, product, rest)
+                let (product, rest) = FlowForm::boxed_copies(alloc, product, rest)?;
+                Ok(FlowForm::Term(*t, product, rest))
             }
             FlowForm::One => Ok(FlowForm::One),
             FlowForm::Factor(cell, rest) => {
-                let cell = cell.copy(alloc)?;
-                let rest = rest.copy(alloc)?;
-                FlowForm::new_factor(alloc, cell, rest)
+                let (cell, rest) = FlowForm::boxed_copies(alloc, cell, rest)?;
+                Ok(FlowForm::Factor(cell, rest))
             }
             FlowForm::Variable(k) => Ok(FlowForm::Variable(*k)),
             FlowForm::Applied(f, sort, arguments) => {
@@ -153,11 +175,24 @@ impl FlowForm {
             }
             FlowForm::NoArguments => Ok(FlowForm::NoArguments),
             FlowForm::Argument(sort, form, rest) => {
-                let form = form.copy(alloc)?;
-                let rest = rest.copy(alloc)?;
-                FlowForm::new_argument(alloc, *sort, form, rest)
+                let (form, rest) = FlowForm::boxed_copies(alloc, form, rest)?;
+                Ok(FlowForm::Argument(*sort, form, rest))
             }
         }
+    }
+
+    // Returns copies of both forms, each in its own box.
+    #[cycle(copies)]
+    fn boxed_copies(
+        alloc: Global,
+        left: &FlowForm,
+        right: &FlowForm,
+    ) -> Result<(Box<FlowForm>, Box<FlowForm>), NoMemory>
+        ensures { IfOk result (λ both. (form_tree both.0.value ≡ form_tree left.now) × (form_tree both.1.value ≡ form_tree right.now)) }
+    {
+        let left = left.copy(alloc)?;
+        let right = right.copy(alloc)?;
+        boxed_pair(alloc, left, right)
     }
 
     /// Returns the number of nodes of a form, saturated at `u64::MAX`: one for each constant and each cell, those in

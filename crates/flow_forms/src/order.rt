@@ -1,5 +1,6 @@
 //! The order of forms, and their equality.
 ghost use Rattle.std.specs.Prelude.{◌≡◌, ◌↔◌, IsTrue};
+ghost use Rattle.std.specs.Ordering.{nat_cmp};
 ghost use Rattle.kat_model.specs.Stores.{bits as bits_of};
 ghost use Rattle.flow_forms.specs.Forms.{form_tree};
 ghost use Rattle.flow_forms.specs.Order.{sort_cmp, sign_rank as rank_of_sign, kind_rank as rank_of_kind, form_cmp};
@@ -21,11 +22,17 @@ pub(crate) fn bits(width: Width) -> u32
     }
 }
 
+fn cmp_width(left: Width, right: Width) -> Ordering
+    ensures { result ≡ nat_cmp (bits_of left) (bits_of right) }
+{
+    bits(left).cmp(&bits(right))
+}
+
 fn cmp_sort(left: Sort, right: Sort) -> Ordering
     ensures { result ≡ sort_cmp left right }
 {
     match (left, right) {
-        (Sort::Number(v), Sort::Number(w)) => bits(v).cmp(&bits(w)),
+        (Sort::Number(v), Sort::Number(w)) => cmp_width(v, w),
         (Sort::Number(_), Sort::Opaque(_)) => Ordering::Less,
         (Sort::Opaque(_), Sort::Number(_)) => Ordering::Greater,
         (Sort::Opaque(j), Sort::Opaque(k)) => j.cmp(&k),
@@ -36,6 +43,12 @@ pub(crate) fn sign_rank(signed: bool) -> u32
     ensures { result ≡ rank_of_sign signed }
 {
     if signed { 1 } else { 0 }
+}
+
+fn cmp_sign(left: bool, right: bool) -> Ordering
+    ensures { result ≡ nat_cmp (rank_of_sign left) (rank_of_sign right) }
+{
+    sign_rank(left).cmp(&sign_rank(right))
 }
 
 // Returns the number by which forms that begin differently are ordered.
@@ -53,6 +66,12 @@ fn kind_rank(form: &FlowForm) -> u32
         FlowForm::NoArguments => 7,
         FlowForm::Argument(_, _, _) => 8,
     }
+}
+
+fn cmp_kind(left: &FlowForm, right: &FlowForm) -> Ordering
+    ensures { result ≡ nat_cmp (rank_of_kind (form_tree left.now)) (rank_of_kind (form_tree right.now)) }
+{
+    kind_rank(left).cmp(&kind_rank(right))
 }
 
 /// Returns the order of forms: sums as lists of terms, product before coefficient, then by constant; products as lists
@@ -75,15 +94,15 @@ pub(crate) fn cmp_form(left: &FlowForm, right: &FlowForm) -> Ordering
             f.cmp(g).then(later)
         }
         (FlowForm::Converted(signed, from, to, f), FlowForm::Converted(sign, v, w, g)) => {
-            let later = bits(*to).cmp(&bits(*w)).then(cmp_form(f, g));
-            let widths = bits(*from).cmp(&bits(*v)).then(later);
-            sign_rank(*signed).cmp(&sign_rank(*sign)).then(widths)
+            let later = cmp_width(*to, *w).then(cmp_form(f, g));
+            let widths = cmp_width(*from, *v).then(later);
+            cmp_sign(*signed, *sign).then(widths)
         }
         (FlowForm::Argument(sort, f, rest), FlowForm::Argument(kind, g, other)) => {
             let later = cmp_form(f, g).then(cmp_form(rest, other));
             cmp_sort(*sort, *kind).then(later)
         }
-        _ => kind_rank(left).cmp(&kind_rank(right)),
+        _ => cmp_kind(left, right),
     }
 }
 

@@ -6,7 +6,7 @@ ghost use Rattle.flow_forms.specs.Expressions.{or_number, or_zero, form_of_cell}
 ghost use Rattle.flow_forms.specs.Sizes.{is_small as is_small_form, conversion_fits};
 ghost use Rattle.flow_forms.specs.Substitution.{place_of as place_of_sort, cell_in as cell_in_place, sum_in as sum_in_place, one_in as one_in_place, product_in as product_in_place, substituted, product_fits_in, cell_fits_in, substitution_fits};
 
-use crate::arithmetic::{multiple, sum};
+use crate::arithmetic::multiple_plus;
 use crate::checked::{checked_conversion, checked_product, small};
 use crate::conversion::is_same_width;
 use crate::expression::{cell_of, form_at, sort_at};
@@ -77,10 +77,7 @@ fn unchecked_sum(
     ensures { IfOk result (λ f. form_tree f ≡ sum_in_place place times (form_tree product) (form_tree rest)) }
 {
     match place {
-        Place::InNumber(width) => {
-            let first = multiple(alloc, width, times, product)?;
-            sum(alloc, width, first, rest)
-        }
+        Place::InNumber(width) => multiple_plus(alloc, width, times, product, rest),
         Place::AsValue => FlowForm::new_term(alloc, times, product, rest),
         Place::AsArgument => FlowForm::new_term(alloc, times, product, rest),
     }

@@ -7,14 +7,12 @@ use Rattle.flow_forms.specs.Arithmetic.{nonzero_term, joined}
 use Rattle.flow_forms.proofs.OtherForms.{no_constant, no_term, term_times-other}
 use Rattle.flow_forms.proofs.arithmetic.+term_times.Goals as goal
 
-pub returns-in_ok-both-in_default : goal.returns-in_ok-both-in_default
-returns-in_ok-both-in_default t c =
+pub returns-in_ok-other-in_default : goal.returns-in_ok-other-in_default
+returns-in_ok-other-in_default t c =
     let m = modulus c.args.width in
     let none = no_constant c.args.form.now c.in_default.not-Constant in
     let other = no_term c.args.form.now c.in_default.not-Term in
-    let product_is : form_tree c.in_ok-copy-in_default-2.field-0 ≡ form_tree c.args.product.now = search rules in
     let cell_is : form_tree c.in_ok-other-in_default.other ≡ factor (form_tree c.args.form.now) one = search rules in
-    let both_is = c.in_ok-both-in_default.ensures ∙ ap₂ joined product_is cell_is in
-    IfOk-weaker c.nonzero_term-in_default.result _ _
-    (λ f q. q ∙ ap₂ (λ n p. nonzero_term n p (constant 0)) c.residue.ensures both_is ∙ sym (term_times-other m c.args.times (form_tree c.args.product.now) (form_tree c.args.form.now) none other))
-    c.nonzero_term-in_default.ensures
+    IfOk-weaker c.joined_times-in_default.result _ _
+    (λ f q. q ∙ ap₂ (λ n p. nonzero_term n (joined (form_tree c.args.product.now) p) (constant 0)) c.residue.ensures cell_is ∙ sym (term_times-other m c.args.times (form_tree c.args.product.now) (form_tree c.args.form.now) none other))
+    c.joined_times-in_default.ensures
