@@ -8,7 +8,7 @@ ghost use Rattle.linear_arithmetic.specs.Arithmetic.{put_nonzero, merge, form_su
 ghost use Rattle.linear_arithmetic.specs.Working.Merging.{first_order, first_joined};
 ghost use Rattle.linear_arithmetic.specs.NormalForms.{IsForm};
 
-use crate::form::{Form, Mono, Term, boxed_form, push_term};
+use crate::form::{Form, Mono, Term, form_of_mono, new_product, push_term};
 use crate::order::{cmp_form, cmp_mono};
 use kat_model::{NoMemory, Width};
 use std::alloc::Global;
@@ -63,7 +63,60 @@ fn join_last(
     }
 }
 
-// Merges two ascending lists of terms. Reverses both first, so that their first terms can be popped.
+// Moves the last terms of two lists, merged, to the end of a third: the lesser one, or both as one term.
+fn merge_last(
+    width: Width,
+    left: &mut Vec<Term>,
+    right: &mut Vec<Term>,
+    to: &mut Vec<Term>,
+) -> Result<(), NoMemory>
+    requires left_some { 0 < length left.old.items }
+    requires right_some { 0 < length right.old.items }
+    ensures merged { OnOk result (to.new.items ++ merge (modulus width) (reverse left.new.items) (reverse right.new.items) ≡ to.old.items ++ merge (modulus width) (reverse left.old.items) (reverse right.old.items)) }
+    ensures fewer { OnOk result (length left.new.items + length right.new.items < length left.old.items + length right.old.items) }
+{
+    match last_order(left, right) {
+        Ordering::Less => move_last(left, to),
+        Ordering::Greater => move_last(right, to),
+        Ordering::Equal => join_last(width, left, right, to),
+    }
+}
+
+// Moves the last terms of two lists, merged, to the end of a third, until one of the two lists is empty.
+fn merge_reversed(
+    width: Width,
+    left: &mut Vec<Term>,
+    right: &mut Vec<Term>,
+    to: &mut Vec<Term>,
+) -> Result<(), NoMemory>
+    ensures { OnOk result (to.new.items ++ (reverse left.new.items ++ reverse right.new.items) ≡ to.old.items ++ merge (modulus width) (reverse left.old.items) (reverse right.old.items)) }
+{
+    while !left.is_empty() && !right.is_empty() {
+        merge_last(width, left, right, to)?;
+    }
+    Ok(())
+}
+
+// Moves two ascending lists of terms, merged, to the end of a third. Reverses both first, so that their first terms can
+// be popped.
+fn merge_into(
+    width: Width,
+    left: &mut Vec<Term>,
+    right: &mut Vec<Term>,
+    to: &mut Vec<Term>,
+) -> Result<(), NoMemory>
+    ensures { OnOk result (to.new.items ≡ to.old.items ++ merge (modulus width) left.old.items right.old.items) }
+{
+    left.reverse();
+    right.reverse();
+    merge_reversed(width, left, right, to)?;
+    left.reverse();
+    right.reverse();
+    to.append(left)?;
+    Ok(to.append(right)?)
+}
+
+// Merges two ascending lists of terms.
 fn merge_of(
     alloc: Global,
     width: Width,
@@ -72,22 +125,8 @@ fn merge_of(
 ) -> Result<Vec<Term>, NoMemory>
     ensures { IfOk result (λ ts. ts.items ≡ merge (modulus width) left.items right.items) }
 {
-    left.reverse();
-    right.reverse();
     let mut to: Vec<Term> = Vec::new(alloc);
-    while !left.is_empty() && !right.is_empty() {
-        match last_order(&left, &right) {
-            Ordering::Less => move_last(&mut left, &mut to)?,
-            Ordering::Greater => move_last(&mut right, &mut to)?,
-            Ordering::Equal => join_last(width, &mut left, &mut right, &mut to)?,
-        }
-    }
-    while !left.is_empty() {
-        move_last(&mut left, &mut to)?;
-    }
-    while !right.is_empty() {
-        move_last(&mut right, &mut to)?;
-    }
+    merge_into(width, &mut left, &mut right, &mut to)?;
     Ok(to)
 }
 
@@ -97,7 +136,7 @@ pub fn sum(alloc: Global, width: Width, left: Form, right: Form) -> Result<Form,
     ensures { IfOk result (λ f. f ≡ form_sum (modulus width) left right) }
 {
     let constant = width.add(left.constant, right.constant);
-    let terms = merge_of(alloc, width, left.terms, right.terms)?;
+    let terms = merge_of(alloc, width, left.into_terms(), right.into_terms())?;
     Ok(Form { terms, constant })
 }
 
@@ -108,7 +147,7 @@ pub fn multiple(alloc: Global, width: Width, times: u64, form: Form) -> Result<F
 {
     let constant = width.mul(times, form.constant);
     let mut to: Vec<Term> = Vec::new(alloc);
-    for term in form.terms {
+    for term in form.into_terms() {
         push_nonzero(&mut to, term.mono, width.mul(times, term.times))?;
     }
     Ok(Form {
@@ -141,11 +180,8 @@ pub(crate) fn difference(
 fn product_form(alloc: Global, first: Form, second: Form) -> Result<Form, NoMemory>
     ensures { IfOk result (λ f. f ≡ product_term first second 1 (constant 0)) }
 {
-    let first = boxed_form(alloc, first)?;
-    let second = boxed_form(alloc, second)?;
-    let mut terms = Vec::new(alloc);
-    push_term(&mut terms, Mono::Product(first, second), 1)?;
-    Ok(Form { terms, constant: 0 })
+    let mono = new_product(alloc, first, second)?;
+    form_of_mono(alloc, mono)
 }
 
 // Returns the form that is one product of two forms, the lesser first.

@@ -1,6 +1,6 @@
 //! Forms, their copies and their sizes.
 ghost use Rattle.std.specs.Prelude.{◌≡◌, ◌-◌, ◌^◌, [], ◌∷◌, ◌++◌, min, IfOk, OnOk};
-ghost use Rattle.linear_arithmetic.specs.Forms.{form_nodes, mono_nodes, form_of_var};
+ghost use Rattle.linear_arithmetic.specs.Forms.{product, form_nodes, mono_nodes, form_of, form_of_var, terms_of};
 ghost use Rattle.linear_arithmetic.specs.Views.{mono_tree};
 
 use kat_model::NoMemory;
@@ -9,10 +9,20 @@ use std::marker::Model;
 
 /// A monomial: a variable, numbered from 0, or a product of two forms that is not multiplied out.
 #[cycle(form)]
-#[derive(Drop)]
 pub enum Mono {
     Var(usize),
     Product(Box<Form>, Box<Form>),
+}
+
+// Explicit, so that it is proved once and not in each crate that owns a form, nor at each end of its functions.
+impl Drop for Mono {
+    #[cycle(form)]
+    fn drop(self) {
+        match self {
+            Mono::Var(_number) => {}
+            Mono::Product(_left, _right) => {}
+        }
+    }
 }
 
 /// A monomial and its coefficient.
@@ -48,10 +58,20 @@ impl Model for Term {
 /// ascending, the coefficients are not 0, each number is below 2 to the width, and the two forms of a product are not
 /// constant, the lesser first.
 #[cycle(form)]
-#[derive(Drop)]
 pub struct Form {
     pub terms: Vec<Term>,
     pub constant: u64,
+}
+
+// Explicit, as for monomials.
+impl Drop for Form {
+    #[cycle(form)]
+    fn drop(self) {
+        let Form {
+            terms: _terms,
+            constant: _constant,
+        } = self;
+    }
 }
 
 impl Model for Form {
@@ -73,10 +93,13 @@ impl Model for Form {
     ghost size_decreases = { λ a h. Prim.omega (arith, terms_fall a.terms.items a.constant) };
 }
 
-pub(crate) fn boxed_form(alloc: Global, form: Form) -> Result<Box<Form>, NoMemory>
-    ensures { IfOk result (λ b. b.value ≡ form) }
+/// Returns the monomial that is the product of two forms.
+pub(crate) fn new_product(alloc: Global, left: Form, right: Form) -> Result<Mono, NoMemory>
+    ensures { IfOk result (λ p. mono_tree p ≡ product left right) }
 {
-    Ok(Box::new(alloc, form)?)
+    let left = Box::new(alloc, left)?;
+    let right = Box::new(alloc, right)?;
+    Ok(Mono::Product(left, right))
 }
 
 // Appends a term.
@@ -95,12 +118,23 @@ pub(crate) fn copy_mono(alloc: Global, mono: &Mono) -> Result<Mono, NoMemory>
         Mono::Product(f, g) => {
             let left = f.copy(alloc)?;
             let right = g.copy(alloc)?;
-            Ok(Mono::Product(boxed_form(alloc, left)?, boxed_form(alloc, right)?))
+            new_product(alloc, left, right)
         }
     }
 }
 
 impl Form {
+    /// Returns the terms of the form.
+    pub(crate) fn into_terms(self) -> Vec<Term>
+        ensures { result.items ≡ terms_of self }
+    {
+        let Form {
+            terms,
+            constant: _constant,
+        } = self;
+        terms
+    }
+
     /// Returns a copy of the form. Fails only when out of memory.
     #[cycle(copies)]
     pub fn copy(&self, alloc: Global) -> Result<Form, NoMemory>
@@ -117,13 +151,20 @@ impl Form {
     }
 }
 
+/// Returns the form that is one monomial with the coefficient 1.
+pub(crate) fn form_of_mono(alloc: Global, mono: Mono) -> Result<Form, NoMemory>
+    ensures { IfOk result (λ f. f ≡ form_of ((mono_tree mono, 1) ∷ []) 0) }
+{
+    let mut terms = Vec::new(alloc);
+    push_term(&mut terms, mono, 1)?;
+    Ok(Form { terms, constant: 0 })
+}
+
 /// Returns the form that is one variable, numbered from 0, with the coefficient 1. Fails only when out of memory.
 pub fn variable(alloc: Global, k: usize) -> Result<Form, NoMemory>
     ensures { IfOk result (λ f. f ≡ form_of_var k) }
 {
-    let mut terms = Vec::new(alloc);
-    push_term(&mut terms, Mono::Var(k), 1)?;
-    Ok(Form { terms, constant: 0 })
+    form_of_mono(alloc, Mono::Var(k))
 }
 
 #[cycle(sizes)]

@@ -2,12 +2,12 @@ use Rattle.std.proofs.Common.{rules, refl, ◌≡◌}
 use Rattle.kat_model.specs.Stores.{modulus}
 use Rattle.linear_arithmetic.specs.Forms.{terms_of, constant_of}
 use Rattle.linear_arithmetic.specs.Arithmetic.{scale}
-use Rattle.linear_arithmetic.proofs.Terms.{terms_of-form_of, constant_of-form_of}
+use Rattle.linear_arithmetic.proofs.Terms.{constant_of-form_of}
 use Rattle.linear_arithmetic.proofs.Merging.{scale_at_end}
 use Rattle.linear_arithmetic.proofs.arithmetic.multiple.Goals as goal
 
 pub loop-term-init : goal.loop-term-init
-loop-term-init c = rw (← c.form.view_is, terms_of-form_of c.form.inside.terms.items c.form.inside.constant) (search rules)
+loop-term-init c = rw (← c.into_terms-term-items.ensures) (search rules)
 
 pub returns : goal.returns
 returns c =

@@ -1,14 +1,10 @@
-use Rattle.std.proofs.Common.{rules}
-use Rattle.linear_arithmetic.proofs.Terms.{terms_of-form_of, constant_of-form_of}
+use Rattle.std.proofs.Common.{rules, ◌≡◌}
+use Rattle.linear_arithmetic.specs.Forms.{constant_of}
+use Rattle.linear_arithmetic.proofs.Terms.{constant_of-form_of}
 use Rattle.linear_arithmetic.proofs.arithmetic.sum.Goals as goal
 
 pub returns : goal.returns
 returns c =
-    rw (
-      ← c.left.view_is,
-      ← c.right.view_is,
-      terms_of-form_of c.left.inside.terms.items c.left.inside.constant,
-      terms_of-form_of c.right.inside.terms.items c.right.inside.constant,
-      constant_of-form_of c.left.inside.terms.items c.left.inside.constant,
-      constant_of-form_of c.right.inside.terms.items c.right.inside.constant,
-    ) (search rules)
+    let left : constant_of c.args.left ≡ c.left.inside.constant = rw (← c.left.view_is) (constant_of-form_of c.left.inside.terms.items c.left.inside.constant) in
+    let right : constant_of c.args.right ≡ c.right.inside.constant = rw (← c.right.view_is) (constant_of-form_of c.right.inside.terms.items c.right.inside.constant) in
+    rw (left, right) (search rules)
