@@ -105,17 +105,6 @@ fits_with_node sorts env (node.Applied f result n) es =
     swapped (expr_fits sorts env (arguments_of n es)) (is_small (form_of_cell result (applied f result (form_of sorts env (arguments_of n es))))) (all_fit sorts env (drop n es))
     ∙ ap₂ (λ b args. b && is_small (form_of_cell result (applied f result args))) (parts_fit sorts env n es) (first_forms sorts env n es)
 
--- a whole list of nodes fits exactly if its first node and the others do
-pub both_fit : (a b c : Bool) → c ≡ (a && b) → a ≡ true → b ≡ true → c ≡ true
-both_fit a b c e p q = e ∙ ap₂ (λ x y. x && y) p q
-
-pub first_unfit : (a b c : Bool) → c ≡ (a && b) → a ≡ false → c ≡ false
-first_unfit a b c e p = e ∙ ap (λ x. x && b) p
-
-pub second_unfit : (a b c : Bool) → c ≡ (a && b) → b ≡ false → c ≡ false
-second_unfit true b c e p = e ∙ p
-second_unfit false b c e p = e
-
 -- the first expression
 
 pub top_sort_is : (sorts : List Sort) (env : List FlowFormTree) (es : List ExprTree) → top_sort (forms_of sorts env es) ≡ sort_of sorts (first_expr es)
