@@ -1,10 +1,10 @@
 //! Keywords.
 ghost use Rattle.std.specs.Prelude.{◌≡◌};
 ghost use Rattle.text_tokens.specs.Keywords.{is_keyword};
+ghost use Rattle.text_tokens.specs.Working.Words.{is_item_word, is_program_word};
 
-/// Whether `text` is a keyword of the format, which cannot be declared as a name.
-pub fn is_keyword(text: &str) -> bool
-    ensures { result ≡ is_keyword text.now }
+fn is_item_word(text: &str) -> bool
+    ensures { result ≡ is_item_word text.now }
 {
     matches!(
         text,
@@ -20,13 +20,22 @@ pub fn is_keyword(text: &str) -> bool
             | "equal"
             | "below"
             | "triple"
-            | "skip"
-            | "abort"
-            | "assert"
-            | "if"
-            | "else"
-            | "while"
-            | "true"
-            | "false"
     )
+}
+
+fn is_program_word(text: &str) -> bool
+    ensures { result ≡ is_program_word text.now }
+{
+    matches!(
+        text,
+        "skip" | "abort" | "assert" | "if" | "else" | "while" | "true" | "false"
+    )
+}
+
+/// Whether `text` is a keyword of the format, which cannot be declared as a name.
+#[tactic(auto, using(crate::proofs::Words::keyword_parts))]
+pub fn is_keyword(text: &str) -> bool
+    ensures { result ≡ is_keyword text.now }
+{
+    is_item_word(text) || is_program_word(text)
 }

@@ -1,5 +1,5 @@
 //! The lexer: cuts a text into its longest tokens.
-ghost use Rattle.std.specs.Prelude.{◌≡◌, ◌≤◌, length, take_while, false, IfOk, IfErr, IfSome, IfNone};
+ghost use Rattle.std.specs.Prelude.{◌≡◌, ◌≤◌, [], ◌∷◌, length, take_while, false, IfOk, IfErr, IfSome, IfNone};
 ghost use Rattle.std.specs.Char.{is_ascii_digit};
 ghost use Rattle.text_tokens.specs.TokenParts.{parts_of_tokens};
 ghost use Rattle.text_tokens.specs.Kinds.{is_separator, is_symbol, begins_name};
@@ -60,35 +60,36 @@ fn number_len(text: &str) -> usize
     text.bytes().take_while(|b| b.is_ascii_digit()).count()
 }
 
-fn is_symbol(bytes: &[u8]) -> bool
-    ensures { result ≡ is_symbol bytes.now }
+fn is_symbol_of_one(byte: u8) -> bool
+    ensures { result ≡ is_symbol (byte ∷ []) }
 {
     matches!(
-        bytes,
-        b":="
-            | b"=="
-            | b"!="
-            | b"<="
-            | b">="
-            | b"&&"
-            | b"||"
-            | b";"
-            | b","
-            | b"{"
-            | b"}"
-            | b"("
-            | b")"
-            | b"["
-            | b"]"
-            | b"="
-            | b"<"
-            | b">"
-            | b"+"
-            | b"-"
-            | b"*"
-            | b"."
-            | b"!"
-            | b"^"
+        byte,
+        b';' | b','
+            | b'{'
+            | b'}'
+            | b'('
+            | b')'
+            | b'['
+            | b']'
+            | b'='
+            | b'<'
+            | b'>'
+            | b'+'
+            | b'-'
+            | b'*'
+            | b'.'
+            | b'!'
+            | b'^'
+    )
+}
+
+fn is_symbol_of_two(first: u8, second: u8) -> bool
+    ensures { result ≡ is_symbol (first ∷ second ∷ []) }
+{
+    matches!(
+        (first, second),
+        (b':' | b'=' | b'!' | b'<' | b'>', b'=') | (b'&', b'&') | (b'|', b'|')
     )
 }
 
@@ -97,8 +98,8 @@ fn symbol_len(bytes: &[u8]) -> usize
     ensures { result ≡ symbol_len bytes.now }
 {
     match bytes {
-        [a, b, ..] if is_symbol(&[*a, *b]) => 2,
-        [a, ..] if is_symbol(&[*a]) => 1,
+        [a, b, ..] if is_symbol_of_two(*a, *b) => 2,
+        [a, ..] if is_symbol_of_one(*a) => 1,
         _ => 0,
     }
 }
