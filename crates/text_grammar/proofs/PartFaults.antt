@@ -1,5 +1,5 @@
 -- The results of a function that reads: a fault of one of its parts is its own fault.
-use Rattle.std.proofs.Common.{◌≡◌, ℕ, List, [], ◌∷◌, Bool, true, false, cond, Result, Ok, Err, ap, refl, ◌∙◌}
+use Rattle.std.proofs.Common.{◌≡◌, ◌<◌, ◌≤◌, ℕ, List, drop, [], ◌∷◌, Bool, true, false, cond, Result, Ok, Err, ap, refl, ◌∙◌}
 use Rattle.std.specs.Result.{IsErrAnd}
 use Rattle.std.proofs.lemmas.Result.{err_from_is_err_and}
 use Rattle.text_tokens.specs.declared.fault.TextFault.{TextFault}
@@ -7,7 +7,8 @@ use Rattle.text_tokens.specs.declared.fault.TextFault.TheVariants.{NoMemory, Syn
 use Rattle.text_grammar.specs.declared.reading.Context.{Context}
 use Rattle.text_grammar.specs.declared.terminal.Terminal.{Terminal}
 use Rattle.text_grammar.specs.Lexemes.{Lexeme, lexeme}
-use Rattle.text_grammar.specs.Parsed.{Parsed, wants, Makes, Reads}
+use Rattle.text_grammar.specs.Parsed.{Parsed, before, wants, Makes, Reads, Goes}
+use Rattle.text_grammar.specs.Working.Ends.{with_end}
 
 -- the function ends with the fault `e` of a part
 abbrev pub EndsWith : {V : Type 0} → Result V TextFault → TextFault → Type 0
@@ -53,6 +54,19 @@ at_fault_told memory means whole ts _ s m h fails = fails h
 -- the part was read without memory
 pub fault_told : {V U W X : Type 0} (memory : Type 0) (means : V → W) (whole : U → X) (ts : List Lexeme) (r : Result (U × ℕ) TextFault) (e : TextFault) (s : Parsed W) (m : Parsed X) → EndsWith r e → Reads ⊥ means ts (Err e) s → (s ≡ Err e → m ≡ Err e) → Reads memory whole ts r m
 fault_told memory means whole ts r e s m ends h fails = rw (ended r e ends) (at_fault_told memory means whole ts e s m h fails)
+
+-- what an action made, with the index after its phrase
+at_end_made : {V W : Type 0} (memory : Type 0) (means : V → W) (ts : List Lexeme) (end : ℕ) (made : Result V TextFault) (s : Result W TextFault) → Makes memory means made s → Reads memory means ts (with_end end made) (before (drop end ts) s)
+at_end_made memory means ts end (Ok v) s h = rw h refl
+at_end_made memory means ts end (Err NoMemory) s h = h
+at_end_made memory means ts end (Err _) s h = rw h refl
+
+pub end_made : {V W : Type 0} (memory : Type 0) (means : V → W) (ts : List Lexeme) (end : ℕ) (r : Result (V × ℕ) TextFault) (made : Result V TextFault) (s : Result W TextFault) (m : Parsed W) → r ≡ with_end end made → Makes memory means made s → m ≡ before (drop end ts) s → Reads memory means ts r m
+end_made memory means ts end r made s m is h same = rw (is, same) (at_end_made memory means ts end made s h)
+
+pub end_goes : {V : Type 0} (from count end : ℕ) (r : Result (V × ℕ) TextFault) (made : Result V TextFault) → r ≡ with_end end made → from < end → end ≤ count → Goes from count r
+end_goes from count end r (Ok v) is more within = rw is (more, within)
+end_goes from count end r (Err e) is more within = rw is tt
 
 -- what is too deep, or wanted, is no lack of memory
 pub enter_keeps_memory : (b : Bool) (d : Context) (at : ℕ) (e : TextFault) → cond b (Ok d) (Err (TooDeep at)) ≡ Err e → e ≡ NoMemory → ⊥

@@ -169,6 +169,9 @@ sequence_end g l c ts b done made =
     let same : g.product l ≡ b = cc in
     rw (term_step g (sequence_after l) c ts, done, same) refl
 
+pub star_seen : {E B L T M : Type 0} (g : Actions E B L T M) (c : Context) (t : T) (ts : List Lexeme) (s : Terminal) (at : ℕ) (text : List ℕ) (us : List Lexeme) → ts ≡ lexeme s at text ∷ us → s ≡ Star → star_or_not g c t ts ≡ before us (g.starred c at t)
+star_seen g c t ts s at text us seen is = rw (seen, is) refl
+
 -- what a unit reads, by its first token
 
 pub unit_none : {E B L T M : Type 0} (g : Actions E B L T M) (c : Context) (ts : List Lexeme) → ts ≡ [] → parse_term g unit c ts ≡ Err (Syntax (place_of ts))

@@ -10,7 +10,7 @@ ghost use Rattle.text_grammar.specs.Parsed.{Reads, Goes};
 ghost use Rattle.text_grammar.specs.Conds.{after_close, begins_expr, relation, comparison, parenthesis, negation, parse_cond, disjunction, conjunction, literal};
 
 use crate::expr::read_expr;
-use crate::reading::{Context, Reading};
+use crate::reading::{Context, Reading, with_end};
 use crate::terminal::{
     Terminal, expect, is_at, is_round_close_at, is_round_open_at, syntax_fault_at, terminal_at,
     text_at,
@@ -107,7 +107,7 @@ fn disjunction<R: Reading>(
         list = reading.more_conds(list, more)?;
         at = next;
     }
-    Ok((reading.any(list)?, at))
+    with_end(reading.any(list), at)
 }
 
 #[cycle(conds)]
@@ -128,7 +128,7 @@ fn conjunction<R: Reading>(
         list = reading.more_conds(list, more)?;
         at = next;
     }
-    Ok((reading.all(list)?, at))
+    with_end(reading.all(list), at)
 }
 
 #[cycle(conds)]
@@ -153,7 +153,7 @@ fn literal<R: Reading>(
             if begins_expr(toks, next) {
                 return comparison(reading, toks, from, context);
             }
-            Ok((reading.named_cond(context, at, text_at(toks, from))?, next))
+            with_end(reading.named_cond(context, at, text_at(toks, from)), next)
         }
         Terminal::RoundOpen => {
             if begins_expr(toks, after_close(toks, next)) {
@@ -181,7 +181,7 @@ fn negation<R: Reading>(
 {
     let inside = context.enter_not(at)?;
     let (operand, end) = literal(reading, toks, from, inside)?;
-    Ok((reading.negated_cond(operand)?, end))
+    with_end(reading.negated_cond(operand), end)
 }
 
 #[cycle(conds)]

@@ -4,7 +4,7 @@ ghost use Rattle.text_grammar.specs.Lexemes.{lexemes};
 ghost use Rattle.text_grammar.specs.Parsed.{Reads, Goes};
 ghost use Rattle.text_grammar.specs.Exprs.{parse_expr, sums, products, factor, operator_at, parenthesis};
 
-use crate::reading::{Context, Operator, Reading};
+use crate::reading::{Context, Operator, Reading, with_end};
 use crate::terminal::{Terminal, expect, is_at, is_sum_at, syntax_fault_at, terminal_at, text_at};
 use text_tokens::{TextFault, Token};
 
@@ -88,11 +88,11 @@ fn factor<R: Reading>(
     };
     let next = from + 1;
     match terminal {
-        Terminal::Zero => Ok((reading.number(context, at, 0)?, next)),
-        Terminal::One => Ok((reading.number(context, at, 1)?, next)),
-        Terminal::Number(n) => Ok((reading.number(context, at, n)?, next)),
+        Terminal::Zero => with_end(reading.number(context, at, 0), next),
+        Terminal::One => with_end(reading.number(context, at, 1), next),
+        Terminal::Number(n) => with_end(reading.number(context, at, n), next),
         Terminal::WideNumber => Err(TextFault::NumberTooWide(at)),
-        Terminal::Name => Ok((reading.variable(context, at, text_at(toks, from))?, next)),
+        Terminal::Name => with_end(reading.variable(context, at, text_at(toks, from)), next),
         Terminal::RoundOpen => parenthesis(reading, toks, next, context, at),
         _ => Err(TextFault::Syntax(at)),
     }

@@ -5,7 +5,7 @@ ghost use Rattle.text_grammar.specs.Parsed.{Reads, Goes};
 ghost use Rattle.text_grammar.specs.Terms.{parenthesis, bracket, negation, star_or_not, parse_term, choice, sequence, unit};
 
 use crate::cond::read_cond;
-use crate::reading::{Context, Reading};
+use crate::reading::{Context, Reading, with_end};
 use crate::terminal::{Terminal, expect, is_at, syntax_fault_at, terminal_at, text_at};
 use text_tokens::{TextFault, Token};
 
@@ -43,7 +43,7 @@ fn choice<R: Reading>(
         list = reading.more_terms(list, more)?;
         at = next;
     }
-    Ok((reading.sum(list)?, at))
+    with_end(reading.sum(list), at)
 }
 
 #[cycle(terms)]
@@ -66,7 +66,7 @@ fn sequence<R: Reading>(
         list = reading.more_terms(list, more)?;
         at = next;
     }
-    Ok((reading.product(list)?, at))
+    with_end(reading.product(list), at)
 }
 
 fn star_or_not<R: Reading>(
@@ -81,7 +81,7 @@ fn star_or_not<R: Reading>(
     ensures within { i ≤ length toks.now → IfOk result (λ x. x.1 ≤ length toks.now) }
 {
     match terminal_at(toks, i) {
-        Some((Terminal::Star, at)) => Ok((reading.starred(context, at, operand)?, i + 1)),
+        Some((Terminal::Star, at)) => with_end(reading.starred(context, at, operand), i + 1),
         _ => Ok((operand, i)),
     }
 }
@@ -103,7 +103,7 @@ fn unit<R: Reading>(
     match terminal {
         Terminal::Zero => Ok((reading.zero(), next)),
         Terminal::One => Ok((reading.one(), next)),
-        Terminal::Name => Ok((reading.named_term(context, at, text_at(toks, from))?, next)),
+        Terminal::Name => with_end(reading.named_term(context, at, text_at(toks, from)), next),
         Terminal::Bang => negation(reading, toks, next, context, at),
         Terminal::SquareOpen => bracket(reading, toks, next, context, at),
         Terminal::RoundOpen => parenthesis(reading, toks, next, context, at),
@@ -124,7 +124,7 @@ fn negation<R: Reading>(
 {
     let inside = context.enter_not(at)?;
     let (operand, end) = unit(reading, toks, from, inside)?;
-    Ok((reading.negated_term(operand)?, end))
+    with_end(reading.negated_term(operand), end)
 }
 
 fn bracket<R: Reading>(
@@ -140,7 +140,7 @@ fn bracket<R: Reading>(
     let inside = context.enter(at)?;
     let (cond, end) = read_cond(reading, toks, from, inside)?;
     let end = expect(toks, end, Terminal::SquareClose)?;
-    Ok((reading.tested(cond)?, end))
+    with_end(reading.tested(cond), end)
 }
 
 #[cycle(terms)]

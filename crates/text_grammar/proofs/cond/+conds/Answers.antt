@@ -1,11 +1,11 @@
-use Rattle.std.proofs.Common.{◌+◌, drop, true, Ok, ap, sym, subst, ◌∙◌, nat_lt, arith}
+use Rattle.std.proofs.Common.{◌+◌, drop, true, Ok, ap, sym, subst, ◌∙◌, nat_lt, arith, refl}
 use Rattle.kat_model.specs.declared.limits.TheConstants.{MAX_OPEN}
 use Rattle.text_grammar.specs.declared.terminal.Terminal.TheVariants.{RoundClose, Bang, True, False}
 use Rattle.text_grammar.specs.Lexemes.{lexemes, text_at, is_terminal}
 use Rattle.text_grammar.specs.Parsed.{Parsed, place_of, before, Reads}
 use Rattle.text_grammar.specs.Actions.{context}
 use Rattle.text_grammar.specs.Conds.{begins_expr, disjunction, conjunction, literal, parse_cond, negation, parenthesis}
-use Rattle.text_grammar.proofs.PartFaults.{fault_read, fault_made, memory_lacks, fault_known, syntax_read, enter_keeps_memory, wants_keeps_memory}
+use Rattle.text_grammar.proofs.PartFaults.{end_made, end_goes, fault_read, memory_lacks, fault_known, syntax_read, enter_keeps_memory, wants_keeps_memory}
 use Rattle.text_grammar.proofs.CondSteps.{disjunction_first, disjunction_fault, disjunction_next, disjunction_next_fault, disjunction_end, conjunction_first, conjunction_fault, conjunction_next, conjunction_next_fault, conjunction_end, literal_none, literal_seen, literal_other, name_compared, name_alone, round_compared, round_alone, number_compared, negation_refused, negation_fault, negation_made, parenthesis_refused, parenthesis_fault, parenthesis_open, parenthesis_closed}
 use Rattle.text_grammar.proofs.cond.+conds.Goals as goal
 
@@ -48,22 +48,15 @@ literal-returns-then-begins_expr-clause-value g t c =
     let us = drop c.args.from ts in
     subst (λ (m : Parsed _). Reads g.R.Reading.memory g.R.Reading.cond ts c.comparison.result m) (sym (name_compared x c.args.context us c.in-Some.terminal c.in-Some.at (text_at c.args.toks.now c.args.from) (drop (c.args.from + 1) ts) c.in-Some.ensures.0 c.in-Name.is (sym c.begins_expr.ensures ∙ c.if-begins_expr.true))) c.comparison.ensures.value
 
-pub literal-returns-in_err-named_cond-in-Name-clause-value : goal.literal-returns-in_err-named_cond-in-Name-clause-value
-literal-returns-in_err-named_cond-in-Name-clause-value g t c =
+pub literal-returns-else-begins_expr-clause-value : goal.literal-returns-else-begins_expr-clause-value
+literal-returns-else-begins_expr-clause-value g t c =
     let x = (g.R.Reading.actions c.args.reading.now).conds in
     let ts = lexemes c.args.toks.now in
     let us = drop c.args.from ts in
-    let seen = name_alone x c.args.context us c.in-Some.terminal c.in-Some.at (text_at c.args.toks.now c.args.from) (drop (c.args.from + 1) ts) c.in-Some.ensures.0 c.in-Name.is (sym c.begins_expr.ensures ∙ c.if-begins_expr.false) in
-    fault_made g.R.Reading.memory g.R.Reading.cond g.R.Reading.cond ts c.from_residual.result c.in_err-named_cond-in-Name.field-0.0 (x.named c.args.context c.in-Some.at c.text_at.result.now) (parse_cond x literal c.args.context us) c.from_residual.ensures.1 c.in_err-named_cond-in-Name.ensures
-    (λ h. seen ∙ ap (λ name. before (drop (c.args.from + 1) ts) (x.named c.args.context c.in-Some.at name)) (sym c.text_at.ensures) ∙ ap (before (drop (c.args.from + 1) ts)) h)
-
-pub literal-returns-in_ok-named_cond-in-Name-clause-value : goal.literal-returns-in_ok-named_cond-in-Name-clause-value
-literal-returns-in_ok-named_cond-in-Name-clause-value g t c =
-    let x = (g.R.Reading.actions c.args.reading.now).conds in
-    let ts = lexemes c.args.toks.now in
-    let us = drop c.args.from ts in
-    let seen = name_alone x c.args.context us c.in-Some.terminal c.in-Some.at (text_at c.args.toks.now c.args.from) (drop (c.args.from + 1) ts) c.in-Some.ensures.0 c.in-Name.is (sym c.begins_expr.ensures ∙ c.if-begins_expr.false) in
-    seen ∙ ap (λ name. before (drop (c.args.from + 1) ts) (x.named c.args.context c.in-Some.at name)) (sym c.text_at.ensures) ∙ ap (before (drop (c.args.from + 1) ts)) c.in_ok-named_cond-in-Name.ensures
+    let next = drop (c.args.from + 1) ts in
+    let seen = name_alone x c.args.context us c.in-Some.terminal c.in-Some.at (text_at c.args.toks.now c.args.from) next c.in-Some.ensures.0 c.in-Name.is (sym c.begins_expr.ensures ∙ c.if-begins_expr.false) in
+    end_made g.R.Reading.memory g.R.Reading.cond ts (c.args.from + 1) c.with_end.result c.named_cond.result (x.named c.args.context c.in-Some.at c.text_at.result.now) (parse_cond x literal c.args.context us) c.with_end.ensures c.named_cond.ensures
+    (seen ∙ ap (λ name. before next (x.named c.args.context c.in-Some.at name)) (sym c.text_at.ensures))
 
 pub literal-returns-then-begins_expr-2-clause-value : goal.literal-returns-then-begins_expr-2-clause-value
 literal-returns-then-begins_expr-2-clause-value g t c =
@@ -124,18 +117,19 @@ conjunction-returns-in_err-list-2-clause-value g t c =
     let us = drop c.args.from ts in
     memory_lacks g.R.Reading.memory g.R.Reading.conds g.R.Reading.cond ts c.from_residual-in_err-list-2.result c.in_err-list-2.field-0.0 (x.more (g.R.Reading.conds c.parts.list) (g.R.Reading.cond c.in_ok-more.more)) (parse_cond x conjunction c.args.context us) c.from_residual-in_err-list-2.ensures.1 c.in_err-list-2.ensures
 
-pub conjunction-returns-in_err-all-clause-value : goal.conjunction-returns-in_err-all-clause-value
-conjunction-returns-in_err-all-clause-value g t c =
-    let x = (g.R.Reading.actions c.args.reading.now).conds in
-    let ts = lexemes c.args.toks.now in
-    let us = drop c.args.from ts in
-    memory_lacks g.R.Reading.memory g.R.Reading.cond g.R.Reading.cond ts c.from_residual-in_err-all.result c.in_err-all.field-0.0 (x.all (g.R.Reading.conds c.parts.list)) (parse_cond x conjunction c.args.context us) c.from_residual-in_err-all.ensures.1 c.in_err-all.ensures
-
 pub conjunction-returns-clause-value : goal.conjunction-returns-clause-value
 conjunction-returns-clause-value g t c =
     let x = (g.R.Reading.actions c.args.reading.now).conds in
     let ts = lexemes c.args.toks.now in
-    sym c.parts.invariant.value ∙ conjunction_end x (g.R.Reading.conds c.parts.list) c.args.context (drop c.parts.at ts) (g.R.Reading.cond c.in_ok-all.field-0) (sym c.is_at.ensures.value ∙ c.parts-test.false) c.in_ok-all.ensures
+    let us = drop c.args.from ts in
+    let list = g.R.Reading.conds c.parts.list in
+    end_made g.R.Reading.memory g.R.Reading.cond ts c.parts.at c.with_end.result c.all.result (Ok (x.all list)) (parse_cond x conjunction c.args.context us) c.with_end.ensures c.all.ensures
+    (sym c.parts.invariant.value ∙ conjunction_end x list c.args.context (drop c.parts.at ts) (x.all list) (sym c.is_at.ensures.value ∙ c.parts-test.false) refl)
+
+pub conjunction-returns-clause-goes : goal.conjunction-returns-clause-goes
+conjunction-returns-clause-goes g t c =
+    let place = c.parts.invariant.place in
+    end_goes c.args.from _ c.parts.at c.with_end.result c.all.result c.with_end.ensures place.0 place.1
 
 pub conjunction-parts-init : goal.conjunction-parts-init
 conjunction-parts-init g t c =
@@ -186,18 +180,19 @@ disjunction-returns-in_err-list-2-clause-value g t c =
     let us = drop c.args.from ts in
     memory_lacks g.R.Reading.memory g.R.Reading.conds g.R.Reading.cond ts c.from_residual-in_err-list-2.result c.in_err-list-2.field-0.0 (x.more (g.R.Reading.conds c.parts.list) (g.R.Reading.cond c.in_ok-more.more)) (parse_cond x disjunction c.args.context us) c.from_residual-in_err-list-2.ensures.1 c.in_err-list-2.ensures
 
-pub disjunction-returns-in_err-any-clause-value : goal.disjunction-returns-in_err-any-clause-value
-disjunction-returns-in_err-any-clause-value g t c =
-    let x = (g.R.Reading.actions c.args.reading.now).conds in
-    let ts = lexemes c.args.toks.now in
-    let us = drop c.args.from ts in
-    memory_lacks g.R.Reading.memory g.R.Reading.cond g.R.Reading.cond ts c.from_residual-in_err-any.result c.in_err-any.field-0.0 (x.any (g.R.Reading.conds c.parts.list)) (parse_cond x disjunction c.args.context us) c.from_residual-in_err-any.ensures.1 c.in_err-any.ensures
-
 pub disjunction-returns-clause-value : goal.disjunction-returns-clause-value
 disjunction-returns-clause-value g t c =
     let x = (g.R.Reading.actions c.args.reading.now).conds in
     let ts = lexemes c.args.toks.now in
-    sym c.parts.invariant.value ∙ disjunction_end x (g.R.Reading.conds c.parts.list) c.args.context (drop c.parts.at ts) (g.R.Reading.cond c.in_ok-any.field-0) (sym c.is_at.ensures.value ∙ c.parts-test.false) c.in_ok-any.ensures
+    let us = drop c.args.from ts in
+    let list = g.R.Reading.conds c.parts.list in
+    end_made g.R.Reading.memory g.R.Reading.cond ts c.parts.at c.with_end.result c.any.result (Ok (x.any list)) (parse_cond x disjunction c.args.context us) c.with_end.ensures c.any.ensures
+    (sym c.parts.invariant.value ∙ disjunction_end x list c.args.context (drop c.parts.at ts) (x.any list) (sym c.is_at.ensures.value ∙ c.parts-test.false) refl)
+
+pub disjunction-returns-clause-goes : goal.disjunction-returns-clause-goes
+disjunction-returns-clause-goes g t c =
+    let place = c.parts.invariant.place in
+    end_goes c.args.from _ c.parts.at c.with_end.result c.any.result c.with_end.ensures place.0 place.1
 
 pub disjunction-parts-init : goal.disjunction-parts-init
 disjunction-parts-init g t c =
@@ -236,19 +231,19 @@ negation-returns-in_err-operand-clause-value g t c =
     fault_read g.R.Reading.memory g.R.Reading.cond g.R.Reading.cond ts c.from_residual-in_err-operand.result c.in_err-operand.field-0.0 (parse_cond x literal c.in_ok-inside.inside us) (negation x (parse_cond x) c.args.context c.args.at us) c.from_residual-in_err-operand.ensures.1 c.in_err-operand.ensures.value
     (negation_fault x (parse_cond x) c.args.context c.in_ok-inside.inside c.args.at us c.in_err-operand.field-0.0 (sym c.in_ok-inside.ensures))
 
-pub negation-returns-in_err-negated_cond-clause-value : goal.negation-returns-in_err-negated_cond-clause-value
-negation-returns-in_err-negated_cond-clause-value g t c =
-    let x = (g.R.Reading.actions c.args.reading.now).conds in
-    let ts = lexemes c.args.toks.now in
-    let us = drop c.args.from ts in
-    memory_lacks g.R.Reading.memory g.R.Reading.cond g.R.Reading.cond ts c.from_residual-in_err-negated_cond.result c.in_err-negated_cond.field-0.0 (x.negated (g.R.Reading.cond c.in_ok-operand.operand)) (negation x (parse_cond x) c.args.context c.args.at us) c.from_residual-in_err-negated_cond.ensures.1 c.in_err-negated_cond.ensures
-
 pub negation-returns-clause-value : goal.negation-returns-clause-value
 negation-returns-clause-value g t c =
     let x = (g.R.Reading.actions c.args.reading.now).conds in
     let ts = lexemes c.args.toks.now in
     let us = drop c.args.from ts in
-    negation_made x (parse_cond x) c.args.context c.in_ok-inside.inside c.args.at us (g.R.Reading.cond c.in_ok-operand.operand, drop c.in_ok-operand.end ts) (g.R.Reading.cond c.in_ok-negated_cond.field-0) (sym c.in_ok-inside.ensures) c.in_ok-operand.ensures.value c.in_ok-negated_cond.ensures
+    let operand = g.R.Reading.cond c.in_ok-operand.operand in
+    end_made g.R.Reading.memory g.R.Reading.cond ts c.in_ok-operand.end c.with_end.result c.negated_cond.result (Ok (x.negated operand)) (negation x (parse_cond x) c.args.context c.args.at us) c.with_end.ensures c.negated_cond.ensures
+    (negation_made x (parse_cond x) c.args.context c.in_ok-inside.inside c.args.at us (operand, drop c.in_ok-operand.end ts) (x.negated operand) (sym c.in_ok-inside.ensures) c.in_ok-operand.ensures.value refl)
+
+pub negation-returns-clause-goes : goal.negation-returns-clause-goes
+negation-returns-clause-goes g t c =
+    let place = c.in_ok-operand.ensures.goes in
+    end_goes c.args.from _ c.in_ok-operand.end c.with_end.result c.negated_cond.result c.with_end.ensures place.0 place.1
 
 pub parenthesis-returns-in_err-inside-clause-value : goal.parenthesis-returns-in_err-inside-clause-value
 parenthesis-returns-in_err-inside-clause-value g t c =

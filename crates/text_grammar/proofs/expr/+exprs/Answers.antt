@@ -6,7 +6,7 @@ use Rattle.text_grammar.specs.Lexemes.{lexemes, text_at, is_terminal}
 use Rattle.text_grammar.specs.Parsed.{Parsed, place_of, before, Reads}
 use Rattle.text_grammar.specs.Actions.{context}
 use Rattle.text_grammar.specs.Exprs.{parse_expr, sums, products, factor, parenthesis}
-use Rattle.text_grammar.proofs.PartFaults.{fault_read, fault_made, memory_lacks, fault_known, syntax_read, enter_keeps_memory, wants_keeps_memory}
+use Rattle.text_grammar.proofs.PartFaults.{end_made, fault_read, memory_lacks, fault_known, syntax_read, enter_keeps_memory, wants_keeps_memory}
 use Rattle.text_grammar.proofs.ExprSteps.{sums_first, sums_fault, sums_next, sums_next_fault, sums_end, products_first, products_fault, products_next, products_next_fault, products_end, factor_none, factor_seen, factor_other, parenthesis_refused, parenthesis_fault, parenthesis_open, parenthesis_closed}
 use Rattle.text_grammar.proofs.expr.+exprs.Goals as goal
 
@@ -18,73 +18,42 @@ factor-returns-in_default-clause-value g t c =
     let at_end = factor_none x c.args.context us c.in_default.ensures.0 in
     syntax_read g.R.Reading.memory g.R.Reading.expr ts c.syntax_fault_at.result (place_of us) (parse_expr x factor c.args.context us) c.syntax_fault_at.ensures at_end
 
-pub factor-returns-in_err-number-in-Zero-clause-value : goal.factor-returns-in_err-number-in-Zero-clause-value
-factor-returns-in_err-number-in-Zero-clause-value g t c =
+pub factor-returns-in-Zero-clause-value : goal.factor-returns-in-Zero-clause-value
+factor-returns-in-Zero-clause-value g t c =
     let x = (g.R.Reading.actions c.args.reading.now).conds.exprs in
     let ts = lexemes c.args.toks.now in
     let us = drop c.args.from ts in
-    let seen = factor_seen x c.args.context us c.in-Some.terminal Zero c.in-Some.at (text_at c.args.toks.now c.args.from) (drop (c.args.from + 1) ts) c.in-Some.ensures.0 c.in-Zero.is in
-    fault_made g.R.Reading.memory g.R.Reading.expr g.R.Reading.expr ts c.from_residual.result c.in_err-number-in-Zero.field-0.0 (x.number c.args.context c.in-Some.at 0) (parse_expr x factor c.args.context us) c.from_residual.ensures.1 c.in_err-number-in-Zero.ensures
-    (λ h. seen ∙ ap (before (drop (c.args.from + 1) ts)) h)
+    let next = drop (c.args.from + 1) ts in
+    let seen = factor_seen x c.args.context us c.in-Some.terminal Zero c.in-Some.at (text_at c.args.toks.now c.args.from) next c.in-Some.ensures.0 c.in-Zero.is in
+    end_made g.R.Reading.memory g.R.Reading.expr ts (c.args.from + 1) c.with_end.result c.number.result (x.number c.args.context c.in-Some.at 0) (parse_expr x factor c.args.context us) c.with_end.ensures c.number.ensures seen
 
-pub factor-returns-in_ok-number-in-Zero-clause-value : goal.factor-returns-in_ok-number-in-Zero-clause-value
-factor-returns-in_ok-number-in-Zero-clause-value g t c =
+pub factor-returns-in-One-clause-value : goal.factor-returns-in-One-clause-value
+factor-returns-in-One-clause-value g t c =
     let x = (g.R.Reading.actions c.args.reading.now).conds.exprs in
     let ts = lexemes c.args.toks.now in
     let us = drop c.args.from ts in
-    let seen = factor_seen x c.args.context us c.in-Some.terminal Zero c.in-Some.at (text_at c.args.toks.now c.args.from) (drop (c.args.from + 1) ts) c.in-Some.ensures.0 c.in-Zero.is in
-    seen ∙ ap (before (drop (c.args.from + 1) ts)) c.in_ok-number-in-Zero.ensures
+    let next = drop (c.args.from + 1) ts in
+    let seen = factor_seen x c.args.context us c.in-Some.terminal One c.in-Some.at (text_at c.args.toks.now c.args.from) next c.in-Some.ensures.0 c.in-One.is in
+    end_made g.R.Reading.memory g.R.Reading.expr ts (c.args.from + 1) c.with_end-in-One.result c.number-in-One.result (x.number c.args.context c.in-Some.at 1) (parse_expr x factor c.args.context us) c.with_end-in-One.ensures c.number-in-One.ensures seen
 
-pub factor-returns-in_err-number-in-One-clause-value : goal.factor-returns-in_err-number-in-One-clause-value
-factor-returns-in_err-number-in-One-clause-value g t c =
+pub factor-returns-in-Number-clause-value : goal.factor-returns-in-Number-clause-value
+factor-returns-in-Number-clause-value g t c =
     let x = (g.R.Reading.actions c.args.reading.now).conds.exprs in
     let ts = lexemes c.args.toks.now in
     let us = drop c.args.from ts in
-    let seen = factor_seen x c.args.context us c.in-Some.terminal One c.in-Some.at (text_at c.args.toks.now c.args.from) (drop (c.args.from + 1) ts) c.in-Some.ensures.0 c.in-One.is in
-    fault_made g.R.Reading.memory g.R.Reading.expr g.R.Reading.expr ts c.from_residual-in_err-number-in-One.result c.in_err-number-in-One.field-0.0 (x.number c.args.context c.in-Some.at 1) (parse_expr x factor c.args.context us) c.from_residual-in_err-number-in-One.ensures.1 c.in_err-number-in-One.ensures
-    (λ h. seen ∙ ap (before (drop (c.args.from + 1) ts)) h)
+    let next = drop (c.args.from + 1) ts in
+    let seen = factor_seen x c.args.context us c.in-Some.terminal (Number c.in-Number.n) c.in-Some.at (text_at c.args.toks.now c.args.from) next c.in-Some.ensures.0 c.in-Number.is in
+    end_made g.R.Reading.memory g.R.Reading.expr ts (c.args.from + 1) c.with_end-in-Number.result c.number-in-Number.result (x.number c.args.context c.in-Some.at c.in-Number.n) (parse_expr x factor c.args.context us) c.with_end-in-Number.ensures c.number-in-Number.ensures seen
 
-pub factor-returns-in_ok-number-in-One-clause-value : goal.factor-returns-in_ok-number-in-One-clause-value
-factor-returns-in_ok-number-in-One-clause-value g t c =
+pub factor-returns-in-Name-clause-value : goal.factor-returns-in-Name-clause-value
+factor-returns-in-Name-clause-value g t c =
     let x = (g.R.Reading.actions c.args.reading.now).conds.exprs in
     let ts = lexemes c.args.toks.now in
     let us = drop c.args.from ts in
-    let seen = factor_seen x c.args.context us c.in-Some.terminal One c.in-Some.at (text_at c.args.toks.now c.args.from) (drop (c.args.from + 1) ts) c.in-Some.ensures.0 c.in-One.is in
-    seen ∙ ap (before (drop (c.args.from + 1) ts)) c.in_ok-number-in-One.ensures
-
-pub factor-returns-in_err-number-in-Number-clause-value : goal.factor-returns-in_err-number-in-Number-clause-value
-factor-returns-in_err-number-in-Number-clause-value g t c =
-    let x = (g.R.Reading.actions c.args.reading.now).conds.exprs in
-    let ts = lexemes c.args.toks.now in
-    let us = drop c.args.from ts in
-    let seen = factor_seen x c.args.context us c.in-Some.terminal (Number c.in-Number.n) c.in-Some.at (text_at c.args.toks.now c.args.from) (drop (c.args.from + 1) ts) c.in-Some.ensures.0 c.in-Number.is in
-    fault_made g.R.Reading.memory g.R.Reading.expr g.R.Reading.expr ts c.from_residual-in_err-number-in-Number.result c.in_err-number-in-Number.field-0.0 (x.number c.args.context c.in-Some.at c.in-Number.n) (parse_expr x factor c.args.context us) c.from_residual-in_err-number-in-Number.ensures.1 c.in_err-number-in-Number.ensures
-    (λ h. seen ∙ ap (before (drop (c.args.from + 1) ts)) h)
-
-pub factor-returns-in_ok-number-in-Number-clause-value : goal.factor-returns-in_ok-number-in-Number-clause-value
-factor-returns-in_ok-number-in-Number-clause-value g t c =
-    let x = (g.R.Reading.actions c.args.reading.now).conds.exprs in
-    let ts = lexemes c.args.toks.now in
-    let us = drop c.args.from ts in
-    let seen = factor_seen x c.args.context us c.in-Some.terminal (Number c.in-Number.n) c.in-Some.at (text_at c.args.toks.now c.args.from) (drop (c.args.from + 1) ts) c.in-Some.ensures.0 c.in-Number.is in
-    seen ∙ ap (before (drop (c.args.from + 1) ts)) c.in_ok-number-in-Number.ensures
-
-pub factor-returns-in_err-variable-in-Name-clause-value : goal.factor-returns-in_err-variable-in-Name-clause-value
-factor-returns-in_err-variable-in-Name-clause-value g t c =
-    let x = (g.R.Reading.actions c.args.reading.now).conds.exprs in
-    let ts = lexemes c.args.toks.now in
-    let us = drop c.args.from ts in
-    let seen = factor_seen x c.args.context us c.in-Some.terminal Name c.in-Some.at (text_at c.args.toks.now c.args.from) (drop (c.args.from + 1) ts) c.in-Some.ensures.0 c.in-Name.is in
-    fault_made g.R.Reading.memory g.R.Reading.expr g.R.Reading.expr ts c.from_residual-in_err-variable-in-Name.result c.in_err-variable-in-Name.field-0.0 (x.variable c.args.context c.in-Some.at c.text_at.result.now) (parse_expr x factor c.args.context us) c.from_residual-in_err-variable-in-Name.ensures.1 c.in_err-variable-in-Name.ensures
-    (λ h. seen ∙ ap (λ name. before (drop (c.args.from + 1) ts) (x.variable c.args.context c.in-Some.at name)) (sym c.text_at.ensures) ∙ ap (before (drop (c.args.from + 1) ts)) h)
-
-pub factor-returns-in_ok-variable-in-Name-clause-value : goal.factor-returns-in_ok-variable-in-Name-clause-value
-factor-returns-in_ok-variable-in-Name-clause-value g t c =
-    let x = (g.R.Reading.actions c.args.reading.now).conds.exprs in
-    let ts = lexemes c.args.toks.now in
-    let us = drop c.args.from ts in
-    let seen = factor_seen x c.args.context us c.in-Some.terminal Name c.in-Some.at (text_at c.args.toks.now c.args.from) (drop (c.args.from + 1) ts) c.in-Some.ensures.0 c.in-Name.is in
-    seen ∙ ap (λ name. before (drop (c.args.from + 1) ts) (x.variable c.args.context c.in-Some.at name)) (sym c.text_at.ensures) ∙ ap (before (drop (c.args.from + 1) ts)) c.in_ok-variable-in-Name.ensures
+    let next = drop (c.args.from + 1) ts in
+    let seen = factor_seen x c.args.context us c.in-Some.terminal Name c.in-Some.at (text_at c.args.toks.now c.args.from) next c.in-Some.ensures.0 c.in-Name.is in
+    end_made g.R.Reading.memory g.R.Reading.expr ts (c.args.from + 1) c.with_end-in-Name.result c.variable.result (x.variable c.args.context c.in-Some.at c.text_at.result.now) (parse_expr x factor c.args.context us) c.with_end-in-Name.ensures c.variable.ensures
+    (seen ∙ ap (λ name. before next (x.variable c.args.context c.in-Some.at name)) (sym c.text_at.ensures))
 
 pub factor-returns-in-WideNumber-clause-value : goal.factor-returns-in-WideNumber-clause-value
 factor-returns-in-WideNumber-clause-value g t c =

@@ -1,11 +1,11 @@
-use Rattle.std.proofs.Common.{◌+◌, drop, true, Ok, ap, sym, subst, ◌∙◌, nat_lt, arith}
+use Rattle.std.proofs.Common.{◌+◌, drop, true, Ok, ap, sym, subst, ◌∙◌, nat_lt, arith, refl}
 use Rattle.kat_model.specs.declared.limits.TheConstants.{MAX_OPEN}
 use Rattle.text_grammar.specs.declared.terminal.Terminal.TheVariants.{RoundOpen, RoundClose, SquareOpen, Bang, Zero, One, Name}
 use Rattle.text_grammar.specs.Lexemes.{lexemes, text_at, is_terminal}
 use Rattle.text_grammar.specs.Parsed.{Parsed, place_of, before, Reads}
 use Rattle.text_grammar.specs.Actions.{context}
 use Rattle.text_grammar.specs.Terms.{choice, sequence, unit, parse_term, star_or_not, negation, parenthesis}
-use Rattle.text_grammar.proofs.PartFaults.{fault_read, fault_made, memory_lacks, fault_known, syntax_read, enter_keeps_memory, wants_keeps_memory}
+use Rattle.text_grammar.proofs.PartFaults.{end_made, end_goes, fault_read, memory_lacks, fault_known, syntax_read, enter_keeps_memory, wants_keeps_memory}
 use Rattle.text_grammar.proofs.TermSteps.{choice_first, choice_fault, choice_next, choice_next_fault, choice_end, sequence_first, sequence_fault, sequence_star_fault, sequence_next, sequence_next_fault, sequence_next_star_fault, sequence_end, unit_none, unit_seen, unit_other, negation_refused, negation_fault, negation_made, parenthesis_refused, parenthesis_fault, parenthesis_open, parenthesis_closed}
 use Rattle.text_grammar.proofs.term.+terms.Goals as goal
 
@@ -57,22 +57,15 @@ unit-returns-in-RoundOpen-clause-value g t c =
     let seen = unit_seen x c.args.context us c.in-Some.terminal RoundOpen c.in-Some.at (text_at c.args.toks.now c.args.from) (drop (c.args.from + 1) ts) c.in-Some.ensures.0 c.in-RoundOpen.is in
     subst (λ (m : Parsed _). Reads g.R.Reading.memory g.R.Reading.term ts c.parenthesis.result m) (sym seen) c.parenthesis.ensures.value
 
-pub unit-returns-in_err-named_term-in-Name-clause-value : goal.unit-returns-in_err-named_term-in-Name-clause-value
-unit-returns-in_err-named_term-in-Name-clause-value g t c =
+pub unit-returns-in-Name-clause-value : goal.unit-returns-in-Name-clause-value
+unit-returns-in-Name-clause-value g t c =
     let x = (g.R.Reading.actions c.args.reading.now) in
     let ts = lexemes c.args.toks.now in
     let us = drop c.args.from ts in
-    let seen = unit_seen x c.args.context us c.in-Some.terminal Name c.in-Some.at (text_at c.args.toks.now c.args.from) (drop (c.args.from + 1) ts) c.in-Some.ensures.0 c.in-Name.is in
-    fault_made g.R.Reading.memory g.R.Reading.term g.R.Reading.term ts c.from_residual.result c.in_err-named_term-in-Name.field-0.0 (x.named c.args.context c.in-Some.at c.text_at.result.now) (parse_term x unit c.args.context us) c.from_residual.ensures.1 c.in_err-named_term-in-Name.ensures
-    (λ h. seen ∙ ap (λ name. before (drop (c.args.from + 1) ts) (x.named c.args.context c.in-Some.at name)) (sym c.text_at.ensures) ∙ ap (before (drop (c.args.from + 1) ts)) h)
-
-pub unit-returns-in_ok-named_term-in-Name-clause-value : goal.unit-returns-in_ok-named_term-in-Name-clause-value
-unit-returns-in_ok-named_term-in-Name-clause-value g t c =
-    let x = (g.R.Reading.actions c.args.reading.now) in
-    let ts = lexemes c.args.toks.now in
-    let us = drop c.args.from ts in
-    let seen = unit_seen x c.args.context us c.in-Some.terminal Name c.in-Some.at (text_at c.args.toks.now c.args.from) (drop (c.args.from + 1) ts) c.in-Some.ensures.0 c.in-Name.is in
-    seen ∙ ap (λ name. before (drop (c.args.from + 1) ts) (x.named c.args.context c.in-Some.at name)) (sym c.text_at.ensures) ∙ ap (before (drop (c.args.from + 1) ts)) c.in_ok-named_term-in-Name.ensures
+    let next = drop (c.args.from + 1) ts in
+    let seen = unit_seen x c.args.context us c.in-Some.terminal Name c.in-Some.at (text_at c.args.toks.now c.args.from) next c.in-Some.ensures.0 c.in-Name.is in
+    end_made g.R.Reading.memory g.R.Reading.term ts (c.args.from + 1) c.with_end.result c.named_term.result (x.named c.args.context c.in-Some.at c.text_at.result.now) (parse_term x unit c.args.context us) c.with_end.ensures c.named_term.ensures
+    (seen ∙ ap (λ name. before next (x.named c.args.context c.in-Some.at name)) (sym c.text_at.ensures))
 
 pub unit-returns-in_default-terminal-clause-value : goal.unit-returns-in_default-terminal-clause-value
 unit-returns-in_default-terminal-clause-value g t c =
@@ -112,18 +105,19 @@ choice-returns-in_err-list-2-clause-value g t c =
     let us = drop c.args.from ts in
     memory_lacks g.R.Reading.memory g.R.Reading.terms g.R.Reading.term ts c.from_residual-in_err-list-2.result c.in_err-list-2.field-0.0 (x.more (g.R.Reading.terms c.parts.list) (g.R.Reading.term c.in_ok-more.more)) (parse_term x choice c.args.context us) c.from_residual-in_err-list-2.ensures.1 c.in_err-list-2.ensures
 
-pub choice-returns-in_err-sum-clause-value : goal.choice-returns-in_err-sum-clause-value
-choice-returns-in_err-sum-clause-value g t c =
-    let x = (g.R.Reading.actions c.args.reading.now) in
-    let ts = lexemes c.args.toks.now in
-    let us = drop c.args.from ts in
-    memory_lacks g.R.Reading.memory g.R.Reading.term g.R.Reading.term ts c.from_residual-in_err-sum.result c.in_err-sum.field-0.0 (x.sum (g.R.Reading.terms c.parts.list)) (parse_term x choice c.args.context us) c.from_residual-in_err-sum.ensures.1 c.in_err-sum.ensures
-
 pub choice-returns-clause-value : goal.choice-returns-clause-value
 choice-returns-clause-value g t c =
     let x = (g.R.Reading.actions c.args.reading.now) in
     let ts = lexemes c.args.toks.now in
-    sym c.parts.invariant.value ∙ choice_end x (g.R.Reading.terms c.parts.list) c.args.context (drop c.parts.at ts) (g.R.Reading.term c.in_ok-sum.field-0) (sym c.is_at.ensures.value ∙ c.parts-test.false) c.in_ok-sum.ensures
+    let us = drop c.args.from ts in
+    let list = g.R.Reading.terms c.parts.list in
+    end_made g.R.Reading.memory g.R.Reading.term ts c.parts.at c.with_end.result c.sum.result (Ok (x.sum list)) (parse_term x choice c.args.context us) c.with_end.ensures c.sum.ensures
+    (sym c.parts.invariant.value ∙ choice_end x list c.args.context (drop c.parts.at ts) (x.sum list) (sym c.is_at.ensures.value ∙ c.parts-test.false) refl)
+
+pub choice-returns-clause-goes : goal.choice-returns-clause-goes
+choice-returns-clause-goes g t c =
+    let place = c.parts.invariant.place in
+    end_goes c.args.from _ c.parts.at c.with_end.result c.sum.result c.with_end.ensures place.0 place.1
 
 pub choice-parts-init : goal.choice-parts-init
 choice-parts-init g t c =
@@ -160,13 +154,6 @@ sequence-returns-in_err-more-clause-value g t c =
     fault_read g.R.Reading.memory g.R.Reading.term g.R.Reading.term ts c.from_residual-in_err-more.result c.in_err-more.field-0.0 (parse_term x unit c.args.context (drop (c.parts.at + 1) ts)) (parse_term x sequence c.args.context us) c.from_residual-in_err-more.ensures.1 c.in_err-more.ensures.value
     (λ h. sym c.parts.invariant.value ∙ sequence_next_fault x (g.R.Reading.terms c.parts.list) c.args.context c.parts.at ts c.in_err-more.field-0.0 (sym c.is_at.ensures.value ∙ c.parts-test.true) h)
 
-pub sequence-returns-in_err-product-clause-value : goal.sequence-returns-in_err-product-clause-value
-sequence-returns-in_err-product-clause-value g t c =
-    let x = (g.R.Reading.actions c.args.reading.now) in
-    let ts = lexemes c.args.toks.now in
-    let us = drop c.args.from ts in
-    memory_lacks g.R.Reading.memory g.R.Reading.term g.R.Reading.term ts c.from_residual-in_err-product.result c.in_err-product.field-0.0 (x.product (g.R.Reading.terms c.parts.list)) (parse_term x sequence c.args.context us) c.from_residual-in_err-product.ensures.1 c.in_err-product.ensures
-
 pub sequence-returns-in_err-list-clause-value : goal.sequence-returns-in_err-list-clause-value
 sequence-returns-in_err-list-clause-value g t c =
     let x = (g.R.Reading.actions c.args.reading.now) in
@@ -185,7 +172,15 @@ pub sequence-returns-clause-value : goal.sequence-returns-clause-value
 sequence-returns-clause-value g t c =
     let x = (g.R.Reading.actions c.args.reading.now) in
     let ts = lexemes c.args.toks.now in
-    sym c.parts.invariant.value ∙ sequence_end x (g.R.Reading.terms c.parts.list) c.args.context (drop c.parts.at ts) (g.R.Reading.term c.in_ok-product.field-0) (sym c.is_at.ensures.value ∙ c.parts-test.false) c.in_ok-product.ensures
+    let us = drop c.args.from ts in
+    let list = g.R.Reading.terms c.parts.list in
+    end_made g.R.Reading.memory g.R.Reading.term ts c.parts.at c.with_end.result c.product.result (Ok (x.product list)) (parse_term x sequence c.args.context us) c.with_end.ensures c.product.ensures
+    (sym c.parts.invariant.value ∙ sequence_end x list c.args.context (drop c.parts.at ts) (x.product list) (sym c.is_at.ensures.value ∙ c.parts-test.false) refl)
+
+pub sequence-returns-clause-goes : goal.sequence-returns-clause-goes
+sequence-returns-clause-goes g t c =
+    let place = c.parts.invariant.place in
+    end_goes c.args.from _ c.parts.at c.with_end.result c.product.result c.with_end.ensures place.0 place.1
 
 pub sequence-returns-in_err-first-2-clause-value : goal.sequence-returns-in_err-first-2-clause-value
 sequence-returns-in_err-first-2-clause-value g t c =
@@ -241,19 +236,19 @@ negation-returns-in_err-operand-clause-value g t c =
     fault_read g.R.Reading.memory g.R.Reading.term g.R.Reading.term ts c.from_residual-in_err-operand.result c.in_err-operand.field-0.0 (parse_term x unit c.in_ok-inside.inside us) (negation x (parse_term x) c.args.context c.args.at us) c.from_residual-in_err-operand.ensures.1 c.in_err-operand.ensures.value
     (negation_fault x (parse_term x) c.args.context c.in_ok-inside.inside c.args.at us c.in_err-operand.field-0.0 (sym c.in_ok-inside.ensures))
 
-pub negation-returns-in_err-negated_term-clause-value : goal.negation-returns-in_err-negated_term-clause-value
-negation-returns-in_err-negated_term-clause-value g t c =
-    let x = (g.R.Reading.actions c.args.reading.now) in
-    let ts = lexemes c.args.toks.now in
-    let us = drop c.args.from ts in
-    memory_lacks g.R.Reading.memory g.R.Reading.term g.R.Reading.term ts c.from_residual-in_err-negated_term.result c.in_err-negated_term.field-0.0 (x.negated (g.R.Reading.term c.in_ok-operand.operand)) (negation x (parse_term x) c.args.context c.args.at us) c.from_residual-in_err-negated_term.ensures.1 c.in_err-negated_term.ensures
-
 pub negation-returns-clause-value : goal.negation-returns-clause-value
 negation-returns-clause-value g t c =
     let x = (g.R.Reading.actions c.args.reading.now) in
     let ts = lexemes c.args.toks.now in
     let us = drop c.args.from ts in
-    negation_made x (parse_term x) c.args.context c.in_ok-inside.inside c.args.at us (g.R.Reading.term c.in_ok-operand.operand, drop c.in_ok-operand.end ts) (g.R.Reading.term c.in_ok-negated_term.field-0) (sym c.in_ok-inside.ensures) c.in_ok-operand.ensures.value c.in_ok-negated_term.ensures
+    let operand = g.R.Reading.term c.in_ok-operand.operand in
+    end_made g.R.Reading.memory g.R.Reading.term ts c.in_ok-operand.end c.with_end.result c.negated_term.result (Ok (x.negated operand)) (negation x (parse_term x) c.args.context c.args.at us) c.with_end.ensures c.negated_term.ensures
+    (negation_made x (parse_term x) c.args.context c.in_ok-inside.inside c.args.at us (operand, drop c.in_ok-operand.end ts) (x.negated operand) (sym c.in_ok-inside.ensures) c.in_ok-operand.ensures.value refl)
+
+pub negation-returns-clause-goes : goal.negation-returns-clause-goes
+negation-returns-clause-goes g t c =
+    let place = c.in_ok-operand.ensures.goes in
+    end_goes c.args.from _ c.in_ok-operand.end c.with_end.result c.negated_term.result c.with_end.ensures place.0 place.1
 
 pub parenthesis-returns-in_err-inside-clause-value : goal.parenthesis-returns-in_err-inside-clause-value
 parenthesis-returns-in_err-inside-clause-value g t c =

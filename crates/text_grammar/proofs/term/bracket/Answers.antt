@@ -1,11 +1,11 @@
-use Rattle.std.proofs.Common.{◌+◌, drop, sym, nat_lt}
+use Rattle.std.proofs.Common.{◌+◌, drop, sym, nat_lt, Ok, refl}
 use Rattle.kat_model.specs.declared.limits.TheConstants.{MAX_OPEN}
 use Rattle.text_grammar.specs.declared.terminal.Terminal.TheVariants.{SquareClose}
 use Rattle.text_grammar.specs.Lexemes.{lexemes, is_terminal}
 use Rattle.text_grammar.specs.Actions.{context}
 use Rattle.text_grammar.specs.Conds.{parse_cond, disjunction}
 use Rattle.text_grammar.specs.Terms.{bracket}
-use Rattle.text_grammar.proofs.PartFaults.{fault_read, memory_lacks, fault_known, enter_keeps_memory, wants_keeps_memory}
+use Rattle.text_grammar.proofs.PartFaults.{end_made, fault_read, fault_known, enter_keeps_memory, wants_keeps_memory}
 use Rattle.text_grammar.proofs.TermSteps.{bracket_refused, bracket_fault, bracket_open, bracket_closed}
 use Rattle.text_grammar.proofs.term.bracket.Goals as goal
 
@@ -36,16 +36,11 @@ returns-in_err-end-clause-value g c =
     fault_known g.R.Reading.memory g.R.Reading.term ts c.from_residual-in_err-end.result c.in_err-end.field-0.0 (bracket x c.args.context c.args.at us) c.from_residual-in_err-end.ensures.1 (wants_keeps_memory (is_terminal SquareClose) (drop c.in_ok-cond.end ts) c.in_err-end.field-0.0 missing)
     (bracket_open x c.args.context c.in_ok-inside.inside c.args.at us (g.R.Reading.cond c.in_ok-cond.cond, drop c.in_ok-cond.end ts) c.in_err-end.field-0.0 (sym c.in_ok-inside.ensures) c.in_ok-cond.ensures.value missing)
 
-pub returns-in_err-tested-clause-value : goal.returns-in_err-tested-clause-value
-returns-in_err-tested-clause-value g c =
-    let x = g.R.Reading.actions c.args.reading.now in
-    let ts = lexemes c.args.toks.now in
-    let us = drop c.args.from ts in
-    memory_lacks g.R.Reading.memory g.R.Reading.term g.R.Reading.term ts c.from_residual-in_err-tested.result c.in_err-tested.field-0.0 (x.tested (g.R.Reading.cond c.in_ok-cond.cond)) (bracket x c.args.context c.args.at us) c.from_residual-in_err-tested.ensures.1 c.in_err-tested.ensures
-
 pub returns-clause-value : goal.returns-clause-value
 returns-clause-value g c =
     let x = g.R.Reading.actions c.args.reading.now in
     let ts = lexemes c.args.toks.now in
     let us = drop c.args.from ts in
-    bracket_closed x c.args.context c.in_ok-inside.inside c.args.at us (g.R.Reading.cond c.in_ok-cond.cond, drop c.in_ok-cond.end ts) (drop c.in_ok-end.end ts) (g.R.Reading.term c.in_ok-tested.field-0) (sym c.in_ok-inside.ensures) c.in_ok-cond.ensures.value c.in_ok-end.ensures.value c.in_ok-tested.ensures
+    let cond = g.R.Reading.cond c.in_ok-cond.cond in
+    end_made g.R.Reading.memory g.R.Reading.term ts c.in_ok-end.end c.with_end.result c.tested.result (Ok (x.tested cond)) (bracket x c.args.context c.args.at us) c.with_end.ensures c.tested.ensures
+    (bracket_closed x c.args.context c.in_ok-inside.inside c.args.at us (cond, drop c.in_ok-cond.end ts) (drop c.in_ok-end.end ts) (x.tested cond) (sym c.in_ok-inside.ensures) c.in_ok-cond.ensures.value c.in_ok-end.ensures.value refl)
