@@ -13,6 +13,7 @@ use Rattle.text_grammar.specs.Actions.{CondActions, enter, enter_not}
 use Rattle.text_grammar.specs.Exprs.{parse_expr, sums}
 use Rattle.text_grammar.specs.Conds.{after_close, begins_expr, CondAim, disjunction, disjunction_after, conjunction, conjunction_after, literal, CondParser, relation, comparison, parenthesis, negation, literal_by, cond_by, rank, steps, cond_within, parse_cond}
 use Rattle.text_grammar.proofs.Tokens.{next_drop}
+use Rattle.text_grammar.proofs.PartFaults.{closed_same}
 use Rattle.text_grammar.proofs.Within.{Within, bind_within, if_within, weaken, before_within, enter_within, change_within, then_wants_within, headed, bind_same, if_same, else_same, enter_same}
 use Rattle.text_grammar.proofs.ExprSteps.{expr_read_short}
 
@@ -242,11 +243,8 @@ parenthesis_refused g f c at ts e refused = rw refused refl
 pub parenthesis_fault : {E B L : Type 0} (g : CondActions E B L) (f : CondParser B L) (c d : Context) (at : ℕ) (ts : List Lexeme) (e : TextFault) → enter c at ≡ Ok d → f disjunction d ts ≡ Err e → parenthesis g f c at ts ≡ Err e
 parenthesis_fault g f c d at ts e entered h = rw (entered, h) refl
 
-pub parenthesis_open : {E B L : Type 0} (g : CondActions E B L) (f : CondParser B L) (c d : Context) (at : ℕ) (ts : List Lexeme) (x : B × List Lexeme) (e : TextFault) → enter c at ≡ Ok d → f disjunction d ts ≡ Ok x → wants (is_terminal RoundClose) x.1 ≡ Err e → parenthesis g f c at ts ≡ Err e
-parenthesis_open g f c d at ts x e entered h missing = rw (entered, h, missing) refl
-
-pub parenthesis_closed : {E B L : Type 0} (g : CondActions E B L) (f : CondParser B L) (c d : Context) (at : ℕ) (ts : List Lexeme) (x : B × List Lexeme) (us : List Lexeme) (v : B) → enter c at ≡ Ok d → f disjunction d ts ≡ Ok x → wants (is_terminal RoundClose) x.1 ≡ Ok us → v ≡ g.enclosed x.0 → parenthesis g f c at ts ≡ Ok (v, us)
-parenthesis_closed g f c d at ts x us v entered h closed is = rw (entered, h, closed, is) refl
+pub parenthesis_read : {E B L : Type 0} (g : CondActions E B L) (f : CondParser B L) (c d : Context) (at : ℕ) (ts : List Lexeme) (x : B × List Lexeme) → enter c at ≡ Ok d → f disjunction d ts ≡ Ok x → parenthesis g f c at ts ≡ then_wants (is_terminal RoundClose) (Ok (g.enclosed x.0, x.1))
+parenthesis_read g f c d at ts x entered h = rw (entered, h) (closed_same g.enclosed x.0 (g.enclosed x.0) (wants (is_terminal RoundClose) x.1) refl)
 
 -- the parser consumes at least one token, or none for the rest of a list
 pub cond_read_short : {E B L : Type 0} (g : CondActions E B L) → IsShort (parse_cond g)

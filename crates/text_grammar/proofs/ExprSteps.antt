@@ -11,6 +11,7 @@ use Rattle.text_grammar.specs.Parsed.{Parsed, ◌>>=◌, place_of, change, wants
 use Rattle.text_grammar.specs.Actions.{ExprActions, enter}
 use Rattle.text_grammar.specs.Exprs.{operator_at, ExprAim, sums, sums_after, products, products_after, factor, ExprParser, parenthesis, factor_by, expr_by, rank, steps, expr_within, parse_expr}
 use Rattle.text_grammar.proofs.Tokens.{next_drop}
+use Rattle.text_grammar.proofs.PartFaults.{closed_same}
 use Rattle.text_grammar.proofs.Within.{Within, bind_within, if_within, weaken, before_within, enter_within, change_within, then_wants_within, headed, bind_same, if_same, enter_same}
 
 -- 1 if the aim may consume no token, else 0
@@ -157,11 +158,8 @@ parenthesis_refused g f c at ts e refused = rw refused refl
 pub parenthesis_fault : {E : Type 0} (g : ExprActions E) (f : ExprParser E) (c d : Context) (at : ℕ) (ts : List Lexeme) (e : TextFault) → enter c at ≡ Ok d → f sums d ts ≡ Err e → parenthesis g f c at ts ≡ Err e
 parenthesis_fault g f c d at ts e entered h = rw (entered, h) refl
 
-pub parenthesis_open : {E : Type 0} (g : ExprActions E) (f : ExprParser E) (c d : Context) (at : ℕ) (ts : List Lexeme) (x : E × List Lexeme) (e : TextFault) → enter c at ≡ Ok d → f sums d ts ≡ Ok x → wants (is_terminal RoundClose) x.1 ≡ Err e → parenthesis g f c at ts ≡ Err e
-parenthesis_open g f c d at ts x e entered h missing = rw (entered, h, missing) refl
-
-pub parenthesis_closed : {E : Type 0} (g : ExprActions E) (f : ExprParser E) (c d : Context) (at : ℕ) (ts : List Lexeme) (x : E × List Lexeme) (us : List Lexeme) (v : E) → enter c at ≡ Ok d → f sums d ts ≡ Ok x → wants (is_terminal RoundClose) x.1 ≡ Ok us → v ≡ g.enclosed x.0 → parenthesis g f c at ts ≡ Ok (v, us)
-parenthesis_closed g f c d at ts x us v entered h closed is = rw (entered, h, closed, is) refl
+pub parenthesis_read : {E : Type 0} (g : ExprActions E) (f : ExprParser E) (c d : Context) (at : ℕ) (ts : List Lexeme) (x : E × List Lexeme) → enter c at ≡ Ok d → f sums d ts ≡ Ok x → parenthesis g f c at ts ≡ then_wants (is_terminal RoundClose) (Ok (g.enclosed x.0, x.1))
+parenthesis_read g f c d at ts x entered h = rw (entered, h) (closed_same g.enclosed x.0 (g.enclosed x.0) (wants (is_terminal RoundClose) x.1) refl)
 
 -- the parser consumes at least one token, or none for the rest of a list
 pub expr_read_short : {E : Type 0} (g : ExprActions E) → IsShort (parse_expr g)

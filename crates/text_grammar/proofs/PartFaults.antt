@@ -7,7 +7,7 @@ use Rattle.text_tokens.specs.declared.fault.TextFault.TheVariants.{NoMemory, Syn
 use Rattle.text_grammar.specs.declared.reading.Context.{Context}
 use Rattle.text_grammar.specs.declared.terminal.Terminal.{Terminal}
 use Rattle.text_grammar.specs.Lexemes.{Lexeme, lexeme}
-use Rattle.text_grammar.specs.Parsed.{Parsed, before, wants, Makes, Reads, Goes}
+use Rattle.text_grammar.specs.Parsed.{Parsed, ◌>>=◌, before, change, wants, then_wants, Makes, Reads, Goes}
 use Rattle.text_grammar.specs.Working.Ends.{with_end}
 
 -- the function ends with the fault `e` of a part
@@ -67,6 +67,19 @@ end_made memory means ts end r made s m is h same = rw (is, same) (at_end_made m
 pub end_goes : {V : Type 0} (from count end : ℕ) (r : Result (V × ℕ) TextFault) (made : Result V TextFault) → r ≡ with_end end made → from < end → end ≤ count → Goes from count r
 end_goes from count end r (Ok v) is more within = rw is (more, within)
 end_goes from count end r (Err e) is more within = rw is tt
+
+-- a value in parentheses, with the index after the closing one
+pub closed_same : {V W : Type 0} (means : V → W) (r : V) (v : W) (w : Result (List Lexeme) TextFault) → means r ≡ v → change means (w >>= λ us. Ok (r, us)) ≡ (w >>= λ us. Ok (v, us))
+closed_same means r v (Ok us) is = rw is refl
+closed_same means r v (Err e) is = refl
+
+at_closed_read : {V W : Type 0} (memory : Type 0) (means : V → W) (ts : List Lexeme) (r : Result (V × ℕ) TextFault) (s : Parsed V) → Reads ⊥ (λ v. v) ts r s → Reads memory means ts r (change means s)
+at_closed_read memory means ts (Ok x) s h = rw h refl
+at_closed_read memory means ts (Err NoMemory) s h = absurd h
+at_closed_read memory means ts (Err _) s h = rw h refl
+
+pub closed_read : {V W : Type 0} (memory : Type 0) (means : V → W) (ts us : List Lexeme) (p : Terminal → Bool) (r : Result (V × ℕ) TextFault) (value : V) (v : W) (m : Parsed W) → Reads ⊥ (λ v. v) ts r (then_wants p (Ok (value, us))) → means value ≡ v → m ≡ then_wants p (Ok (v, us)) → Reads memory means ts r m
+closed_read memory means ts us p r value v m h is same = rw (same, ← closed_same means value v (wants p us) is) (at_closed_read memory means ts r (then_wants p (Ok (value, us))) h)
 
 -- what is too deep, or wanted, is no lack of memory
 pub enter_keeps_memory : (b : Bool) (d : Context) (at : ℕ) (e : TextFault) → cond b (Ok d) (Err (TooDeep at)) ≡ Err e → e ≡ NoMemory → ⊥

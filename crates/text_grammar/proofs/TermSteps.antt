@@ -11,6 +11,7 @@ use Rattle.text_grammar.specs.Actions.{Actions, enter, enter_not}
 use Rattle.text_grammar.specs.Conds.{parse_cond, disjunction}
 use Rattle.text_grammar.specs.Terms.{TermAim, choice, choice_after, sequence, sequence_after, unit, TermParser, parenthesis, bracket, negation, unit_by, star_or_not, term_by, rank, steps, term_within, parse_term}
 use Rattle.text_grammar.proofs.Tokens.{next_drop}
+use Rattle.text_grammar.proofs.PartFaults.{closed_same}
 use Rattle.text_grammar.proofs.Within.{Within, bind_within, if_within, weaken, before_within, enter_within, change_within, then_wants_within, headed, bind_same, if_same, enter_same}
 use Rattle.text_grammar.proofs.CondSteps.{cond_read_short}
 
@@ -211,11 +212,8 @@ parenthesis_refused g f c at ts e refused = rw refused refl
 pub parenthesis_fault : {E B L T M : Type 0} (g : Actions E B L T M) (f : TermParser T M) (c d : Context) (at : ℕ) (ts : List Lexeme) (e : TextFault) → enter c at ≡ Ok d → f choice d ts ≡ Err e → parenthesis g f c at ts ≡ Err e
 parenthesis_fault g f c d at ts e entered h = rw (entered, h) refl
 
-pub parenthesis_open : {E B L T M : Type 0} (g : Actions E B L T M) (f : TermParser T M) (c d : Context) (at : ℕ) (ts : List Lexeme) (x : T × List Lexeme) (e : TextFault) → enter c at ≡ Ok d → f choice d ts ≡ Ok x → wants (is_terminal RoundClose) x.1 ≡ Err e → parenthesis g f c at ts ≡ Err e
-parenthesis_open g f c d at ts x e entered h missing = rw (entered, h, missing) refl
-
-pub parenthesis_closed : {E B L T M : Type 0} (g : Actions E B L T M) (f : TermParser T M) (c d : Context) (at : ℕ) (ts : List Lexeme) (x : T × List Lexeme) (us : List Lexeme) (v : T) → enter c at ≡ Ok d → f choice d ts ≡ Ok x → wants (is_terminal RoundClose) x.1 ≡ Ok us → v ≡ g.enclosed x.0 → parenthesis g f c at ts ≡ Ok (v, us)
-parenthesis_closed g f c d at ts x us v entered h closed is = rw (entered, h, closed, is) refl
+pub parenthesis_read : {E B L T M : Type 0} (g : Actions E B L T M) (f : TermParser T M) (c d : Context) (at : ℕ) (ts : List Lexeme) (x : T × List Lexeme) → enter c at ≡ Ok d → f choice d ts ≡ Ok x → parenthesis g f c at ts ≡ then_wants (is_terminal RoundClose) (Ok (g.enclosed x.0, x.1))
+parenthesis_read g f c d at ts x entered h = rw (entered, h) (closed_same g.enclosed x.0 (g.enclosed x.0) (wants (is_terminal RoundClose) x.1) refl)
 
 -- what a bracket reads
 

@@ -12,8 +12,8 @@ ghost use Rattle.text_grammar.specs.Conds.{after_close, begins_expr, relation, c
 use crate::expr::read_expr;
 use crate::reading::{Context, Reading, with_end};
 use crate::terminal::{
-    Terminal, expect, is_at, is_round_close_at, is_round_open_at, syntax_fault_at, terminal_at,
-    text_at,
+    Terminal, is_at, is_round_close_at, is_round_open_at, syntax_fault_at, terminal_at, text_at,
+    then_expect,
 };
 use kat_model::Rel;
 use text_tokens::{TextFault, Token};
@@ -197,6 +197,5 @@ fn parenthesis<R: Reading>(
 {
     let inside = context.enter(at)?;
     let (cond, end) = disjunction(reading, toks, from, inside)?;
-    let end = expect(toks, end, Terminal::RoundClose)?;
-    Ok((reading.enclosed_cond(cond), end))
+    then_expect(toks, reading.enclosed_cond(cond), end, Terminal::RoundClose)
 }

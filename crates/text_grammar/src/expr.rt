@@ -5,7 +5,9 @@ ghost use Rattle.text_grammar.specs.Parsed.{Reads, Goes};
 ghost use Rattle.text_grammar.specs.Exprs.{parse_expr, sums, products, factor, operator_at, parenthesis};
 
 use crate::reading::{Context, Operator, Reading, with_end};
-use crate::terminal::{Terminal, expect, is_at, is_sum_at, syntax_fault_at, terminal_at, text_at};
+use crate::terminal::{
+    Terminal, is_at, is_sum_at, syntax_fault_at, terminal_at, text_at, then_expect,
+};
 use text_tokens::{TextFault, Token};
 
 fn operator_at(toks: &[Token], i: usize) -> Operator
@@ -111,6 +113,5 @@ fn parenthesis<R: Reading>(
 {
     let inside = context.enter(at)?;
     let (expr, end) = sum(reading, toks, from, inside)?;
-    let end = expect(toks, end, Terminal::RoundClose)?;
-    Ok((reading.enclosed_expr(expr), end))
+    then_expect(toks, reading.enclosed_expr(expr), end, Terminal::RoundClose)
 }

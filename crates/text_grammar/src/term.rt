@@ -6,7 +6,9 @@ ghost use Rattle.text_grammar.specs.Terms.{parenthesis, bracket, negation, star_
 
 use crate::cond::read_cond;
 use crate::reading::{Context, Reading, with_end};
-use crate::terminal::{Terminal, expect, is_at, syntax_fault_at, terminal_at, text_at};
+use crate::terminal::{
+    Terminal, expect, is_at, syntax_fault_at, terminal_at, text_at, then_expect,
+};
 use text_tokens::{TextFault, Token};
 
 /// Reads the term that begins at `from`. Returns the result of the actions and the index after the term, or the first
@@ -156,6 +158,5 @@ fn parenthesis<R: Reading>(
 {
     let inside = context.enter(at)?;
     let (term, end) = choice(reading, toks, from, inside)?;
-    let end = expect(toks, end, Terminal::RoundClose)?;
-    Ok((reading.enclosed_term(term), end))
+    then_expect(toks, reading.enclosed_term(term), end, Terminal::RoundClose)
 }

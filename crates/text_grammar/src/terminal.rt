@@ -1,5 +1,5 @@
 //! The terminals of the grammar that tokens are.
-ghost use Rattle.std.specs.Prelude.{◌≡◌, ℕ, ◌+◌, ◌<◌, [], ◌∷◌, length, drop, slice_get, IsTrue, IfOk, true};
+ghost use Rattle.std.specs.Prelude.{◌≡◌, ℕ, ◌+◌, ◌<◌, [], ◌∷◌, length, drop, slice_get, IsTrue, IfOk, Ok, true};
 ghost use Rattle.std.specs.List.{list_all};
 ghost use Rattle.std.specs.Char.{is_ascii_digit};
 ghost use Rattle.text_tokens.specs.TokenParts.{parts_of_tokens};
@@ -8,7 +8,7 @@ ghost use Rattle.text_grammar.specs.Terminals.{terminal_of, is_symbol, heads_sym
 ghost use Rattle.text_grammar.specs.Working.Symbols.{symbol_of_one, symbol_of_two};
 ghost use Rattle.text_grammar.specs.Working.Words.{word_of_four, word_of_five, word_of_six, other_word};
 ghost use Rattle.text_grammar.specs.Lexemes.{lexemes, text_at, Sees, heads, is_terminal, is_sum};
-ghost use Rattle.text_grammar.specs.Parsed.{place_of, Wants, wants};
+ghost use Rattle.text_grammar.specs.Parsed.{place_of, Reads, Wants, wants, then_wants};
 
 use kat_model::Rel;
 use text_tokens::{Kind, TextFault, Token};
@@ -360,6 +360,20 @@ pub fn expect(toks: &[Token], i: usize, terminal: Terminal) -> Result<usize, Tex
         return Err(syntax_fault_at(toks, i));
     }
     Ok(i + 1)
+}
+
+// Returns a value with the index after the token at `i`, which must be this terminal. Otherwise fails as `expect` does.
+pub(crate) fn then_expect<T: Drop>(
+    toks: &[Token],
+    value: T,
+    i: usize,
+    terminal: Terminal,
+) -> Result<(T, usize), TextFault>
+    ensures value { Reads ⊥ (λ v. v) (lexemes toks.now) result (then_wants (is_terminal terminal) (Ok (value, drop i (lexemes toks.now)))) }
+    ensures goes { IfOk result (λ x. (x.1 ≡ i + 1) × (i < length toks.now)) }
+{
+    let end = expect(toks, i, terminal)?;
+    Ok((value, end))
 }
 
 /// Returns the text of the token at index `i`, or an empty text if there is no token.

@@ -5,8 +5,8 @@ use Rattle.text_grammar.specs.Lexemes.{lexemes, text_at, is_terminal}
 use Rattle.text_grammar.specs.Parsed.{Parsed, place_of, before, Reads}
 use Rattle.text_grammar.specs.Actions.{context}
 use Rattle.text_grammar.specs.Conds.{begins_expr, disjunction, conjunction, literal, parse_cond, negation, parenthesis}
-use Rattle.text_grammar.proofs.PartFaults.{end_made, end_goes, fault_read, memory_lacks, fault_known, syntax_read, enter_keeps_memory, wants_keeps_memory}
-use Rattle.text_grammar.proofs.CondSteps.{disjunction_first, disjunction_fault, disjunction_next, disjunction_next_fault, disjunction_end, conjunction_first, conjunction_fault, conjunction_next, conjunction_next_fault, conjunction_end, literal_none, literal_seen, literal_other, name_compared, name_alone, round_compared, round_alone, number_compared, negation_refused, negation_fault, negation_made, parenthesis_refused, parenthesis_fault, parenthesis_open, parenthesis_closed}
+use Rattle.text_grammar.proofs.PartFaults.{closed_read, end_made, end_goes, fault_read, memory_lacks, fault_known, syntax_read, enter_keeps_memory}
+use Rattle.text_grammar.proofs.CondSteps.{disjunction_first, disjunction_fault, disjunction_next, disjunction_next_fault, disjunction_end, conjunction_first, conjunction_fault, conjunction_next, conjunction_next_fault, conjunction_end, literal_none, literal_seen, literal_other, name_compared, name_alone, round_compared, round_alone, number_compared, negation_refused, negation_fault, negation_made, parenthesis_refused, parenthesis_fault, parenthesis_read}
 use Rattle.text_grammar.proofs.cond.+conds.Goals as goal
 
 pub literal-returns-in_default-clause-value : goal.literal-returns-in_default-clause-value
@@ -263,18 +263,11 @@ parenthesis-returns-in_err-cond-clause-value g t c =
     fault_read g.R.Reading.memory g.R.Reading.cond g.R.Reading.cond ts c.from_residual-in_err-cond.result c.in_err-cond.field-0.0 (parse_cond x disjunction c.in_ok-inside.inside us) (parenthesis x (parse_cond x) c.args.context c.args.at us) c.from_residual-in_err-cond.ensures.1 c.in_err-cond.ensures.value
     (parenthesis_fault x (parse_cond x) c.args.context c.in_ok-inside.inside c.args.at us c.in_err-cond.field-0.0 (sym c.in_ok-inside.ensures))
 
-pub parenthesis-returns-in_err-end-clause-value : goal.parenthesis-returns-in_err-end-clause-value
-parenthesis-returns-in_err-end-clause-value g t c =
-    let x = (g.R.Reading.actions c.args.reading.now).conds in
-    let ts = lexemes c.args.toks.now in
-    let us = drop c.args.from ts in
-    let missing = c.in_err-end.ensures.value in
-    fault_known g.R.Reading.memory g.R.Reading.cond ts c.from_residual-in_err-end.result c.in_err-end.field-0.0 (parenthesis x (parse_cond x) c.args.context c.args.at us) c.from_residual-in_err-end.ensures.1 (wants_keeps_memory (is_terminal RoundClose) (drop c.in_ok-cond.end ts) c.in_err-end.field-0.0 missing)
-    (parenthesis_open x (parse_cond x) c.args.context c.in_ok-inside.inside c.args.at us (g.R.Reading.cond c.in_ok-cond.cond, drop c.in_ok-cond.end ts) c.in_err-end.field-0.0 (sym c.in_ok-inside.ensures) c.in_ok-cond.ensures.value missing)
-
 pub parenthesis-returns-clause-value : goal.parenthesis-returns-clause-value
 parenthesis-returns-clause-value g t c =
     let x = (g.R.Reading.actions c.args.reading.now).conds in
     let ts = lexemes c.args.toks.now in
     let us = drop c.args.from ts in
-    parenthesis_closed x (parse_cond x) c.args.context c.in_ok-inside.inside c.args.at us (g.R.Reading.cond c.in_ok-cond.cond, drop c.in_ok-cond.end ts) (drop c.in_ok-end.end ts) (g.R.Reading.cond c.enclosed_cond.result) (sym c.in_ok-inside.ensures) c.in_ok-cond.ensures.value c.in_ok-end.ensures.value c.enclosed_cond.ensures
+    let inside = g.R.Reading.cond c.in_ok-cond.cond in
+    closed_read g.R.Reading.memory g.R.Reading.cond ts (drop c.in_ok-cond.end ts) (is_terminal RoundClose) c.then_expect.result c.enclosed_cond.result (x.enclosed inside) (parenthesis x (parse_cond x) c.args.context c.args.at us) c.then_expect.ensures.value c.enclosed_cond.ensures
+    (parenthesis_read x (parse_cond x) c.args.context c.in_ok-inside.inside c.args.at us (inside, drop c.in_ok-cond.end ts) (sym c.in_ok-inside.ensures) c.in_ok-cond.ensures.value)

@@ -6,8 +6,8 @@ use Rattle.text_grammar.specs.Lexemes.{lexemes, text_at, is_terminal}
 use Rattle.text_grammar.specs.Parsed.{Parsed, place_of, before, Reads}
 use Rattle.text_grammar.specs.Actions.{context}
 use Rattle.text_grammar.specs.Exprs.{parse_expr, sums, products, factor, parenthesis}
-use Rattle.text_grammar.proofs.PartFaults.{end_made, fault_read, memory_lacks, fault_known, syntax_read, enter_keeps_memory, wants_keeps_memory}
-use Rattle.text_grammar.proofs.ExprSteps.{sums_first, sums_fault, sums_next, sums_next_fault, sums_end, products_first, products_fault, products_next, products_next_fault, products_end, factor_none, factor_seen, factor_other, parenthesis_refused, parenthesis_fault, parenthesis_open, parenthesis_closed}
+use Rattle.text_grammar.proofs.PartFaults.{closed_read, end_made, fault_read, memory_lacks, fault_known, syntax_read, enter_keeps_memory}
+use Rattle.text_grammar.proofs.ExprSteps.{sums_first, sums_fault, sums_next, sums_next_fault, sums_end, products_first, products_fault, products_next, products_next_fault, products_end, factor_none, factor_seen, factor_other, parenthesis_refused, parenthesis_fault, parenthesis_read}
 use Rattle.text_grammar.proofs.expr.+exprs.Goals as goal
 
 pub factor-returns-in_default-clause-value : goal.factor-returns-in_default-clause-value
@@ -190,18 +190,11 @@ parenthesis-returns-in_err-expr-clause-value g t c =
     fault_read g.R.Reading.memory g.R.Reading.expr g.R.Reading.expr ts c.from_residual-in_err-expr.result c.in_err-expr.field-0.0 (parse_expr x sums c.in_ok-inside.inside us) (parenthesis x (parse_expr x) c.args.context c.args.at us) c.from_residual-in_err-expr.ensures.1 c.in_err-expr.ensures.value
     (parenthesis_fault x (parse_expr x) c.args.context c.in_ok-inside.inside c.args.at us c.in_err-expr.field-0.0 (sym c.in_ok-inside.ensures))
 
-pub parenthesis-returns-in_err-end-clause-value : goal.parenthesis-returns-in_err-end-clause-value
-parenthesis-returns-in_err-end-clause-value g t c =
-    let x = (g.R.Reading.actions c.args.reading.now).conds.exprs in
-    let ts = lexemes c.args.toks.now in
-    let us = drop c.args.from ts in
-    let missing = c.in_err-end.ensures.value in
-    fault_known g.R.Reading.memory g.R.Reading.expr ts c.from_residual-in_err-end.result c.in_err-end.field-0.0 (parenthesis x (parse_expr x) c.args.context c.args.at us) c.from_residual-in_err-end.ensures.1 (wants_keeps_memory (is_terminal RoundClose) (drop c.in_ok-expr.end ts) c.in_err-end.field-0.0 missing)
-    (parenthesis_open x (parse_expr x) c.args.context c.in_ok-inside.inside c.args.at us (g.R.Reading.expr c.in_ok-expr.expr, drop c.in_ok-expr.end ts) c.in_err-end.field-0.0 (sym c.in_ok-inside.ensures) c.in_ok-expr.ensures.value missing)
-
 pub parenthesis-returns-clause-value : goal.parenthesis-returns-clause-value
 parenthesis-returns-clause-value g t c =
     let x = (g.R.Reading.actions c.args.reading.now).conds.exprs in
     let ts = lexemes c.args.toks.now in
     let us = drop c.args.from ts in
-    parenthesis_closed x (parse_expr x) c.args.context c.in_ok-inside.inside c.args.at us (g.R.Reading.expr c.in_ok-expr.expr, drop c.in_ok-expr.end ts) (drop c.in_ok-end.end ts) (g.R.Reading.expr c.enclosed_expr.result) (sym c.in_ok-inside.ensures) c.in_ok-expr.ensures.value c.in_ok-end.ensures.value c.enclosed_expr.ensures
+    let inside = g.R.Reading.expr c.in_ok-expr.expr in
+    closed_read g.R.Reading.memory g.R.Reading.expr ts (drop c.in_ok-expr.end ts) (is_terminal RoundClose) c.then_expect.result c.enclosed_expr.result (x.enclosed inside) (parenthesis x (parse_expr x) c.args.context c.args.at us) c.then_expect.ensures.value c.enclosed_expr.ensures
+    (parenthesis_read x (parse_expr x) c.args.context c.in_ok-inside.inside c.args.at us (inside, drop c.in_ok-expr.end ts) (sym c.in_ok-inside.ensures) c.in_ok-expr.ensures.value)

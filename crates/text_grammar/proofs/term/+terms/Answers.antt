@@ -5,8 +5,8 @@ use Rattle.text_grammar.specs.Lexemes.{lexemes, text_at, is_terminal}
 use Rattle.text_grammar.specs.Parsed.{Parsed, place_of, before, Reads}
 use Rattle.text_grammar.specs.Actions.{context}
 use Rattle.text_grammar.specs.Terms.{choice, sequence, unit, parse_term, star_or_not, negation, parenthesis}
-use Rattle.text_grammar.proofs.PartFaults.{end_made, end_goes, fault_read, memory_lacks, fault_known, syntax_read, enter_keeps_memory, wants_keeps_memory}
-use Rattle.text_grammar.proofs.TermSteps.{choice_first, choice_fault, choice_next, choice_next_fault, choice_end, sequence_first, sequence_fault, sequence_star_fault, sequence_next, sequence_next_fault, sequence_next_star_fault, sequence_end, unit_none, unit_seen, unit_other, negation_refused, negation_fault, negation_made, parenthesis_refused, parenthesis_fault, parenthesis_open, parenthesis_closed}
+use Rattle.text_grammar.proofs.PartFaults.{closed_read, end_made, end_goes, fault_read, memory_lacks, fault_known, syntax_read, enter_keeps_memory}
+use Rattle.text_grammar.proofs.TermSteps.{choice_first, choice_fault, choice_next, choice_next_fault, choice_end, sequence_first, sequence_fault, sequence_star_fault, sequence_next, sequence_next_fault, sequence_next_star_fault, sequence_end, unit_none, unit_seen, unit_other, negation_refused, negation_fault, negation_made, parenthesis_refused, parenthesis_fault, parenthesis_read}
 use Rattle.text_grammar.proofs.term.+terms.Goals as goal
 
 pub unit-returns-in_default-clause-value : goal.unit-returns-in_default-clause-value
@@ -268,18 +268,11 @@ parenthesis-returns-in_err-term-clause-value g t c =
     fault_read g.R.Reading.memory g.R.Reading.term g.R.Reading.term ts c.from_residual-in_err-term.result c.in_err-term.field-0.0 (parse_term x choice c.in_ok-inside.inside us) (parenthesis x (parse_term x) c.args.context c.args.at us) c.from_residual-in_err-term.ensures.1 c.in_err-term.ensures.value
     (parenthesis_fault x (parse_term x) c.args.context c.in_ok-inside.inside c.args.at us c.in_err-term.field-0.0 (sym c.in_ok-inside.ensures))
 
-pub parenthesis-returns-in_err-end-clause-value : goal.parenthesis-returns-in_err-end-clause-value
-parenthesis-returns-in_err-end-clause-value g t c =
-    let x = (g.R.Reading.actions c.args.reading.now) in
-    let ts = lexemes c.args.toks.now in
-    let us = drop c.args.from ts in
-    let missing = c.in_err-end.ensures.value in
-    fault_known g.R.Reading.memory g.R.Reading.term ts c.from_residual-in_err-end.result c.in_err-end.field-0.0 (parenthesis x (parse_term x) c.args.context c.args.at us) c.from_residual-in_err-end.ensures.1 (wants_keeps_memory (is_terminal RoundClose) (drop c.in_ok-term.end ts) c.in_err-end.field-0.0 missing)
-    (parenthesis_open x (parse_term x) c.args.context c.in_ok-inside.inside c.args.at us (g.R.Reading.term c.in_ok-term.term, drop c.in_ok-term.end ts) c.in_err-end.field-0.0 (sym c.in_ok-inside.ensures) c.in_ok-term.ensures.value missing)
-
 pub parenthesis-returns-clause-value : goal.parenthesis-returns-clause-value
 parenthesis-returns-clause-value g t c =
     let x = (g.R.Reading.actions c.args.reading.now) in
     let ts = lexemes c.args.toks.now in
     let us = drop c.args.from ts in
-    parenthesis_closed x (parse_term x) c.args.context c.in_ok-inside.inside c.args.at us (g.R.Reading.term c.in_ok-term.term, drop c.in_ok-term.end ts) (drop c.in_ok-end.end ts) (g.R.Reading.term c.enclosed_term.result) (sym c.in_ok-inside.ensures) c.in_ok-term.ensures.value c.in_ok-end.ensures.value c.enclosed_term.ensures
+    let inside = g.R.Reading.term c.in_ok-term.term in
+    closed_read g.R.Reading.memory g.R.Reading.term ts (drop c.in_ok-term.end ts) (is_terminal RoundClose) c.then_expect.result c.enclosed_term.result (x.enclosed inside) (parenthesis x (parse_term x) c.args.context c.args.at us) c.then_expect.ensures.value c.enclosed_term.ensures
+    (parenthesis_read x (parse_term x) c.args.context c.in_ok-inside.inside c.args.at us (inside, drop c.in_ok-term.end ts) (sym c.in_ok-inside.ensures) c.in_ok-term.ensures.value)
