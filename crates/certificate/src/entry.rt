@@ -11,6 +11,7 @@ ghost use Rattle.certificate.specs.declared.entry.Entry.TheVariants.{TestLine, T
 ghost use Rattle.certificate.specs.declared.entry.LineFault.TheVariants.{NoMemory as NoRoom};
 
 use crate::nodes::{Pair, TermNode, TestNode};
+use crate::texts::is_text;
 use kat_model::{Items, NoMemory};
 use line_format::{Numbers, read_numbers, words_of};
 use std::alloc::Global;
@@ -69,28 +70,28 @@ fn test_node(name: &[u8], numbers: &[usize]) -> Option<TestNode>
 {
     match numbers {
         [] => {
-            if name == b"false".as_slice() {
+            if is_text(name, b"false") {
                 return Some(TestNode::False);
             }
-            if name == b"true".as_slice() {
+            if is_text(name, b"true") {
                 return Some(TestNode::True);
             }
             None
         }
         [x] => {
-            if name == b"prim".as_slice() {
+            if is_text(name, b"prim") {
                 return Some(TestNode::Prim(*x));
             }
-            if name == b"not".as_slice() {
+            if is_text(name, b"not") {
                 return Some(TestNode::Not(*x));
             }
             None
         }
         [x, y] => {
-            if name == b"and".as_slice() {
+            if is_text(name, b"and") {
                 return Some(TestNode::And(*x, *y));
             }
-            if name == b"or".as_slice() {
+            if is_text(name, b"or") {
                 return Some(TestNode::Or(*x, *y));
             }
             None
@@ -105,31 +106,31 @@ fn term_node(name: &[u8], numbers: &[usize]) -> Option<TermNode>
 {
     match numbers {
         [] => {
-            if name == b"zero".as_slice() {
+            if is_text(name, b"zero") {
                 return Some(TermNode::Zero);
             }
-            if name == b"one".as_slice() {
+            if is_text(name, b"one") {
                 return Some(TermNode::One);
             }
             None
         }
         [x] => {
-            if name == b"test".as_slice() {
+            if is_text(name, b"test") {
                 return Some(TermNode::Test(*x));
             }
-            if name == b"act".as_slice() {
+            if is_text(name, b"act") {
                 return Some(TermNode::Act(*x));
             }
-            if name == b"star".as_slice() {
+            if is_text(name, b"star") {
                 return Some(TermNode::Star(*x));
             }
             None
         }
         [x, y] => {
-            if name == b"sum".as_slice() {
+            if is_text(name, b"sum") {
                 return Some(TermNode::Sum(*x, *y));
             }
-            if name == b"seq".as_slice() {
+            if is_text(name, b"seq") {
                 return Some(TermNode::Seq(*x, *y));
             }
             None
@@ -175,7 +176,7 @@ fn term_line(alloc: Global, name: &[u8], words: &[&[u8]]) -> Result<Entry, LineF
 fn is_bar(word: &[u8]) -> bool
     ensures { result ≡ is_bar word.now }
 {
-    word == b"|".as_slice()
+    is_text(word, b"|")
 }
 
 // Splits words at bars.
@@ -299,13 +300,13 @@ fn entry_of_words(alloc: Global, words: &[&[u8]]) -> Result<Entry, LineFault>
 {
     match words {
         [kind, name, rest @ ..] => {
-            if *kind == b"T".as_slice() {
+            if is_text(kind, b"T") {
                 return test_line(alloc, name, rest);
             }
-            if *kind == b"E".as_slice() {
+            if is_text(kind, b"E") {
                 return term_line(alloc, name, rest);
             }
-            if *kind == b"P".as_slice() {
+            if is_text(kind, b"P") {
                 return pair_line(alloc, &words[1..]);
             }
             Err(LineFault::Form)

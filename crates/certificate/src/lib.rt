@@ -10,6 +10,7 @@ mod moves;
 mod nodes;
 mod reading;
 mod string_draft;
+mod texts;
 mod writing;
 
 pub use cert::Cert;

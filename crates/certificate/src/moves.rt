@@ -6,6 +6,7 @@ ghost use Rattle.certificate.specs.Forms.{is_bit, bits_of, atom_of_words, first_
 ghost use Rattle.certificate.specs.Working.Readings.{ReadsMove};
 ghost use Rattle.certificate.specs.declared.moves.MoveFault.TheVariants.{NoMemory as NoRoom};
 
+use crate::texts::is_text;
 use kat_model::{Items, NoMemory};
 use line_format::{is_numeral, number_of, words_of};
 use std::alloc::Global;
@@ -70,7 +71,7 @@ pub(crate) fn read_first(alloc: Global, line: &[u8]) -> Result<Option<Items<bool
     let words = words_of(alloc, line)?;
     match words.as_slice() {
         [kind, rest @ ..] => {
-            if *kind == b"A".as_slice() {
+            if is_text(kind, b"A") {
                 return atom(alloc, rest);
             }
             Ok(None)
@@ -102,7 +103,7 @@ pub(crate) fn read_move(alloc: Global, line: &[u8]) -> Result<Move, MoveFault>
     let words = words_of(alloc, line)?;
     match words.as_slice() {
         [kind, act, rest @ ..] => {
-            if *kind == b"M".as_slice() {
+            if is_text(kind, b"M") {
                 return move_from(alloc, act, rest);
             }
             Err(MoveFault::Form)

@@ -12,6 +12,7 @@ use crate::evidence::{Evidence, EvidenceFault};
 use crate::moves::read_first;
 use crate::nodes::Style;
 use crate::string_draft::StringDraft;
+use crate::texts::is_text;
 use line_format::{first_line, read_lines};
 use std::alloc::Global;
 
@@ -35,16 +36,16 @@ fn read_all(alloc: Global, bytes: &[u8]) -> Result<Evidence, EvidenceFault>
     let Some((line, rest)) = first_line(bytes) else {
         return Err(EvidenceFault::Truncated);
     };
-    if line == b"kat 1 equal".as_slice() {
+    if is_text(line, b"kat 1 equal") {
         return read_lines(alloc, Draft::new(alloc, Style::Plain), 2, rest);
     }
-    if line == b"kat 2 equal".as_slice() {
+    if is_text(line, b"kat 2 equal") {
         return read_lines(alloc, Draft::new(alloc, Style::UpTo), 2, rest);
     }
-    if line == b"kat 1 equal under".as_slice() {
+    if is_text(line, b"kat 1 equal under") {
         return read_lines(alloc, Draft::new(alloc, Style::Under), 2, rest);
     }
-    if line == b"kat 1 different".as_slice() {
+    if is_text(line, b"kat 1 different") {
         return read_string(alloc, rest);
     }
     Err(EvidenceFault::Header)

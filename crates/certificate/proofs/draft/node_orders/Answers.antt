@@ -1,4 +1,6 @@
 use Rattle.std.proofs.Common.{refl, ap}
+use Rattle.std.specs.Ordering.{is_eq}
+use Rattle.std.proofs.lemmas.Bool.{false≢true}
 use Rattle.std.proofs.lemmas.Map.Lookups.{exact_unsigned}
 use Rattle.term_nodes.specs.declared.TestNode.TheVariants.{False, True, Prim, Not, And, Or}
 use Rattle.term_nodes.specs.declared.TermNode.TheVariants.{Zero, One, Test, Act, Sum, Seq, Star}
@@ -13,7 +15,7 @@ returns-clause-tests c (Prim k) (Prim l) e = ap Prim (exact_unsigned k l e)
 returns-clause-tests c (Not x) (Not y) e = ap Not (exact_unsigned x y e)
 returns-clause-tests c (And w x) (And y z) e = two_exact And w x y z e
 returns-clause-tests c (Or w x) (Or y z) e = two_exact Or w x y z e
-returns-clause-tests c x y e = cc
+returns-clause-tests c x y e = absurd (false≢true (ap is_eq e))
 
 pub returns-clause-tests_own : goal.returns-clause-tests_own
 returns-clause-tests_own c False = refl
@@ -31,7 +33,7 @@ returns-clause-terms c (Act a) (Act b) e = ap Act (exact_unsigned a b e)
 returns-clause-terms c (Sum w x) (Sum y z) e = two_exact Sum w x y z e
 returns-clause-terms c (Seq w x) (Seq y z) e = two_exact Seq w x y z e
 returns-clause-terms c (Star x) (Star y) e = ap Star (exact_unsigned x y e)
-returns-clause-terms c x y e = cc
+returns-clause-terms c x y e = absurd (false≢true (ap is_eq e))
 
 pub returns-clause-terms_own : goal.returns-clause-terms_own
 returns-clause-terms_own c Zero = refl
