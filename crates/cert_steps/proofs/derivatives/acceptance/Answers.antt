@@ -5,6 +5,7 @@ use Rattle.kat_model.specs.Steps.{out}
 use Rattle.term_nodes.specs.Nodes.{IsOver}
 use Rattle.term_nodes.specs.NodeTrees.{tree_in}
 use Rattle.cert_steps.specs.NodeTables.{nodes_in}
+use Rattle.cert_steps.proofs.GrowingTables.{tests_itself}
 use Rattle.cert_steps.proofs.StepLists.{accept_at, silent, ready}
 use Rattle.cert_steps.proofs.derivatives.acceptance.Goals as goal
 
@@ -49,3 +50,42 @@ returns-in-Seq-clause-values c =
     IfOk-weaker c.both.result _ _
     (λ g told. (told.0, (λ atom. told.1 atom ∙ ap₂ (λ (a b : Bool). a && b) (first.1 atom) (second.1 atom) ∙ sym (ap (λ e. out e atom) (node.ensures.tree ∙ ap (tree_in (nodes_in t)) c.in-Seq.is)))))
     c.both.ensures.values
+
+pub bounds-earlier-x : goal.bounds-earlier-x
+bounds-earlier-x c = (subst (IsOver (length c.args.tables.now.tests) (length c.args.earlier.now)) c.in-Sum.is c.term_node.ensures.parts).0
+
+pub bounds-earlier-y : goal.bounds-earlier-y
+bounds-earlier-y c = (subst (IsOver (length c.args.tables.now.tests) (length c.args.earlier.now)) c.in-Sum.is c.term_node.ensures.parts).1
+
+pub either-requires-clause-first : goal.either-requires-clause-first
+either-requires-clause-first c = (accept_at c.args.tables.now c.args.earlier.now c.in-Sum.x c.requires.earlier (subst (IsOver (length c.args.tables.now.tests) (length c.args.earlier.now)) c.in-Sum.is c.term_node.ensures.parts).0).0
+
+pub either-requires-clause-second : goal.either-requires-clause-second
+either-requires-clause-second c = (accept_at c.args.tables.now c.args.earlier.now c.in-Sum.y c.requires.earlier (subst (IsOver (length c.args.tables.now.tests) (length c.args.earlier.now)) c.in-Sum.is c.term_node.ensures.parts).1).0
+
+pub bounds-earlier-x-in-Seq : goal.bounds-earlier-x-in-Seq
+bounds-earlier-x-in-Seq c = (subst (IsOver (length c.args.tables.now.tests) (length c.args.earlier.now)) c.in-Seq.is c.term_node.ensures.parts).0
+
+pub bounds-earlier-y-in-Seq : goal.bounds-earlier-y-in-Seq
+bounds-earlier-y-in-Seq c = (subst (IsOver (length c.args.tables.now.tests) (length c.args.earlier.now)) c.in-Seq.is c.term_node.ensures.parts).1
+
+pub both-requires-clause-first : goal.both-requires-clause-first
+both-requires-clause-first c = (accept_at c.args.tables.now c.args.earlier.now c.in-Seq.x c.requires.earlier (subst (IsOver (length c.args.tables.now.tests) (length c.args.earlier.now)) c.in-Seq.is c.term_node.ensures.parts).0).0
+
+pub both-requires-clause-second : goal.both-requires-clause-second
+both-requires-clause-second c = (accept_at c.args.tables.now c.args.earlier.now c.in-Seq.y c.requires.earlier (subst (IsOver (length c.args.tables.now.tests) (length c.args.earlier.now)) c.in-Seq.is c.term_node.ensures.parts).1).0
+
+pub returns-in-Zero-clause-grows : goal.returns-in-Zero-clause-grows
+returns-in-Zero-clause-grows c = c.constant.ensures.grows
+
+pub returns-in-One-clause-grows : goal.returns-in-One-clause-grows
+returns-in-One-clause-grows c = c.constant-in-One.ensures.grows
+
+pub returns-in-Test-clause-grows : goal.returns-in-Test-clause-grows
+returns-in-Test-clause-grows c = tests_itself c.args.tables.now c.term_node.ensures.tables
+
+pub returns-in-Sum-clause-grows : goal.returns-in-Sum-clause-grows
+returns-in-Sum-clause-grows c = c.either.ensures.grows
+
+pub returns-in-Seq-clause-grows : goal.returns-in-Seq-clause-grows
+returns-in-Seq-clause-grows c = c.both.ensures.grows

@@ -42,3 +42,18 @@ returns-clause-targets c =
 
 pub returns-in_err-add_all-clause-grows : goal.returns-in_err-add_all-clause-grows
 returns-in_err-add_all-clause-grows c = tests_trans c.args.tables.now c.loop-number.tables c.add_all.new.tables c.loop-number.invariant.grows c.add_all.ensures.grows
+
+pub bounds-steps-number : goal.bounds-steps-number
+bounds-steps-number c = below_at (length c.args.steps.now) c.args.set.now c.loop-number.number-index 0 c.requires.numbers (omega arith)
+
+pub add_all-requires-clause-entries : goal.add_all-requires-clause-entries
+add_all-requires-clause-entries c = c.loop-number.invariant.entries
+
+pub add_all-requires-clause-is_test : goal.add_all-requires-clause-is_test
+add_all-requires-clause-is_test c = c.loop-number.invariant.test
+
+pub returns-in_err-always-clause-grows : goal.returns-in_err-always-clause-grows
+returns-in_err-always-clause-grows c = c.constant.ensures.grows
+
+pub returns-clause-grows : goal.returns-clause-grows
+returns-clause-grows c = c.loop-number.invariant.grows
