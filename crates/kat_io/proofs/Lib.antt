@@ -1,3 +1,4 @@
 pub mod Sent
 pub mod Entries
 pub mod Counted
+pub mod Limits
