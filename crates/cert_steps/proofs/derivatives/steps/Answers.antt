@@ -75,3 +75,33 @@ loop-is_needed-preserved c =
                 (none_more marks (map (λ t. t.entries) list) w.new.result.entries now.others (λ m. w.new.ensures.empty)));
           })
     ]
+
+-- ---- what the call requires of the tables, and what is known at the ends
+
+pub step-requires-clause-accepting : goal.step-requires-clause-accepting
+step-requires-clause-accepting c = c.loop-is_needed.invariant.accepting
+
+pub step-requires-clause-count : goal.step-requires-clause-count
+step-requires-clause-count c = omega (arith, ap length c.deref.ensures.value, c.loop-is_needed.invariant.count, c.requires.marks)
+
+pub step-requires-clause-next : goal.step-requires-clause-next
+step-requires-clause-next c =
+    omega (arith, ap length c.deref.ensures.value, c.loop-is_needed.invariant.count, c.requires.marks, c.requires.count, grows_longer c.args.tables.now c.loop-is_needed.tables c.loop-is_needed.invariant.grows)
+
+pub returns-in_err-targets-clause-grows : goal.returns-in_err-targets-clause-grows
+returns-in_err-targets-clause-grows c = grows_trans c.args.tables.now c.loop-is_needed.tables c.step.new.tables c.loop-is_needed.invariant.grows c.step.ensures.grows
+
+pub returns-in_err-push-clause-grows : goal.returns-in_err-push-clause-grows
+returns-in_err-push-clause-grows c = grows_trans c.args.tables.now c.loop-is_needed.tables c.step.new.tables c.loop-is_needed.invariant.grows c.step.ensures.grows
+
+pub returns-in_err-push-2-clause-grows : goal.returns-in_err-push-2-clause-grows
+returns-in_err-push-2-clause-grows c = c.loop-is_needed.invariant.grows
+
+pub returns-clause-steps : goal.returns-clause-steps
+returns-clause-steps c = c.loop-is_needed.invariant.steps
+
+pub returns-clause-others : goal.returns-clause-others
+returns-clause-others c = c.loop-is_needed.invariant.others
+
+pub returns-clause-grows : goal.returns-clause-grows
+returns-clause-grows c = c.loop-is_needed.invariant.grows

@@ -17,3 +17,9 @@ returns-clause-grows t c =
       | in-Seq+in_ok-number_of-in-Seq+in_ok-number_of-in-Seq-2 w ↦ grows_trans old w.number_of-in-Seq.new.self new w.number_of-in-Seq.ensures.grows (grows_trans w.number_of-in-Seq.new.self w.number_of-in-Seq-2.new.self new w.number_of-in-Seq-2.ensures.grows (subst (λ s. TablesGrow s new) w.self-is c.term.ensures.grows))
       | in-Star+in_ok-number_of-in-Star w ↦ grows_trans old w.number_of-in-Star.new.self new w.number_of-in-Star.ensures.grows (subst (λ s. TablesGrow s new) w.self-is c.term.ensures.grows)
     ]
+
+pub returns-in_err-number_of-in-Sum-2-clause-grows : goal.returns-in_err-number_of-in-Sum-2-clause-grows
+returns-in_err-number_of-in-Sum-2-clause-grows t c = grows_trans c.args.self.now c.number_of.new.self c.number_of-in-Sum.new.self c.number_of.ensures.grows c.number_of-in-Sum.ensures.grows
+
+pub returns-in_err-number_of-in-Seq-2-clause-grows : goal.returns-in_err-number_of-in-Seq-2-clause-grows
+returns-in_err-number_of-in-Seq-2-clause-grows t c = grows_trans c.args.self.now c.number_of-in-Seq.new.self c.number_of-in-Seq-2.new.self c.number_of-in-Seq.ensures.grows c.number_of-in-Seq-2.ensures.grows

@@ -16,3 +16,9 @@ returns-clause-grows t c =
       | in-And+in_ok-number_of_test-in-And+in_ok-number_of_test-in-And-2 w ↦ grows_trans old w.number_of_test-in-And.new.self new w.number_of_test-in-And.ensures.grows (grows_trans w.number_of_test-in-And.new.self w.number_of_test-in-And-2.new.self new w.number_of_test-in-And-2.ensures.grows (subst (λ s. TablesGrow s new) w.self-is c.test.ensures.grows.grows))
       | in-Or+in_ok-number_of_test-in-Or+in_ok-number_of_test-in-Or-2 w ↦ grows_trans old w.number_of_test-in-Or.new.self new w.number_of_test-in-Or.ensures.grows (grows_trans w.number_of_test-in-Or.new.self w.number_of_test-in-Or-2.new.self new w.number_of_test-in-Or-2.ensures.grows (subst (λ s. TablesGrow s new) w.self-is c.test.ensures.grows.grows))
     ]
+
+pub returns-in_err-number_of_test-in-And-2-clause-grows : goal.returns-in_err-number_of_test-in-And-2-clause-grows
+returns-in_err-number_of_test-in-And-2-clause-grows t c = grows_trans c.args.self.now c.number_of_test-in-And.new.self c.number_of_test-in-And-2.new.self c.number_of_test-in-And.ensures.grows c.number_of_test-in-And-2.ensures.grows
+
+pub returns-in_err-number_of_test-in-Or-2-clause-grows : goal.returns-in_err-number_of_test-in-Or-2-clause-grows
+returns-in_err-number_of_test-in-Or-2-clause-grows t c = grows_trans c.args.self.now c.number_of_test-in-Or.new.self c.number_of_test-in-Or-2.new.self c.number_of_test-in-Or.ensures.grows c.number_of_test-in-Or-2.ensures.grows
