@@ -14,7 +14,7 @@ use Rattle.term_nodes.proofs.Parts.{IsOver-part, has_below}
 use Rattle.term_nodes.proofs.TermTrees.{tree_at-node}
 use Rattle.cert_steps.proofs.TargetSets.{test_within, entries_kept}
 use Rattle.cert_steps.proofs.StepLists.{read_map, accept_at, nothing_stands, still, sum_stands, star_stands, product_stands}
-use Rattle.cert_steps.proofs.GrowingTables.{grows_trans}
+use Rattle.cert_steps.proofs.GrowingTables.{grows_itself, grows_trans}
 use Rattle.cert_steps.proofs.derivatives.step.Goals as goal
 
 -- targets that stand for the steps of an action, if the action is given
@@ -133,3 +133,53 @@ returns-in-Star-clause-targets c =
 
 pub returns-in_ok-always-in-Act-clause-grows : goal.returns-in_ok-always-in-Act-clause-grows
 returns-in_ok-always-in-Act-clause-grows c = grows_trans c.args.tables.now c.constant.new.self c.empty_product-in-Act.new.tables c.constant.ensures.grows.grows c.empty_product-in-Act.ensures.grows
+
+-- ---- what calls and indices require, and how the tables grow
+
+pub bounds-accepting-term : goal.bounds-accepting-term
+bounds-accepting-term c = c.requires.count
+
+pub empty_product-requires : goal.empty_product-requires
+empty_product-requires c = (accept_at c.args.tables.now c.args.accepting.now (length c.args.earlier.now) c.requires.accepting c.requires.count).0
+
+pub empty_product-requires-in-Act : goal.empty_product-requires-in-Act
+empty_product-requires-in-Act c = c.in_ok-always-in-Act.ensures.values.0
+
+pub bounds-earlier-x : goal.bounds-earlier-x
+bounds-earlier-x c = (subst (IsOver (length c.args.tables.now.tests) (length c.args.earlier.now)) c.in-Seq.is c.term_node.ensures.parts).0
+
+pub bounds-earlier-y : goal.bounds-earlier-y
+bounds-earlier-y c = (subst (IsOver (length c.args.tables.now.tests) (length c.args.earlier.now)) c.in-Seq.is c.term_node.ensures.parts).1
+
+pub bounds-earlier-x-in-Star : goal.bounds-earlier-x-in-Star
+bounds-earlier-x-in-Star c = subst (IsOver (length c.args.tables.now.tests) (length c.args.earlier.now)) c.in-Star.is c.term_node.ensures.parts
+
+pub continued-requires-clause-tables : goal.continued-requires-clause-tables
+continued-requires-clause-tables c = c.term_node.ensures.tables
+
+pub continued-requires-in-Star-clause-tables : goal.continued-requires-in-Star-clause-tables
+continued-requires-in-Star-clause-tables c = c.term_node.ensures.tables
+
+pub add_all-requires-clause-entries : goal.add_all-requires-clause-entries
+add_all-requires-clause-entries c = c.in_ok-targets-in-Seq.ensures.targets.entries
+
+pub returns-in_default-clause-grows : goal.returns-in_default-clause-grows
+returns-in_default-clause-grows c = c.empty_product.ensures.grows
+
+pub returns-in_err-always-in-Act-clause-grows : goal.returns-in_err-always-in-Act-clause-grows
+returns-in_err-always-in-Act-clause-grows c = c.constant.ensures.grows.grows
+
+pub returns-in-Zero-clause-grows : goal.returns-in-Zero-clause-grows
+returns-in-Zero-clause-grows c = grows_itself c.args.tables.now c.term_node.ensures.tables
+
+pub returns-in-Act-2-clause-grows : goal.returns-in-Act-2-clause-grows
+returns-in-Act-2-clause-grows c = grows_itself c.args.tables.now c.term_node.ensures.tables
+
+pub returns-in-Sum-clause-grows : goal.returns-in-Sum-clause-grows
+returns-in-Sum-clause-grows c = c.of_set.ensures.grows.grows
+
+pub returns-in_err-targets-in-Seq-clause-grows : goal.returns-in_err-targets-in-Seq-clause-grows
+returns-in_err-targets-in-Seq-clause-grows c = c.continued.ensures.grows
+
+pub returns-in-Star-clause-grows : goal.returns-in-Star-clause-grows
+returns-in-Star-clause-grows c = c.continued-in-Star.ensures.grows
