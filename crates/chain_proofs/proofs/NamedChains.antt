@@ -17,7 +17,8 @@ use Rattle.text_scopes.specs.Building.{trees}
 use Rattle.text_scopes.specs.Measuring.{extents}
 use Rattle.while_lang.specs.Blocks.{enter}
 use Rattle.problem_file.specs.Items.{number_at}
-use Rattle.problem_file.proofs.NamedBlocks.{wanted_named, enter_named}
+use Rattle.while_lang.proofs.BlockFaults.{enter_named}
+use Rattle.problem_file.proofs.NamedBlocks.{wanted_named}
 use Rattle.problem_file.proofs.NamedItems.{number_at_named}
 use Rattle.problem_file.proofs.NamedTexts.{extents_named, trees_named, scanning_named}
 use Rattle.chain_rules.specs.declared.chain.Axiom.{Axiom}

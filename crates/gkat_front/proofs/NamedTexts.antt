@@ -30,7 +30,8 @@ use Rattle.gkat_front.specs.Items.{sides_by, equal_by, item_by, items_by}
 use Rattle.gkat_front.specs.Files.{GkatState, start, check_new, file_with, file_of}
 use Rattle.gkat_front.specs.Making.{scanning, scan_file, making, parse_items, tested}
 use Rattle.problem_file.proofs.Lists.{items_named as all_named}
-use Rattle.problem_file.proofs.NamedBlocks.{wanted_named, enter_named}
+use Rattle.while_lang.proofs.BlockFaults.{enter_named}
+use Rattle.problem_file.proofs.NamedBlocks.{wanted_named}
 use Rattle.problem_file.proofs.NameWalks.{declaration_named, declaration_short}
 use Rattle.problem_file.proofs.NamedTexts.{extents_named, trees_named, scanning_named as scanning_phrases_named}
 use Rattle.gkat_front.proofs.GkatSteps.{IsShort, guard_short, factor_short, product_short, within_short, gkat_read_short}
