@@ -17,6 +17,24 @@ struct RuleRow {
     parts: &'static [Part],
 }
 
+/// An expression in parentheses, after the word of a conversion.
+const IN_PARENTHESES: &[Part] = &[
+    Part::Opening(OPEN_ROUND),
+    Part::Phrase(EXPRESSION),
+    Part::Token(CLOSE_ROUND),
+    Part::Closing,
+];
+
+/// Two expressions in parentheses, after the word of a signed comparison.
+const TWO_IN_PARENTHESES: &[Part] = &[
+    Part::Opening(OPEN_ROUND),
+    Part::Phrase(EXPRESSION),
+    Part::Token(COMMA),
+    Part::Phrase(EXPRESSION),
+    Part::Token(CLOSE_ROUND),
+    Part::Closing,
+];
+
 /// The rules of each phrase, in the order in which they are tried.
 const ROWS: &[RuleRow] = &[
     RuleRow {
@@ -330,50 +348,22 @@ const ROWS: &[RuleRow] = &[
     RuleRow {
         phrase: LITERAL,
         start: Start::Take(SLT),
-        parts: &[
-            Part::Opening(OPEN_ROUND),
-            Part::Phrase(EXPRESSION),
-            Part::Token(COMMA),
-            Part::Phrase(EXPRESSION),
-            Part::Token(CLOSE_ROUND),
-            Part::Closing,
-        ],
+        parts: TWO_IN_PARENTHESES,
     },
     RuleRow {
         phrase: LITERAL,
         start: Start::Take(SLE),
-        parts: &[
-            Part::Opening(OPEN_ROUND),
-            Part::Phrase(EXPRESSION),
-            Part::Token(COMMA),
-            Part::Phrase(EXPRESSION),
-            Part::Token(CLOSE_ROUND),
-            Part::Closing,
-        ],
+        parts: TWO_IN_PARENTHESES,
     },
     RuleRow {
         phrase: LITERAL,
         start: Start::Take(SGT),
-        parts: &[
-            Part::Opening(OPEN_ROUND),
-            Part::Phrase(EXPRESSION),
-            Part::Token(COMMA),
-            Part::Phrase(EXPRESSION),
-            Part::Token(CLOSE_ROUND),
-            Part::Closing,
-        ],
+        parts: TWO_IN_PARENTHESES,
     },
     RuleRow {
         phrase: LITERAL,
         start: Start::Take(SGE),
-        parts: &[
-            Part::Opening(OPEN_ROUND),
-            Part::Phrase(EXPRESSION),
-            Part::Token(COMMA),
-            Part::Phrase(EXPRESSION),
-            Part::Token(CLOSE_ROUND),
-            Part::Closing,
-        ],
+        parts: TWO_IN_PARENTHESES,
     },
     RuleRow {
         phrase: LITERAL,
@@ -507,82 +497,42 @@ const ROWS: &[RuleRow] = &[
     RuleRow {
         phrase: FACTOR,
         start: Start::Take(U8),
-        parts: &[
-            Part::Opening(OPEN_ROUND),
-            Part::Phrase(EXPRESSION),
-            Part::Token(CLOSE_ROUND),
-            Part::Closing,
-        ],
+        parts: IN_PARENTHESES,
     },
     RuleRow {
         phrase: FACTOR,
         start: Start::Take(U16),
-        parts: &[
-            Part::Opening(OPEN_ROUND),
-            Part::Phrase(EXPRESSION),
-            Part::Token(CLOSE_ROUND),
-            Part::Closing,
-        ],
+        parts: IN_PARENTHESES,
     },
     RuleRow {
         phrase: FACTOR,
         start: Start::Take(U32),
-        parts: &[
-            Part::Opening(OPEN_ROUND),
-            Part::Phrase(EXPRESSION),
-            Part::Token(CLOSE_ROUND),
-            Part::Closing,
-        ],
+        parts: IN_PARENTHESES,
     },
     RuleRow {
         phrase: FACTOR,
         start: Start::Take(U64),
-        parts: &[
-            Part::Opening(OPEN_ROUND),
-            Part::Phrase(EXPRESSION),
-            Part::Token(CLOSE_ROUND),
-            Part::Closing,
-        ],
+        parts: IN_PARENTHESES,
     },
     RuleRow {
         phrase: FACTOR,
         start: Start::Take(S8),
-        parts: &[
-            Part::Opening(OPEN_ROUND),
-            Part::Phrase(EXPRESSION),
-            Part::Token(CLOSE_ROUND),
-            Part::Closing,
-        ],
+        parts: IN_PARENTHESES,
     },
     RuleRow {
         phrase: FACTOR,
         start: Start::Take(S16),
-        parts: &[
-            Part::Opening(OPEN_ROUND),
-            Part::Phrase(EXPRESSION),
-            Part::Token(CLOSE_ROUND),
-            Part::Closing,
-        ],
+        parts: IN_PARENTHESES,
     },
     RuleRow {
         phrase: FACTOR,
         start: Start::Take(S32),
-        parts: &[
-            Part::Opening(OPEN_ROUND),
-            Part::Phrase(EXPRESSION),
-            Part::Token(CLOSE_ROUND),
-            Part::Closing,
-        ],
+        parts: IN_PARENTHESES,
     },
     RuleRow {
         phrase: FACTOR,
         start: Start::Take(S64),
-        parts: &[
-            Part::Opening(OPEN_ROUND),
-            Part::Phrase(EXPRESSION),
-            Part::Token(CLOSE_ROUND),
-            Part::Closing,
-        ],
+        parts: IN_PARENTHESES,
     },
     RuleRow {
         phrase: FACTOR,

@@ -1,11 +1,18 @@
 //! Appends to lists, which are from the last member to the first.
-ghost use Rattle.std.specs.Prelude.{◌≡◌, ◌∷◌, OnOk};
+ghost use Rattle.std.specs.Prelude.{◌≡◌, ◌∷◌, ◌++◌, [], OnOk};
 ghost use Rattle.text_tokens.specs.TokenParts.{parts_of_token};
 ghost use Rattle.flow_syntax.specs.SyntaxViews.{tokens_syntax, node_syntax, expr_syntax, exprs_syntax, cond_node_syntax, cond_syntax, block_syntax, blocks_syntax};
 
 use crate::written::{Block, CondNode, Node};
 use kat_model::NoMemory;
 use text_tokens::Token;
+
+/// Appends to any list. It is proved once for members of all types.
+pub(crate) fn append<T: Drop>(list: &mut Vec<T>, member: T) -> Result<(), NoMemory>
+    ensures { OnOk result (list.new.items ≡ list.old.items ++ member ∷ []) }
+{
+    Ok(list.push(member)?)
+}
 
 #[tactic(auto, using(crate::proofs::Stacked::pushes))]
 pub(crate) fn append_token<'a>(
@@ -14,14 +21,14 @@ pub(crate) fn append_token<'a>(
 ) -> Result<(), NoMemory>
     ensures { OnOk result (tokens_syntax tokens.new.items ≡ parts_of_token token.entry ∷ tokens_syntax tokens.old.items) }
 {
-    Ok(tokens.push(token)?)
+    append(tokens, token)
 }
 
 #[tactic(auto, using(crate::proofs::Stacked::pushes))]
 pub(crate) fn append_node<'a>(nodes: &mut Vec<Node<'a>>, node: Node<'a>) -> Result<(), NoMemory>
     ensures { OnOk result (expr_syntax nodes.new.items ≡ node_syntax node.entry ∷ expr_syntax nodes.old.items) }
 {
-    Ok(nodes.push(node)?)
+    append(nodes, node)
 }
 
 #[tactic(auto, using(crate::proofs::Stacked::pushes))]
@@ -31,7 +38,7 @@ pub(crate) fn append_expr<'a>(
 ) -> Result<(), NoMemory>
     ensures { OnOk result (exprs_syntax exprs.new.items ≡ expr_syntax expr.entry.items ∷ exprs_syntax exprs.old.items) }
 {
-    Ok(exprs.push(expr)?)
+    append(exprs, expr)
 }
 
 #[tactic(auto, using(crate::proofs::Stacked::pushes))]
@@ -41,7 +48,7 @@ pub(crate) fn append_cond_node<'a>(
 ) -> Result<(), NoMemory>
     ensures { OnOk result (cond_syntax nodes.new.items ≡ cond_node_syntax node.entry ∷ cond_syntax nodes.old.items) }
 {
-    Ok(nodes.push(node)?)
+    append(nodes, node)
 }
 
 #[tactic(auto, using(crate::proofs::Stacked::pushes))]
@@ -51,5 +58,5 @@ pub(crate) fn append_block<'a>(
 ) -> Result<(), NoMemory>
     ensures { OnOk result (blocks_syntax blocks.new.items ≡ block_syntax block.entry ∷ blocks_syntax blocks.old.items) }
 {
-    Ok(blocks.push(block)?)
+    append(blocks, block)
 }

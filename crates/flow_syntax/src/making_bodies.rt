@@ -5,9 +5,10 @@ ghost use Rattle.flow_syntax.specs.Syntax.{a_block};
 ghost use Rattle.flow_syntax.specs.SyntaxViews.{stack_syntax, statement_syntax, jump_syntax, block_syntax};
 
 use crate::action::BodyAction;
-use crate::lists::{append_block, append_expr, append_token};
+use crate::lists::{append, append_block};
 use crate::stack::{
-    push, skip, take_blocks, take_body, take_cond, take_expr, take_exprs, take_token, take_tokens,
+    push, skip, take_blocks, take_body, take_cond, take_expr_list, take_exprs, take_token,
+    take_token_list,
 };
 use crate::value::Value;
 use crate::written::{Block, Jump, Statement};
@@ -24,7 +25,7 @@ fn add_statement<'a>(
     ensures { OnOk result (stack_syntax stack.new.items ≡ body (statement_syntax statement.entry ∷ statements_in (first (stack_syntax stack.old.items))) (jump_in (first (stack_syntax stack.old.items))) ∷ rest (stack_syntax stack.old.items)) }
 {
     let (mut statements, jump) = take_body(alloc, stack);
-    statements.push(statement)?;
+    append(&mut statements, statement)?;
     push(stack, Value::Body(statements, jump))
 }
 
@@ -32,13 +33,9 @@ fn add_statement<'a>(
 fn assigning(alloc: Global, stack: &mut Vec<Value>) -> Result<(), NoMemory>
     ensures { OnOk result (stack_syntax stack.new.items ≡ bodies_done BodyAction.Assigning (stack_syntax stack.old.items)) }
 {
-    let target = take_token(stack);
-    let mut targets = take_tokens(alloc, stack);
-    append_token(&mut targets, target)?;
+    let targets = take_token_list(alloc, stack)?;
     let becomes = take_token(stack);
-    let value = take_expr(alloc, stack);
-    let mut values = take_exprs(alloc, stack);
-    append_expr(&mut values, value)?;
+    let values = take_expr_list(alloc, stack)?;
     skip(stack);
     add_statement(alloc, stack, Statement::Assign(targets, becomes, values))
 }
@@ -100,13 +97,6 @@ fn aborting(alloc: Global, stack: &mut Vec<Value>) -> Result<(), NoMemory>
     skip(stack);
     skip(stack);
     push_jump(alloc, stack, Jump::Abort)
-}
-
-#[tactic(auto, using(crate::proofs::Stacked::pushes))]
-fn no_blocks(alloc: Global, stack: &mut Vec<Value>) -> Result<(), NoMemory>
-    ensures { OnOk result (stack_syntax stack.new.items ≡ bodies_done BodyAction.NoBlocks (stack_syntax stack.old.items)) }
-{
-    push(stack, Value::Blocks(Vec::new(alloc)))
 }
 
 // Takes the name and the body of a block off the stack.
@@ -194,6 +184,7 @@ fn cut_block(alloc: Global, stack: &mut Vec<Value>) -> Result<(), NoMemory>
 }
 
 /// Replaces the values of the parts by that of the phrase. Fails only when out of memory.
+#[tactic(auto, using(crate::proofs::Stacked::pushes))]
 pub(crate) fn make_bodies(
     alloc: Global,
     action: BodyAction,
@@ -210,7 +201,7 @@ pub(crate) fn make_bodies(
         BodyAction::Aborting => aborting(alloc, stack),
         BodyAction::CutBlock => cut_block(alloc, stack),
         BodyAction::PlainBlock => plain_block(alloc, stack),
-        BodyAction::NoBlocks => no_blocks(alloc, stack),
+        BodyAction::NoBlocks => push(stack, Value::Blocks(Vec::new(alloc))),
         BodyAction::NextCutBlock => next_cut_block(alloc, stack),
         BodyAction::NextPlainBlock => next_plain_block(alloc, stack),
     }

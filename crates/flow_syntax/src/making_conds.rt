@@ -24,13 +24,6 @@ fn push_node<'a>(
     push(stack, Value::Cond(nodes))
 }
 
-#[tactic(auto, using(crate::proofs::Stacked::pushes))]
-fn no_conds(alloc: Global, stack: &mut Vec<Value>) -> Result<(), NoMemory>
-    ensures { OnOk result (stack_syntax stack.new.items ≡ conds_done CondAction.NoConds (stack_syntax stack.old.items)) }
-{
-    push(stack, Value::Cond(Vec::new(alloc)))
-}
-
 // Joins a condition and those after it, if there are any, by a node.
 #[tactic(auto, using(crate::proofs::Stacked::pushes, crate::proofs::Reversed::cond_append, crate::proofs::Reversed::linked_some))]
 fn link<'a>(
@@ -64,25 +57,11 @@ fn link_all<'a>(
 }
 
 #[tactic(auto, using(crate::proofs::Stacked::pushes))]
-fn any(alloc: Global, stack: &mut Vec<Value>) -> Result<(), NoMemory>
-    ensures { OnOk result (stack_syntax stack.new.items ≡ conds_done CondAction.Any (stack_syntax stack.old.items)) }
-{
-    link_all(alloc, stack, CondNode::Either)
-}
-
-#[tactic(auto, using(crate::proofs::Stacked::pushes))]
-fn all(alloc: Global, stack: &mut Vec<Value>) -> Result<(), NoMemory>
-    ensures { OnOk result (stack_syntax stack.new.items ≡ conds_done CondAction.All (stack_syntax stack.old.items)) }
-{
-    link_all(alloc, stack, CondNode::Both)
-}
-
-#[tactic(auto, using(crate::proofs::Stacked::pushes))]
 fn next_any(alloc: Global, stack: &mut Vec<Value>) -> Result<(), NoMemory>
     ensures { OnOk result (stack_syntax stack.new.items ≡ conds_done CondAction.NextAny (stack_syntax stack.old.items)) }
 {
     skip(stack);
-    any(alloc, stack)
+    link_all(alloc, stack, CondNode::Either)
 }
 
 #[tactic(auto, using(crate::proofs::Stacked::pushes))]
@@ -90,7 +69,7 @@ fn next_all(alloc: Global, stack: &mut Vec<Value>) -> Result<(), NoMemory>
     ensures { OnOk result (stack_syntax stack.new.items ≡ conds_done CondAction.NextAll (stack_syntax stack.old.items)) }
 {
     skip(stack);
-    all(alloc, stack)
+    link_all(alloc, stack, CondNode::Both)
 }
 
 #[tactic(auto, using(crate::proofs::Stacked::pushes))]
@@ -153,6 +132,7 @@ fn compare_signed(alloc: Global, stack: &mut Vec<Value>) -> Result<(), NoMemory>
 }
 
 /// Replaces the values of the parts by that of the phrase. Fails only when out of memory.
+#[tactic(auto, using(crate::proofs::Stacked::pushes))]
 pub(crate) fn make_conds(
     alloc: Global,
     action: CondAction,
@@ -161,11 +141,11 @@ pub(crate) fn make_conds(
     ensures { OnOk result (stack_syntax stack.new.items ≡ conds_done action (stack_syntax stack.old.items)) }
 {
     match action {
-        CondAction::NoConds => no_conds(alloc, stack),
+        CondAction::NoConds => push(stack, Value::Cond(Vec::new(alloc))),
         CondAction::NextAny => next_any(alloc, stack),
         CondAction::NextAll => next_all(alloc, stack),
-        CondAction::Any => any(alloc, stack),
-        CondAction::All => all(alloc, stack),
+        CondAction::Any => link_all(alloc, stack, CondNode::Either),
+        CondAction::All => link_all(alloc, stack, CondNode::Both),
         CondAction::TrueCond => true_cond(alloc, stack),
         CondAction::FalseCond => false_cond(alloc, stack),
         CondAction::Negate => negate(alloc, stack),

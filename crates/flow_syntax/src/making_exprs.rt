@@ -6,9 +6,9 @@ ghost use Rattle.flow_syntax.specs.Actions.{exprs_done, call_node, call_of, join
 ghost use Rattle.flow_syntax.specs.SyntaxViews.{stack_syntax, tokens_syntax, node_syntax, expr_syntax, exprs_syntax, first_syntax, value_syntax};
 
 use crate::action::ExprAction;
-use crate::lists::{append_expr, append_node, append_token};
+use crate::lists::{append_node, append_token};
 use crate::stack::{
-    is_no_call, pop, push, skip, take_expr, take_exprs, take_operations, take_token,
+    is_no_call, pop, push, skip, take_expr, take_expr_list, take_exprs, take_operations, take_token,
 };
 use crate::value::Value;
 use crate::written::{FirstName, Node};
@@ -28,9 +28,7 @@ fn next_expr(alloc: Global, stack: &mut Vec<Value>) -> Result<(), NoMemory>
     ensures { OnOk result (stack_syntax stack.new.items ≡ exprs_done ExprAction.NextExpr (stack_syntax stack.old.items)) }
 {
     skip(stack);
-    let expr = take_expr(alloc, stack);
-    let mut exprs = take_exprs(alloc, stack);
-    append_expr(&mut exprs, expr)?;
+    let exprs = take_expr_list(alloc, stack)?;
     push(stack, Value::Exprs(exprs))
 }
 
@@ -46,18 +44,9 @@ fn ended_at_once(alloc: Global, stack: &mut Vec<Value>) -> Result<(), NoMemory>
 fn ended_list(alloc: Global, stack: &mut Vec<Value>) -> Result<(), NoMemory>
     ensures { OnOk result (stack_syntax stack.new.items ≡ exprs_done ExprAction.EndedList (stack_syntax stack.old.items)) }
 {
-    let expr = take_expr(alloc, stack);
-    let mut exprs = take_exprs(alloc, stack);
+    let exprs = take_expr_list(alloc, stack)?;
     skip(stack);
-    append_expr(&mut exprs, expr)?;
     push(stack, Value::Exprs(exprs))
-}
-
-#[tactic(auto, using(crate::proofs::Stacked::pushes))]
-fn no_operations(alloc: Global, stack: &mut Vec<Value>) -> Result<(), NoMemory>
-    ensures { OnOk result (stack_syntax stack.new.items ≡ exprs_done ExprAction.NoOperations (stack_syntax stack.old.items)) }
-{
-    push(stack, Value::Operations(Vec::new(alloc), Vec::new(alloc)))
 }
 
 // Appends the nodes of an expression to those that follow it.
@@ -177,13 +166,6 @@ fn name_or_call(alloc: Global, stack: &mut Vec<Value>) -> Result<(), NoMemory>
 }
 
 #[tactic(auto, using(crate::proofs::Stacked::pushes))]
-fn call_nothing(stack: &mut Vec<Value>) -> Result<(), NoMemory>
-    ensures { OnOk result (stack_syntax stack.new.items ≡ exprs_done ExprAction.CallNothing (stack_syntax stack.old.items)) }
-{
-    push(stack, Value::NoCall)
-}
-
-#[tactic(auto, using(crate::proofs::Stacked::pushes))]
 fn call_list(alloc: Global, stack: &mut Vec<Value>) -> Result<(), NoMemory>
     ensures { OnOk result (stack_syntax stack.new.items ≡ exprs_done ExprAction.CallList (stack_syntax stack.old.items)) }
 {
@@ -260,6 +242,7 @@ fn enclosed_expr(alloc: Global, stack: &mut Vec<Value>) -> Result<(), NoMemory>
 }
 
 /// Replaces the values of the parts by that of the phrase. Fails only when out of memory.
+#[tactic(auto, using(crate::proofs::Stacked::pushes))]
 pub(crate) fn make_exprs(
     alloc: Global,
     action: ExprAction,
@@ -272,12 +255,14 @@ pub(crate) fn make_exprs(
         ExprAction::NextExpr => next_expr(alloc, stack),
         ExprAction::EndedAtOnce => ended_at_once(alloc, stack),
         ExprAction::EndedList => ended_list(alloc, stack),
-        ExprAction::NoOperations => no_operations(alloc, stack),
+        ExprAction::NoOperations => {
+            push(stack, Value::Operations(Vec::new(alloc), Vec::new(alloc)))
+        }
         ExprAction::NextOperation => next_operation(alloc, stack),
         ExprAction::Join => join(alloc, stack),
         ExprAction::Numeral => numeral(alloc, stack),
         ExprAction::NameOrCall => name_or_call(alloc, stack),
-        ExprAction::CallNothing => call_nothing(stack),
+        ExprAction::CallNothing => push(stack, Value::NoCall),
         ExprAction::CallList => call_list(alloc, stack),
         ExprAction::Convert => convert(alloc, stack),
         ExprAction::EnclosedExpr => enclosed_expr(alloc, stack),

@@ -4,18 +4,12 @@ ghost use Rattle.flow_syntax.specs.Actions.{items, first, rest, items_in, items_
 ghost use Rattle.flow_syntax.specs.SyntaxViews.{stack_syntax, item_syntax};
 
 use crate::action::ItemAction;
+use crate::lists::append;
 use crate::stack::{push, skip, take_blocks, take_items, take_token, take_tokens};
 use crate::value::Value;
 use crate::written::Item;
 use kat_model::NoMemory;
 use std::alloc::Global;
-
-#[tactic(auto, using(crate::proofs::Stacked::pushes))]
-fn no_items(alloc: Global, stack: &mut Vec<Value>) -> Result<(), NoMemory>
-    ensures { OnOk result (stack_syntax stack.new.items ≡ items_done ItemAction.NoItems (stack_syntax stack.old.items)) }
-{
-    push(stack, Value::Items(Vec::new(alloc)))
-}
 
 // Puts an item before those on top of the stack.
 #[tactic(auto, using(crate::proofs::Stacked::pushes))]
@@ -23,7 +17,7 @@ fn add_item<'a>(alloc: Global, stack: &mut Vec<Value<'a>>, item: Item<'a>) -> Re
     ensures { OnOk result (stack_syntax stack.new.items ≡ items (item_syntax item.entry ∷ items_in (first (stack_syntax stack.old.items))) ∷ rest (stack_syntax stack.old.items)) }
 {
     let mut list = take_items(alloc, stack);
-    list.push(item)?;
+    append(&mut list, item)?;
     push(stack, Value::Items(list))
 }
 
@@ -111,6 +105,7 @@ fn equal_item(alloc: Global, stack: &mut Vec<Value>) -> Result<(), NoMemory>
 }
 
 /// Replaces the values of the parts by that of the phrase. Fails only when out of memory.
+#[tactic(auto, using(crate::proofs::Stacked::pushes))]
 pub(crate) fn make_items(
     alloc: Global,
     action: ItemAction,
@@ -119,7 +114,7 @@ pub(crate) fn make_items(
     ensures { OnOk result (stack_syntax stack.new.items ≡ items_done action (stack_syntax stack.old.items)) }
 {
     match action {
-        ItemAction::NoItems => no_items(alloc, stack),
+        ItemAction::NoItems => push(stack, Value::Items(Vec::new(alloc))),
         ItemAction::SortsItem => sorts_item(alloc, stack),
         ItemAction::FunctionItem => function_item(alloc, stack),
         ItemAction::VariablesItem => variables_item(alloc, stack),

@@ -4,8 +4,7 @@ ghost use Rattle.flow_syntax.specs.Actions.{names_done};
 ghost use Rattle.flow_syntax.specs.SyntaxViews.{stack_syntax};
 
 use crate::action::NameAction;
-use crate::lists::append_token;
-use crate::stack::{push, skip, take_token, take_tokens};
+use crate::stack::{push, skip, take_token_list};
 use crate::value::Value;
 use kat_model::NoMemory;
 use std::alloc::Global;
@@ -21,9 +20,7 @@ fn no_tokens(alloc: Global, stack: &mut Vec<Value>) -> Result<(), NoMemory>
 fn one_token(alloc: Global, stack: &mut Vec<Value>) -> Result<(), NoMemory>
     ensures { OnOk result (stack_syntax stack.new.items ≡ names_done NameAction.OneToken (stack_syntax stack.old.items)) }
 {
-    let token = take_token(stack);
-    let mut tokens = take_tokens(alloc, stack);
-    append_token(&mut tokens, token)?;
+    let tokens = take_token_list(alloc, stack)?;
     push(stack, Value::Tokens(tokens))
 }
 
@@ -47,10 +44,8 @@ fn no_parameters(alloc: Global, stack: &mut Vec<Value>) -> Result<(), NoMemory>
 fn some_parameters(alloc: Global, stack: &mut Vec<Value>) -> Result<(), NoMemory>
     ensures { OnOk result (stack_syntax stack.new.items ≡ names_done NameAction.SomeParameters (stack_syntax stack.old.items)) }
 {
-    let token = take_token(stack);
-    let mut tokens = take_tokens(alloc, stack);
+    let tokens = take_token_list(alloc, stack)?;
     skip(stack);
-    append_token(&mut tokens, token)?;
     push(stack, Value::Tokens(tokens))
 }
 

@@ -1,10 +1,11 @@
 //! The stack of values, whose last is the value of the first part. Each function takes a value off it, or one that is
 //! empty if the last value is of another kind.
-ghost use Rattle.std.specs.Prelude.{◌≡◌, ◌∷◌, map, reverse, OnOk};
+ghost use Rattle.std.specs.Prelude.{◌≡◌, ◌∷◌, IfOk, OnOk};
 ghost use Rattle.text_tokens.specs.TokenParts.{parts_of_token};
-ghost use Rattle.flow_syntax.specs.Actions.{first, rest, is_no_call, token_in, tokens_in, expr_in, exprs_in, operators_in, operands_in, cond_in, statements_in, jump_in, blocks_in, items_in};
+ghost use Rattle.flow_syntax.specs.Actions.{first, second, rest, past_two, is_no_call, token_in, tokens_in, expr_in, exprs_in, operators_in, operands_in, cond_in, statements_in, jump_in, blocks_in, items_in};
 ghost use Rattle.flow_syntax.specs.SyntaxViews.{tokens_syntax, expr_syntax, exprs_syntax, cond_syntax, statements_syntax, jump_syntax, blocks_syntax, items_syntax, value_syntax, stack_syntax};
 
+use crate::lists::{append, append_expr, append_token};
 use crate::value::Value;
 use crate::written::{Block, CondNode, Item, Jump, Node, Statement};
 use kat_model::NoMemory;
@@ -15,7 +16,7 @@ use text_tokens::Token;
 pub(crate) fn push<'a>(stack: &mut Vec<Value<'a>>, value: Value<'a>) -> Result<(), NoMemory>
     ensures { OnOk result (stack_syntax stack.new.items ≡ value_syntax value.entry ∷ stack_syntax stack.old.items) }
 {
-    Ok(stack.push(value)?)
+    append(stack, value)
 }
 
 /// Takes a value off the stack, or `NoCall` if it is empty.
@@ -77,6 +78,36 @@ pub(crate) fn take_exprs<'a>(alloc: Global, stack: &mut Vec<Value<'a>>) -> Vec<V
 {
     let value = pop(stack);
     value.into_exprs(alloc)
+}
+
+/// Takes a token and the tokens after it off the stack.
+#[tactic(auto, using(crate::proofs::Stacked::pushes))]
+pub(crate) fn take_token_list<'a>(
+    alloc: Global,
+    stack: &mut Vec<Value<'a>>,
+) -> Result<Vec<Token<'a>>, NoMemory>
+    ensures value { IfOk result (λ list. tokens_syntax list.items ≡ token_in (first (stack_syntax stack.old.items)) ∷ tokens_in (second (stack_syntax stack.old.items))) }
+    ensures rest { stack_syntax stack.new.items ≡ past_two (stack_syntax stack.old.items) }
+{
+    let token = take_token(stack);
+    let mut list = take_tokens(alloc, stack);
+    append_token(&mut list, token)?;
+    Ok(list)
+}
+
+/// Takes an expression and the expressions after it off the stack.
+#[tactic(auto, using(crate::proofs::Stacked::pushes))]
+pub(crate) fn take_expr_list<'a>(
+    alloc: Global,
+    stack: &mut Vec<Value<'a>>,
+) -> Result<Vec<Vec<Node<'a>>>, NoMemory>
+    ensures value { IfOk result (λ list. exprs_syntax list.items ≡ expr_in (first (stack_syntax stack.old.items)) ∷ exprs_in (second (stack_syntax stack.old.items))) }
+    ensures rest { stack_syntax stack.new.items ≡ past_two (stack_syntax stack.old.items) }
+{
+    let expr = take_expr(alloc, stack);
+    let mut list = take_exprs(alloc, stack);
+    append_expr(&mut list, expr)?;
+    Ok(list)
 }
 
 pub(crate) fn take_cond<'a>(alloc: Global, stack: &mut Vec<Value<'a>>) -> Vec<CondNode<'a>>
