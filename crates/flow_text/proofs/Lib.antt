@@ -1,6 +1,7 @@
 pub mod NameTables
 pub mod ScopeLists
 pub mod LastTaken
+pub mod MappedLists
 pub mod Declared
 pub mod WantedStacks
 pub mod ResolvedSteps

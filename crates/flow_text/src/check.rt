@@ -9,6 +9,7 @@ ghost use Rattle.flow_syntax.specs.Syntax as spelled;
 ghost use Rattle.flow_text.specs.ScopeViews.{sight_parts};
 ghost use Rattle.flow_syntax.specs.SyntaxViews.{tokens_syntax, exprs_syntax, cond_syntax, statement_syntax, statements_syntax};
 
+use crate::lists::append;
 use crate::meaning::Meaning;
 use crate::resolve_cond::resolve_cond;
 use crate::resolve_expr::resolve_expr;
@@ -73,7 +74,7 @@ fn targets(alloc: Global, sight: &Sight, names: &[Token]) -> Result<Vec<(usize, 
     let mut rest = names;
     'names: while let Some((name, _)) = rest.split_last() {
         let target = next_target(sight, &targets, name)?;
-        targets.push(target)?;
+        append(&mut targets, target)?;
         rest = &rest[..rest.len() - 1];
     }
     Ok(targets)
@@ -96,7 +97,7 @@ pub(crate) fn resolve_all(
             return Ok(values);
         };
         let value = resolve_expr(alloc, sight, *sort, expr)?;
-        values.push(value)?;
+        append(&mut values, value)?;
         rest = &rest[..rest.len() - 1];
     }
     Ok(values)
@@ -107,7 +108,7 @@ fn variables_of(alloc: Global, targets: &[(usize, Sort)]) -> Result<Vec<usize>, 
 {
     let mut variables = Vec::new(alloc);
     for target in targets {
-        variables.push(target.0)?;
+        append(&mut variables, target.0)?;
     }
     Ok(variables)
 }
@@ -117,7 +118,7 @@ fn sorts_of(alloc: Global, targets: &[(usize, Sort)]) -> Result<Vec<Sort>, NoMem
 {
     let mut sorts = Vec::new(alloc);
     for target in targets {
-        sorts.push(target.1)?;
+        append(&mut sorts, target.1)?;
     }
     Ok(sorts)
 }
@@ -179,7 +180,7 @@ pub(crate) fn check_statements(
     let mut rest = statements;
     'statements: while let Some((statement, _)) = rest.split_last() {
         let statement = check_statement(alloc, sight, statement)?;
-        checked.push(statement)?;
+        append(&mut checked, statement)?;
         rest = &rest[..rest.len() - 1];
     }
     Ok(checked)

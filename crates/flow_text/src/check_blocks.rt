@@ -12,6 +12,7 @@ ghost use Rattle.flow_syntax.specs.SyntaxViews.{exprs_syntax, cond_syntax, jump_
 
 use crate::check::{check_statements, resolve_all};
 use crate::limits::MAX_BLOCKS;
+use crate::lists::append;
 use crate::resolve_cond::resolve_cond;
 use crate::sight::Sight;
 use flow_model::{Jump as CheckedJump, Sort};
@@ -188,7 +189,7 @@ fn check_blocks(
     let mut rest = blocks;
     'each: while let Some((block, _)) = rest.split_last() {
         let block = next_block(alloc, sight, results, names, checked.len(), block)?;
-        checked.push(block)?;
+        append(&mut checked, block)?;
         rest = &rest[..rest.len() - 1];
     }
     Ok(checked)

@@ -4,6 +4,7 @@ ghost use Rattle.text_tokens.specs.TokenParts.{bytes_of};
 ghost use Rattle.flow_syntax.specs.SyntaxViews.{tokens_syntax, item_syntax, items_syntax};
 ghost use Rattle.flow_text.specs.DeclaredNames.{variables_in, functions_in, variable_names, function_names};
 
+use crate::lists::append;
 use flow_syntax::Item;
 use kat_model::NoMemory;
 use std::alloc::Global;
@@ -21,8 +22,7 @@ fn push_name(alloc: Global, names: &mut Vec<String>, token: &Token) -> Result<()
     ensures { OnOk result (map string_bytes names.new.items ≡ map string_bytes names.old.items ++ token.now.text.now ∷ []) }
 {
     let name = String::from_str(alloc, token.text)?;
-    names.push(name)?;
-    Ok(())
+    append(names, name)
 }
 
 // Adds the names of tokens, which are from the last to the first.

@@ -11,6 +11,7 @@ ghost use Rattle.flow_syntax.specs.SyntaxViews.{tokens_syntax, blocks_syntax, it
 
 use crate::check_blocks::check_graph;
 use crate::limits::MAX_PARAMETERS;
+use crate::lists::append;
 use crate::meaning::Meaning;
 use crate::scope::Scope;
 use crate::sight::{sight_of_all, width_named};
@@ -96,7 +97,7 @@ fn parameter_sorts(alloc: Global, scope: &Scope, tokens: &[Token]) -> Result<Vec
     let mut rest = tokens;
     'tokens: while let Some((token, _)) = rest.split_last() {
         let sort = next_parameter(scope, token, sorts.len())?;
-        sorts.push(sort)?;
+        append(&mut sorts, sort)?;
         rest = &rest[..rest.len() - 1];
     }
     Ok(sorts)
@@ -197,7 +198,7 @@ impl<'a> Known<'a> {
             blocks,
         };
         self.scope.declare_graph(name, self.graphs.len())?;
-        self.graphs.push(graph)?;
+        append(&mut self.graphs, graph)?;
         self.scope.graphs = self.graphs.len();
         self.nodes = nodes;
         Ok(())

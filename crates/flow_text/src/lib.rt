@@ -7,6 +7,7 @@ mod declared_names;
 mod known;
 mod laws;
 mod limits;
+mod lists;
 mod meaning;
 mod names;
 mod reading;

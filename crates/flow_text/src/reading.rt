@@ -14,6 +14,7 @@ ghost use Rattle.flow_text.specs.Texts.{IsFlowText, Answers};
 use crate::check_blocks::check_graph;
 use crate::declared_names::{DeclaredNames, declared_names};
 use crate::known::{Known, WrittenGraph, check_items};
+use crate::lists::append;
 use crate::results::{Results, sight_of};
 use crate::scope::Scope;
 use flow_model::{Block, Sort};
@@ -129,9 +130,22 @@ fn all_graphs(
     let mut all = Vec::new(alloc);
     for graph in graphs {
         let whole = next_graph(alloc, scope, goal, shared, all.len(), graph)?;
-        all.push(whole)?;
+        append(&mut all, whole)?;
     }
     Ok(all)
+}
+
+// Returns the graphs with their results, of which those of the goal have the same sorts.
+fn whole_graphs(
+    alloc: Global,
+    scope: &Scope,
+    goal: (usize, usize),
+    graphs: &[WrittenGraph],
+) -> Result<Vec<Vec<Block>>, TextFault>
+    ensures { Makes (Unit {0}) (λ v. graphs_of v.items) result (graphs_after (scope_parts scope.now) goal (shared_sorts (scope_parts scope.now) goal (map graph_syntax graphs.now)) [] (map graph_syntax graphs.now)) }
+{
+    let shared = shared_sorts(alloc, scope, goal, graphs)?;
+    all_graphs(alloc, scope, goal, &shared, graphs)
 }
 
 // Returns the file of what is known of all items, with its goal.
@@ -143,17 +157,16 @@ fn file_with_goal(
 ) -> Result<FlowFile, TextFault>
     ensures { Makes (Unit {0}) file_parts result (with_goal (map string_bytes names.variables.items) (map string_bytes names.functions.items) (known_parts known.entry) (Some goal)) }
 {
+    let graphs = whole_graphs(alloc, &known.scope, goal, &known.graphs)?;
     let Known {
         alloc: _,
         scope,
-        graphs,
+        graphs: _,
         rounds,
         splits,
         goal: _,
         nodes: _,
     } = known;
-    let shared = shared_sorts(alloc, &scope, goal, &graphs)?;
-    let whole = all_graphs(alloc, &scope, goal, &shared, &graphs)?;
     let Scope {
         names: _,
         sorts: _,
@@ -163,7 +176,7 @@ fn file_with_goal(
     } = scope;
     Ok(FlowFile {
         sorts: variables,
-        graphs: whole,
+        graphs,
         before: goal.0,
         after: goal.1,
         rounds: rounds_or_one(rounds),

@@ -8,6 +8,7 @@ ghost use Rattle.flow_text.specs.ScopeViews.{function_of, sight_parts};
 ghost use Rattle.flow_syntax.specs.SyntaxViews.{node_syntax, expr_syntax};
 ghost use Rattle.flow_text.specs.Working.Wanting.{wanted_syntax, wanted_stack, Gives};
 
+use crate::lists::append;
 use crate::meaning::Meaning;
 use crate::scope::Function;
 use crate::sight::{Sight, function_at, sort_at, sort_or_u64, width_named};
@@ -28,7 +29,7 @@ pub(crate) enum Wanted<'a> {
 fn push_wanted<'a>(stack: &mut Vec<Wanted<'a>>, wanted: Wanted<'a>) -> Result<(), NoMemory>
     ensures { OnOk result (wanted_stack stack.new.items ≡ wanted_syntax wanted.entry ∷ wanted_stack stack.old.items) }
 {
-    Ok(stack.push(wanted)?)
+    append(stack, wanted)
 }
 
 #[tactic(auto, using(crate::proofs::WantedStacks::wants))]
@@ -284,7 +285,7 @@ pub(crate) fn resolve<'a>(
             return Ok(nodes);
         };
         let made = next_node(sight, next, node, &mut stack)?;
-        nodes.push(made)?;
+        append(&mut nodes, made)?;
         rest = &rest[..rest.len() - 1];
     }
     Ok(nodes)

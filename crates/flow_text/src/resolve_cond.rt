@@ -7,6 +7,7 @@ ghost use Rattle.flow_text.specs.Resolving.{rel_named, sort_of_sides, signed_rel
 ghost use Rattle.flow_text.specs.ScopeViews.{sight_parts};
 ghost use Rattle.flow_syntax.specs.SyntaxViews.{cond_node_syntax, cond_syntax, expr_syntax};
 
+use crate::lists::append;
 use crate::resolve_expr::resolve_expr;
 use crate::sight::Sight;
 use flow_model::Sort;
@@ -125,7 +126,7 @@ fn resolve_nodes(
     let mut rest = cond;
     'nodes: while let Some((node, _)) = rest.split_last() {
         let node = resolve_node(alloc, sight, node)?;
-        nodes.push(node)?;
+        append(&mut nodes, node)?;
         rest = &rest[..rest.len() - 1];
     }
     Ok(nodes)

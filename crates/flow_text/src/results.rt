@@ -9,6 +9,7 @@ ghost use Rattle.flow_text.specs.ResultViews.{result_sorts};
 ghost use Rattle.flow_syntax.specs.SyntaxViews.{exprs_syntax, jump_syntax, block_syntax, blocks_syntax};
 
 use crate::known::WrittenGraph;
+use crate::lists::append;
 use crate::scope::Scope;
 use crate::sight::{Sight, sort_or_u64};
 use flow_model::Sort;
@@ -81,7 +82,7 @@ fn named_sorts(
     let mut known = Vec::new(alloc);
     let mut rest = exprs;
     'exprs: while let Some((expr, _)) = rest.split_last() {
-        known.push(sight.sort_of_first(first_name(expr)))?;
+        append(&mut known, sight.sort_of_first(first_name(expr)))?;
         rest = &rest[..rest.len() - 1];
     }
     Ok(known)
@@ -110,7 +111,7 @@ fn all_or_u64(alloc: Global, sorts: &[Option<Sort>]) -> Result<Vec<Sort>, NoMemo
 {
     let mut known = Vec::new(alloc);
     for sort in sorts {
-        known.push(sort_or_u64(*sort))?;
+        append(&mut known, sort_or_u64(*sort))?;
     }
     Ok(known)
 }

@@ -7,6 +7,7 @@ ghost use Rattle.flow_syntax.specs.SyntaxViews.{tokens_syntax};
 ghost use Rattle.flow_text.specs.ScopeViews.{scope_parts};
 
 use crate::limits::{MAX_FUNCTIONS, MAX_SORTS, MAX_VARIABLES};
+use crate::lists::append;
 use crate::meaning::Meaning;
 use crate::names::Names;
 use flow_model::Sort;
@@ -82,7 +83,7 @@ impl Scope {
         self.may_declare(name, self.variables.len(), MAX_VARIABLES)?;
         self.names
             .insert(name.text, Meaning::Variable(self.variables.len()))?;
-        self.variables.push(sort)?;
+        append(&mut self.variables, sort)?;
         Ok(())
     }
 
@@ -103,11 +104,11 @@ impl Scope {
     {
         self.names
             .insert(name.text, Meaning::Function(self.functions.len()))?;
-        self.functions.push(Function {
+        let function = Function {
             result_sort,
             parameters,
-        })?;
-        Ok(())
+        };
+        append(&mut self.functions, function)
     }
 
     /// Checks that a graph of this name may be declared.
@@ -121,8 +122,7 @@ impl Scope {
     pub(crate) fn declare_graph(&mut self, name: &Token, number: usize) -> Result<(), NoMemory>
         ensures { OnOk result (scope_parts self.new ≡ with_graph_name (scope_parts self.old) (parts_of_token name.now) number) }
     {
-        self.names.insert(name.text, Meaning::GraphName(number))?;
-        Ok(())
+        self.names.insert(name.text, Meaning::GraphName(number))
     }
 
     /// Declares sorts of these names, which are from the last to the first.

@@ -23,7 +23,7 @@ statements-preserved c =
     let before = c.in-Some.field-0-1.now in
     let next = made ++ c.in_ok-statement.statement ∷ [] in
     let whole = statements_after s [] (statements_syntax c.args.statements.now) in
-    subst (λ (l : List Statement). statements_after s (map statement_of l) (statements_syntax (take (length rest - 1) rest)) ≡ whole) (sym c.in_ok-push.ensures.items)
+    subst (λ (l : List Statement). statements_after s (map statement_of l) (statements_syntax (take (length rest - 1) rest)) ≡ whole) (sym c.in_ok-append.ensures)
     (kept (statements_after s) statements_syntax (map statement_of made) (map statement_of next) rest before c.in-Some.statement.now whole c.in-Some.ensures.cases.0
     (statement_made s made before c.in-Some.statement.now c.in_ok-statement.statement c.in_ok-statement.ensures) c.statements.invariant)
 

@@ -23,7 +23,7 @@ loop-sort-preserved c =
     let made = c.loop-sort.values.items in
     let rest = c.loop-sort.rest.now in
     let whole = expressions_of s sorts (exprs_syntax c.args.exprs.now) in
-    subst (λ (l : List (Vec ExprNode Global)). expressions_after s (values_of l) (drop (i + 1) sorts) (exprs_syntax (take (length rest - 1) rest)) ≡ whole) (sym c.in_ok-push.ensures.items)
+    subst (λ (l : List (Vec ExprNode Global)). expressions_after s (values_of l) (drop (i + 1) sorts) (exprs_syntax (take (length rest - 1) rest)) ≡ whole) (sym c.in_ok-append.ensures)
     (expression_turn s made sorts i (Number W8) rest c.in-Some.field-0-1.now c.in-Some.expr.now c.in_ok-value.value whole c.loop-sort-test.true c.in-Some.ensures.cases.0
     (ap (λ l. expression_of s (get_or sorts i (Number W8)) (expr_syntax l)) (sym c.deref.ensures.value) ∙ c.in_ok-value.ensures) c.loop-sort.invariant)
 

@@ -21,7 +21,7 @@ names-preserved c =
     let rest = c.names.rest.now in
     let before = c.in-Some.field-0-1.now in
     let whole = targets_after s [] (tokens_syntax c.args.names.now) in
-    subst (λ (l : List (ℕ × Sort)). targets_after s l (tokens_syntax (take (length rest - 1) rest)) ≡ whole) (sym c.in_ok-push.ensures.items)
+    subst (λ (l : List (ℕ × Sort)). targets_after s l (tokens_syntax (take (length rest - 1) rest)) ≡ whole) (sym c.in_ok-append.ensures)
     (kept (targets_after s) tokens_syntax made (made ++ c.in_ok-target.target ∷ []) rest before c.in-Some.name.now whole c.in-Some.ensures.cases.0
     (target_made s made before c.in-Some.name.now c.in_ok-target.target (c.in_ok-target.ensures ∙ ap (λ l. next_target s l (parts_of_token c.in-Some.name.now)) c.deref.ensures.value)) c.names.invariant)
 

@@ -28,7 +28,7 @@ each-preserved c =
     let next = made ++ c.in_ok-block.block ∷ [] in
     let whole = blocks_after s results find [] (blocks_syntax c.args.blocks.now) in
     let count : length made ≡ c.len.result = omega (arith, c.len.ensures, c.each.checked.ok.0) in
-    subst (λ (l : List Block). blocks_after s results find (graph_of l) (blocks_syntax (take (length rest - 1) rest)) ≡ whole) (sym c.in_ok-push.ensures.items)
+    subst (λ (l : List Block). blocks_after s results find (graph_of l) (blocks_syntax (take (length rest - 1) rest)) ≡ whole) (sym c.in_ok-append.ensures)
     (kept (blocks_after s results find) blocks_syntax (graph_of made) (graph_of next) rest before c.in-Some.block.now whole c.in-Some.ensures.cases.0
     (block_made s results find made c.len.result before c.in-Some.block.now c.in_ok-block.block count c.in_ok-block.ensures) c.each.invariant)
 

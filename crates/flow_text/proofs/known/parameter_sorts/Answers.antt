@@ -21,7 +21,7 @@ tokens-preserved c =
     let before = c.in-Some.field-0-1.now in
     let whole = parameters_after s [] (tokens_syntax c.args.tokens.now) in
     let count : length made ≡ c.len.result = omega (arith, c.len.ensures, c.tokens.sorts.ok.0) in
-    subst (λ (l : List Sort). parameters_after s l (tokens_syntax (take (length rest - 1) rest)) ≡ whole) (sym c.in_ok-push.ensures.items)
+    subst (λ (l : List Sort). parameters_after s l (tokens_syntax (take (length rest - 1) rest)) ≡ whole) (sym c.in_ok-append.ensures)
     (kept (parameters_after s) tokens_syntax made (made ++ c.in_ok-sort.sort ∷ []) rest before c.in-Some.token.now whole c.in-Some.ensures.cases.0
     (parameter_made s made c.len.result before c.in-Some.token.now c.in_ok-sort.sort count c.in_ok-sort.ensures) c.tokens.invariant)
 

@@ -21,7 +21,7 @@ loop-graph-preserved c =
     let made = c.loop-graph.all.items in
     let whole = graphs_after s c.args.goal c.args.shared.now [] (map graph_syntax gs) in
     let count : length made ≡ c.len.result = omega (arith, c.len.ensures, c.loop-graph.all.ok.0) in
-    subst (λ (l : List (Vec Block Global)). graphs_after s c.args.goal c.args.shared.now (graphs_of l) (map graph_syntax (drop (i + 1) gs)) ≡ whole) (sym c.in_ok-push.ensures.items)
+    subst (λ (l : List (Vec Block Global)). graphs_after s c.args.goal c.args.shared.now (graphs_of l) (map graph_syntax (drop (i + 1) gs)) ≡ whole) (sym c.in_ok-append.ensures)
     (graph_turn s c.args.goal c.args.shared.now made c.len.result gs i c.graph-item.result c.in_ok-whole.whole whole count c.loop-graph-test.true c.graph-item.is c.in_ok-whole.ensures c.loop-graph.invariant)
 
 pub returns-in_err-whole : goal.returns-in_err-whole

@@ -21,7 +21,7 @@ nodes-preserved c =
     let now = wanted_stack c.next_node.new.stack.items in
     let next = made ++ c.in_ok-made.made ∷ [] in
     let whole = resolved s c.args.wanted (expr_syntax c.args.expr.now) in
-    subst (λ (l : List ExprNode). nodes_after s l now (expr_syntax (take (length rest - 1) rest)) ≡ whole) (sym c.in_ok-push.ensures.items)
+    subst (λ (l : List ExprNode). nodes_after s l now (expr_syntax (take (length rest - 1) rest)) ≡ whole) (sym c.in_ok-append.ensures)
     (ap (λ ns. nodes_after s next now (expr_syntax ns)) (before_last rest before c.in-Some.node.now c.in-Some.ensures.cases.0)
     ∙ node_kept s made (wanted_stack c.nodes.stack.items) now (wanted_syntax c.in-Some-pop_wanted.next) (wanted_stack c.pop_wanted.new.stack.items) rest before c.in-Some.node.now c.in_ok-made.made whole
     c.in-Some.ensures.cases.0 c.in-Some-pop_wanted.ensures.some c.in_ok-made.ensures c.nodes.invariant)

@@ -22,7 +22,7 @@ nodes-preserved c =
     let before = c.in-Some.field-0-1.now in
     let next = made ++ c.in_ok-node.node ∷ [] in
     let whole = parts_after s [] (cond_syntax c.args.cond.now) in
-    subst (λ (l : List CondNode). parts_after s (map cond_part l) (cond_syntax (take (length rest - 1) rest)) ≡ whole) (sym c.in_ok-push.ensures.items)
+    subst (λ (l : List CondNode). parts_after s (map cond_part l) (cond_syntax (take (length rest - 1) rest)) ≡ whole) (sym c.in_ok-append.ensures)
     (kept (parts_after s) cond_syntax (map cond_part made) (map cond_part next) rest before c.in-Some.node.now whole c.in-Some.ensures.cases.0
     (node_made s made before c.in-Some.node.now c.in_ok-node.node c.in_ok-node.ensures) c.nodes.invariant)
 

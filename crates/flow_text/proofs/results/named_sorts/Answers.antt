@@ -20,7 +20,7 @@ exprs-preserved c =
     let before = c.in-Some.field-0-1.now in
     let x = c.sort_of_first.result in
     let whole = named_sorts s (exprs_syntax c.args.exprs.now) in
-    subst (λ (l : List (Option Sort)). l ++ named_sorts s (exprs_syntax (take (length rest - 1) rest)) ≡ whole) (sym c.in_ok-push.ensures.items)
+    subst (λ (l : List (Option Sort)). l ++ named_sorts s (exprs_syntax (take (length rest - 1) rest)) ≡ whole) (sym c.in_ok-append.ensures)
     (kept (λ (l : List (Option Sort)) (es : List ExprSyntax). l ++ named_sorts s es) exprs_syntax made (made ++ x ∷ []) rest before c.in-Some.expr.now whole c.in-Some.ensures.cases.0
     (named_more s made before c.in-Some.expr.now x (c.sort_of_first.ensures ∙ ap (sort_of_first s) (c.first_name.ensures ∙ ap (λ l. first_name (expr_syntax l)) c.deref.ensures.value))) c.exprs.invariant)
 

@@ -1,0 +1,5 @@
+use Rattle.flow_text.proofs.MappedLists.{mapped_more}
+use Rattle.flow_text.proofs.check.sorts_of.Goals as goal
+
+pub loop-target-preserved : goal.loop-target-preserved
+loop-target-preserved c = mapped_more (λ x. x.1) c.args.targets.now c.loop-target.target-index _ _ _ c.loop-target-test.true c.loop-target.invariant c.in_ok-append.ensures
