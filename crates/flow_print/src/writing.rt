@@ -9,8 +9,7 @@ use std::alloc::Global;
 pub(crate) fn put(out: &mut Vec<u8>, text: &[u8]) -> Result<(), NoMemory>
     ensures { OnOk result (out.new.items ≡ out.old.items ++ text.now) }
 {
-    out.extend_from_slice(text)?;
-    Ok(())
+    Ok(out.extend_from_slice(text)?)
 }
 
 pub(crate) fn put_number(alloc: Global, out: &mut Vec<u8>, number: u64) -> Result<(), NoMemory>
@@ -23,8 +22,7 @@ pub(crate) fn put_number(alloc: Global, out: &mut Vec<u8>, number: u64) -> Resul
 pub(crate) fn put_word(out: &mut Vec<u8>, word: &str) -> Result<(), NoMemory>
     ensures { OnOk result (out.new.items ≡ out.old.items ++ word.now) }
 {
-    out.extend_from_slice(word.as_bytes())?;
-    Ok(())
+    put(out, word.as_bytes())
 }
 
 /// Appends a word, and a number in decimal directly after it.
@@ -37,8 +35,7 @@ pub(crate) fn put_numbered(
     ensures { OnOk result (out.new.items ≡ out.old.items ++ (word.now ++ decimal number)) }
 {
     put_word(out, word)?;
-    out.extend_from_slice(format!(in alloc; "{number}")?.as_bytes())?;
-    Ok(())
+    put_number(alloc, out, number as u64)
 }
 
 /// Appends a comma and a space, unless what follows is the first of a list.
