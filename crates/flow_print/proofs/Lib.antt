@@ -1,4 +1,5 @@
 pub mod NamedNumbers
 pub mod CommentLines
 pub mod WrittenTexts
+pub mod WrittenLists
 mod FlowTextExamples

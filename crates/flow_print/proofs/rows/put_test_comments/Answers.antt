@@ -1,0 +1,11 @@
+use Rattle.flow_forms.specs.Comparisons.{comparison_tree}
+use Rattle.flow_print.specs.NameTables.{names_of}
+use Rattle.flow_print.specs.FlowTexts.{test_comment}
+use Rattle.flow_print.proofs.WrittenLists.{comment_written}
+use Rattle.flow_print.proofs.rows.put_test_comments.Goals as goal
+
+pub loop-number-preserved : goal.loop-number-preserved
+loop-number-preserved c =
+    let names = names_of c.args.names.now.variables.now c.args.names.now.sorts.now c.args.names.now.functions.now in
+    comment_written comparison_tree (test_comment names) c.args.tests.now c.loop-number.number c.index-tests-number.result c.loop-number.out.items c.put_test_comment.new.out.items _
+    c.loop-number-test.true c.index-tests-number.is c.in_ok-put_test_comment.ensures c.loop-number.invariant
