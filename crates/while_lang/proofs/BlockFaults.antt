@@ -9,6 +9,7 @@ use Rattle.text_grammar.specs.Lexemes.{Lexeme}
 use Rattle.text_grammar.specs.Parsed.{Parsed, Makes, Reads}
 use Rattle.text_grammar.proofs.NamedFaults.{IsNamedFault, IsNamed, if_named}
 use Rattle.while_lang.specs.Blocks.{enter}
+use Rattle.while_lang.specs.Working.Appending.{Appends}
 
 -- ---- results of parts
 
@@ -33,11 +34,11 @@ module _ {V W : Type 0} (memory : Type 0) (means : V → W) (ts : List Lexeme) (
       ends NoMemory h k = h
       ends f h k = k h
 
-  -- an action rejects the part, or memory runs out
-  pub action_fails : {A B : Type 0} (of : A → B) (m : Result B TextFault) → Makes memory of (Err e) m → (m ≡ Err e → whole ≡ Err e) → Reads memory means ts r whole
-  action_fails of m h k = subst (λ x. Reads memory means ts x whole) (sym (returned r e same)) (ends e h k)
+  -- a function that appends to a list fails
+  pub append_fails : {B : Type 0} (list : B) (part : Parsed B) → Appends memory list ts (Err e) part → (part ≡ Err e → whole ≡ Err e) → Reads memory means ts r whole
+  append_fails list part h k = subst (λ x. Reads memory means ts x whole) (sym (returned r e same)) (ends e h k)
     where
-      ends : (f : TextFault) → Makes memory of (Err f) m → (m ≡ Err f → whole ≡ Err f) → Reads memory means ts (Err f) whole
+      ends : (f : TextFault) → Appends memory list ts (Err f) part → (part ≡ Err f → whole ≡ Err f) → Reads memory means ts (Err f) whole
       ends NoMemory h k = h
       ends f h k = k h
 
@@ -48,3 +49,22 @@ module _ {V W : Type 0} (memory : Type 0) (means : V → W) (ts : List Lexeme) (
       ends : (f : TextFault) → IsNamedFault f → whole ≡ Err f → Reads memory means ts (Err f) whole
       ends NoMemory h k = elim h [ ]
       ends f h k = k
+
+-- ---- what a function that appends to a list returns then
+
+module _ {S : Type 0} (memory : Type 0) (list : S) (ts : List Lexeme) (whole : Parsed S) (e : TextFault) (r : Result ℕ TextFault) (same : IsErrAnd r (λ y. y ≡ e)) where
+  -- a parser fails
+  pub part_stops : {A B : Type 0} (of : A → B) (part : Parsed B) → Reads memory of ts (Err e) part → (part ≡ Err e → whole ≡ Err e) → Appends memory list ts r whole
+  part_stops of part h k = subst (λ x. Appends memory list ts x whole) (sym (returned r e same)) (ends e h k)
+    where
+      ends : (f : TextFault) → Reads memory of ts (Err f) part → (part ≡ Err f → whole ≡ Err f) → Appends memory list ts (Err f) whole
+      ends NoMemory h k = h
+      ends f h k = k h
+
+  -- an action rejects the part, or memory runs out
+  pub action_stops : {A B : Type 0} (of : A → B) (m : Result B TextFault) → Makes memory of (Err e) m → (m ≡ Err e → whole ≡ Err e) → Appends memory list ts r whole
+  action_stops of m h k = subst (λ x. Appends memory list ts x whole) (sym (returned r e same)) (ends e h k)
+    where
+      ends : (f : TextFault) → Makes memory of (Err f) m → (m ≡ Err f → whole ≡ Err f) → Appends memory list ts (Err f) whole
+      ends NoMemory h k = h
+      ends f h k = k h

@@ -1,5 +1,7 @@
 -- The results of blocks and statements by the results of their parts.
 use Rattle.std.proofs.Common.{◌≡◌, ℕ, ◌+◌, List, ◌∷◌, true, false, drop, Result, Ok, Err, refl, sym, subst, ap, ◌∙◌, arith}
+use Rattle.std.specs.Prelude.{IfOk}
+use Rattle.std.specs.Result.{result_and}
 use Rattle.text_tokens.specs.declared.fault.TextFault.{TextFault}
 use Rattle.text_tokens.specs.declared.fault.TextFault.TheVariants.{NoMemory}
 use Rattle.text_grammar.specs.declared.terminal.Terminal.{Terminal}
@@ -8,10 +10,12 @@ use Rattle.text_grammar.specs.declared.terminal.Keyword.{Keyword as KeywordOf}
 use Rattle.text_grammar.specs.declared.terminal.Keyword.TheVariants as word
 use Rattle.text_grammar.specs.declared.terminal.Separator.TheVariants.{Semicolon, CurlyOpen, CurlyClose, Becomes}
 use Rattle.text_grammar.specs.Lexemes.{Lexeme, lexeme, heads, is_terminal}
-use Rattle.text_grammar.specs.Parsed.{Parsed, ◌>>=◌, change, wants, place_of, Reads}
+use Rattle.text_grammar.specs.Parsed.{Parsed, ◌>>=◌, before, change, wants, place_of, Makes, Wants}
+use Rattle.text_grammar.proofs.NamedFaults.{IsNamed, wants_named}
 use Rattle.text_grammar.proofs.Tokens.{next_drop}
 use Rattle.while_lang.specs.BlockActions.{BlockActions}
 use Rattle.while_lang.specs.Blocks.{enter, block, stmts_after, stmt_after, branch_after, cond_by, expr_by, then_semicolon, assign_by, named_by, loop_by, else_by, parse_block}
+use Rattle.while_lang.specs.Working.Appending.{Appends, EndsAfter}
 use Rattle.while_lang.proofs.BlockSteps.{block_aim_step, stmts_after_step, stmt_after_step, branch_after_step}
 
 abbrev ok_of : {A : Type 0} → A → Result A TextFault
@@ -19,6 +23,11 @@ ok_of x = Ok x
 
 made_same : {A : Type 0} {x y : A} → ok_of x ≡ Ok y → x ≡ y
 made_same h = cc
+
+-- a change of the value before a semicolon
+change_ended : {V W : Type 0} (f : V → W) (x : V) (m : Result (List Lexeme) TextFault) → change f (m >>= λ r. Ok (x, r)) ≡ (m >>= λ r. Ok (f x, r))
+change_ended f x (Ok r) = refl
+change_ended f x (Err e) = refl
 
 -- the index after two tokens
 pub next_two : {A : Type 0} (n : ℕ) (xs : List A) → drop 1 (drop (n + 1) xs) ≡ drop (n + 2) xs
@@ -59,11 +68,11 @@ module _ {E B L T M S : Type 0} (g : BlockActions E B L T M S) (d : ℕ) (ts : L
 
   module _ (s : S) (at : ℕ) (text : List ℕ) (us : List Lexeme) (t : Terminal) (seen : ts ≡ lexeme t at text ∷ us) where
     module _ (k : KeywordOf) (is : t ≡ Keyword k) where
-      pub skip_seen : k ≡ word.Skip → (v : S) → ok_of (g.skip s) ≡ Ok v → parse_block g (stmt_after s) d ts ≡ then_semicolon (Ok (v, us))
-      skip_seen h v made = rw (seen, is, h, ← made_same made) (stmt_after_step g s d (lexeme (Keyword word.Skip) at text ∷ us))
+      pub skip_seen : k ≡ word.Skip → parse_block g (stmt_after s) d ts ≡ then_semicolon (Ok (g.skip s, us))
+      skip_seen h = rw (seen, is, h) (stmt_after_step g s d (lexeme (Keyword word.Skip) at text ∷ us))
 
-      pub abort_seen : k ≡ word.Abort → (v : S) → ok_of (g.abort s) ≡ Ok v → parse_block g (stmt_after s) d ts ≡ then_semicolon (Ok (v, us))
-      abort_seen h v made = rw (seen, is, h, ← made_same made) (stmt_after_step g s d (lexeme (Keyword word.Abort) at text ∷ us))
+      pub abort_seen : k ≡ word.Abort → parse_block g (stmt_after s) d ts ≡ then_semicolon (Ok (g.abort s, us))
+      abort_seen h = rw (seen, is, h) (stmt_after_step g s d (lexeme (Keyword word.Abort) at text ∷ us))
 
       pub assert_seen : k ≡ word.Assert → parse_block g (stmt_after s) d ts ≡ change (g.assert s) (then_semicolon (cond_by g d us))
       assert_seen h = rw (seen, is, h) (stmt_after_step g s d (lexeme (Keyword word.Assert) at text ∷ us))
@@ -91,8 +100,8 @@ module _ {E B L T M S : Type 0} (g : BlockActions E B L T M S) (d : ℕ) (ts : L
         pub branch_second : (e : TextFault) → else_by g (parse_block g) d p.1 ≡ Err e → parse_block g (branch_after s) d ts ≡ Err e
         branch_second e h = branch_after_step g s d ts ∙ rw (holds, first, h) refl
 
-        pub branch_made : (q : S × List Lexeme) → else_by g (parse_block g) d p.1 ≡ Ok q → (v : S) → ok_of (g.branch s b.0 p.0 q.0) ≡ Ok v → parse_block g (branch_after s) d ts ≡ Ok (v, q.1)
-        branch_made q h v is = branch_after_step g s d ts ∙ rw (holds, first, h, made_same is) refl
+        pub branch_made : (q : S × List Lexeme) → else_by g (parse_block g) d p.1 ≡ Ok q → parse_block g (branch_after s) d ts ≡ Ok (g.branch s b.0 p.0 q.0, q.1)
+        branch_made q h = branch_after_step g s d ts ∙ rw (holds, first, h) refl
 
   pub else_none : heads (is_terminal (Keyword word.Else)) ts ≡ false → else_by g (parse_block g) d ts ≡ Ok (g.none, ts)
   else_none h = rw (h) refl
@@ -126,8 +135,8 @@ module _ {E B L T M S : Type 0} (g : BlockActions E B L T M S) (d : ℕ) (ts : L
       pub loop_fails : (e : TextFault) → parse_block g block d b.1 ≡ Err e → loop_by g (parse_block g) s d ts ≡ Err e
       loop_fails e h = rw (holds, h) refl
 
-      pub loop_made : (x : S × List Lexeme) → parse_block g block d b.1 ≡ Ok x → (v : S) → ok_of (g.turn s b.0 x.0) ≡ Ok v → loop_by g (parse_block g) s d ts ≡ Ok (v, x.1)
-      loop_made x h v is = rw (holds, h, made_same is) refl
+      pub loop_made : (x : S × List Lexeme) → parse_block g block d b.1 ≡ Ok x → loop_by g (parse_block g) s d ts ≡ Ok (g.turn s b.0 x.0, x.1)
+      loop_made x h = rw (holds, h) refl
 
   -- ---- statements that begin with a name
 
@@ -139,22 +148,14 @@ module _ {E B L T M S : Type 0} (g : BlockActions E B L T M S) (d : ℕ) (ts : L
       pub assign_unread : (e : TextFault) → expr_by g d ts ≡ Err e → assign_by g s d at name ts ≡ Err e
       assign_unread e h = rw (target, h) refl
 
-      module _ (x : E × List Lexeme) (value : expr_by g d ts ≡ Ok x) where
-        pub assign_open : (e : TextFault) → wants (is_terminal (Separator Semicolon)) x.1 ≡ Err e → assign_by g s d at name ts ≡ Err e
-        assign_open e h = rw (target, value, h) refl
-
-        pub assign_made : (us : List Lexeme) → wants (is_terminal (Separator Semicolon)) x.1 ≡ Ok us → (v : S) → ok_of (g.assign s name x.0) ≡ Ok v → assign_by g s d at name ts ≡ Ok (v, us)
-        assign_made us h v is = rw (target, value, h, made_same is) refl
+      pub assign_ended : (x : E × List Lexeme) → expr_by g d ts ≡ Ok x → assign_by g s d at name ts ≡ then_semicolon (Ok (g.assign s name x.0, x.1))
+      assign_ended x h = rw (target, h) (change_ended (g.assign s name) x.0 (wants (is_terminal (Separator Semicolon)) x.1))
 
     pub named_assign : heads (is_terminal (Separator Becomes)) ts ≡ true → (us : List Lexeme) → drop 1 ts ≡ us → named_by g s d at name ts ≡ assign_by g s d at name us
     named_assign h us next = rw (h, next) refl
 
-    module _ (plain : heads (is_terminal (Separator Becomes)) ts ≡ false) where
-      pub named_refused : (e : TextFault) → g.named d at name s ≡ Err e → named_by g s d at name ts ≡ Err e
-      named_refused e h = rw (plain, h) refl
-
-      pub named_made : (v : S) → g.named d at name s ≡ Ok v → named_by g s d at name ts ≡ then_semicolon (Ok (v, ts))
-      named_made v h = rw (plain, h) refl
+    pub named_ended : heads (is_terminal (Separator Becomes)) ts ≡ false → named_by g s d at name ts ≡ then_semicolon (before ts (g.named d at name s))
+    named_ended h = rw (h) refl
 
   -- ---- assertions
 
@@ -162,21 +163,35 @@ module _ {E B L T M S : Type 0} (g : BlockActions E B L T M S) (d : ℕ) (ts : L
     pub assert_unread : (e : TextFault) → cond_by g d ts ≡ Err e → change (g.assert s) (then_semicolon (cond_by g d ts)) ≡ Err e
     assert_unread e h = rw (h) refl
 
-    module _ (b : B × List Lexeme) (holds : cond_by g d ts ≡ Ok b) where
-      pub assert_open : (e : TextFault) → wants (is_terminal (Separator Semicolon)) b.1 ≡ Err e → change (g.assert s) (then_semicolon (cond_by g d ts)) ≡ Err e
-      assert_open e h = rw (holds, h) refl
+    pub assert_ended : (b : B × List Lexeme) → cond_by g d ts ≡ Ok b → change (g.assert s) (then_semicolon (cond_by g d ts)) ≡ then_semicolon (Ok (g.assert s b.0, b.1))
+    assert_ended b h = rw (h) (change_ended (g.assert s) b.0 (wants (is_terminal (Separator Semicolon)) b.1))
 
-      pub assert_made : (us : List Lexeme) → wants (is_terminal (Separator Semicolon)) b.1 ≡ Ok us → (v : S) → ok_of (g.assert s b.0) ≡ Ok v → change (g.assert s) (then_semicolon (cond_by g d ts)) ≡ Ok (v, us)
-      assert_made us h v is = rw (holds, h, made_same is) refl
+-- ---- what an action made, and what follows it
 
--- ---- a statement that ends with a semicolon
+-- the fault of the action remains
+pub passed : (P : ℕ → Type 0) (made : Result (Unit {0}) TextFault) (rest r : Result ℕ TextFault) → r ≡ result_and made rest → IfOk rest P → IfOk r P
+passed P (Ok u) rest r is h = rw (is) h
+passed P (Err e) rest r is h = rw (is) tt
 
-module _ {V W : Type 0} (means : V → W) (list : V) where
-  ended_means : (m : Result (List Lexeme) TextFault) → change means (m >>= λ r. Ok (list, r)) ≡ (m >>= λ r. Ok (means list, r))
-  ended_means (Ok r) = refl
-  ended_means (Err e) = refl
+-- a block is the last part of the statement
+pub made_appends : {S : Type 0} (memory : Type 0) (list v : S) (all : List Lexeme) (end : ℕ) (made : Result (Unit {0}) TextFault) (r : Result ℕ TextFault) (whole : Parsed S) →
+    r ≡ result_and made (Ok end) → Makes memory (λ (u : Unit {0}). list) made (Ok v) → whole ≡ Ok (v, drop end all) → Appends memory list all r whole
+made_appends memory list v all end (Ok u) r whole is h same = rw (is, same, made_same h) refl
+made_appends memory list v all end (Err NoMemory) r whole is h same = rw (is) h
+made_appends memory list v all end (Err e) r whole is h same = absurd cc
 
-  pub ended_reads : (memory : Type 0) (all us : List Lexeme) (r : Result (V × ℕ) TextFault) → Reads ⊥ (λ v. v) all r (then_semicolon (Ok (list, us))) → Reads memory means all r (then_semicolon (Ok (means list, us)))
-  ended_reads memory all us (Ok x) h = sym (ended_means (wants (is_terminal (Separator Semicolon)) us)) ∙ rw (h) refl
-  ended_reads memory all us (Err NoMemory) h = elim h [ ]
-  ended_reads memory all us (Err e) h = sym (ended_means (wants (is_terminal (Separator Semicolon)) us)) ∙ rw (h) refl
+-- a semicolon follows
+pub ends_after : (all us : List Lexeme) (made : Result (Unit {0}) TextFault) (rest r : Result ℕ TextFault) → r ≡ result_and made rest → Wants all rest (wants (is_terminal (Separator Semicolon)) us) → EndsAfter all made r us
+ends_after all us (Ok u) rest r is h = rw (is) h
+ends_after all us (Err e) rest r is h = is
+
+semicolon_appends : {S : Type 0} (memory : Type 0) (list : S) (all us : List Lexeme) (r : Result ℕ TextFault) → IsNamed (wants (is_terminal (Separator Semicolon)) us) → Wants all r (wants (is_terminal (Separator Semicolon)) us) → Appends memory list all r (then_semicolon (Ok (list, us)))
+semicolon_appends memory list all us (Ok x) named h = rw (h) refl
+semicolon_appends memory list all us (Err NoMemory) named h = elim (subst IsNamed h named) [ ]
+semicolon_appends memory list all us (Err e) named h = rw (h) refl
+
+pub ended_appends : {S : Type 0} (memory : Type 0) (list : S) (all us : List Lexeme) (made : Result (Unit {0}) TextFault) (m : Result S TextFault) (r : Result ℕ TextFault) (whole : Parsed S) →
+    EndsAfter all made r us → Makes memory (λ (u : Unit {0}). list) made m → whole ≡ then_semicolon (before us m) → Appends memory list all r whole
+ended_appends memory list all us (Ok u) m r whole ends h is = rw (is, h) (semicolon_appends memory list all us r (wants_named (is_terminal (Separator Semicolon)) us) ends)
+ended_appends memory list all us (Err NoMemory) m r whole ends h is = rw (ends) h
+ended_appends memory list all us (Err e) m r whole ends h is = rw (ends, is, h) refl

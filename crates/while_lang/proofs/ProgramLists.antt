@@ -1,5 +1,5 @@
 -- Programs as lists of statements.
-use Rattle.std.proofs.Common.{arith, append-nil, ◌≡◌, ℕ, ◌+◌, ◌<◌, ◌≤◌, List, [], ◌∷◌, ◌++◌, map, length, take, get_or, refl, sym, ap, ◌∙◌}
+use Rattle.std.proofs.Common.{◌≡◌, ℕ, ◌+◌, ◌<◌, ◌≤◌, List, [], ◌∷◌, ◌++◌, map, length, take, get_or, refl, sym, ap, ◌∙◌}
 use Rattle.std.proofs.lemmas.List.{take_all, map_more, length-map, get_or-map}
 use Rattle.while_lang.specs.Programs.{ProgTree, StmtTree, skip, abort, assert, act, assign, branch, loop, with_stmt, prog_of, stmts_of}
 use Rattle.while_lang.specs.ProgramViews.{stmt_tree, list_tree}
@@ -22,11 +22,6 @@ stmts_of-prog_of (s ∷ ss) = stmts_of-with_stmt s (prog_of ss) ∙ ap (λ (xs :
 -- so does the tree of a list of statements of the program
 pub listed_stmts : (ss : List Stmt) → stmts_of (list_tree ss) ≡ map stmt_tree ss
 listed_stmts ss = stmts_of-prog_of (map stmt_tree ss)
-
--- if no statement remains to be moved, the list has all statements
-pub moved_all : (list rest : List Stmt) (all : List StmtTree) → map stmt_tree list ++ map stmt_tree rest ≡ all → length rest ≡ 0 → map stmt_tree list ≡ all
-moved_all list [] all h e = sym (append-nil (map stmt_tree list)) ∙ h
-moved_all list (s ∷ rest) all h e = absurd (omega (arith, e))
 
 -- ---- copies
 

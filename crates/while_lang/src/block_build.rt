@@ -1,7 +1,7 @@
 //! Builds the tree of a block.
-ghost use Rattle.std.specs.Prelude.{◌≡◌, ◌++◌, map, length, drop, slice_get, OnOk, IfOk};
+ghost use Rattle.std.specs.Prelude.{◌≡◌, [], ◌∷◌, ◌++◌, map, length, drop, slice_get, Ok, IfOk, OnOk};
 ghost use Rattle.text_grammar.specs.Lexemes.{lexemes};
-ghost use Rattle.text_grammar.specs.Parsed.{Reads, Goes};
+ghost use Rattle.text_grammar.specs.Parsed.{Makes, Reads, Goes};
 ghost use Rattle.while_lang.specs.Programs.{stmts_of};
 ghost use Rattle.while_lang.specs.ProgramViews.{stmt_tree};
 ghost use Rattle.while_lang.specs.NamedProgs.{parts_of_progs};
@@ -26,16 +26,6 @@ struct BlockBuild<'a> {
     progs: &'a [NamedProg],
 }
 
-// Moves the statements of `more` to the end of `list`.
-fn append(list: &mut Vec<Stmt>, more: Vec<Stmt>) -> Result<(), NoMemory>
-    ensures { OnOk result (map stmt_tree list.new.items ≡ map stmt_tree list.old.items ++ map stmt_tree more.items) }
-{
-    for stmt in more {
-        push_stmt(list, stmt)?;
-    }
-    Ok(())
-}
-
 // Copies the statements of a program.
 #[tactic(auto, using(crate::proofs::ProgramLists::listed_stmts))]
 fn copy_stmts(alloc: Global, prog: &Prog) -> Result<Vec<Stmt>, NoMemory>
@@ -53,6 +43,20 @@ fn copy_numbered(alloc: Global, progs: &[NamedProg], i: usize) -> Result<Vec<Stm
         return Ok(Vec::new(alloc));
     };
     copy_stmts(alloc, &named.prog)
+}
+
+// Appends a statement.
+fn push(list: &mut Vec<Stmt>, stmt: Stmt) -> Result<(), TextFault>
+    ensures { Makes (Unit {0}) (λ u. map stmt_tree list.new.items) result (Ok (map stmt_tree list.old.items ++ stmt_tree stmt ∷ [])) }
+{
+    Ok(push_stmt(list, stmt)?)
+}
+
+// Moves the statements of `more` to the end of `list`.
+fn append(list: &mut Vec<Stmt>, mut more: Vec<Stmt>) -> Result<(), NoMemory>
+    ensures { OnOk result (map stmt_tree list.new.items ≡ map stmt_tree list.old.items ++ map stmt_tree more.items) }
+{
+    Ok(list.append(&mut more)?)
 }
 
 fn push_named(
@@ -135,63 +139,45 @@ impl BlockReading for BlockBuild<'_> {
         Vec::new(self.alloc)
     }
 
-    fn skip(&self, mut list: Vec<Stmt>) -> Result<Vec<Stmt>, TextFault> {
-        push_stmt(&mut list, Stmt::Skip)?;
-        Ok(list)
+    fn skip(&self, list: &mut Vec<Stmt>) -> Result<(), TextFault> {
+        push(list, Stmt::Skip)
     }
 
-    fn abort(&self, mut list: Vec<Stmt>) -> Result<Vec<Stmt>, TextFault> {
-        push_stmt(&mut list, Stmt::Abort)?;
-        Ok(list)
+    fn abort(&self, list: &mut Vec<Stmt>) -> Result<(), TextFault> {
+        push(list, Stmt::Abort)
     }
 
-    fn assert(&self, mut list: Vec<Stmt>, cond: Cond) -> Result<Vec<Stmt>, TextFault> {
-        push_stmt(&mut list, Stmt::Assert(cond))?;
-        Ok(list)
+    fn assert(&self, list: &mut Vec<Stmt>, cond: Cond) -> Result<(), TextFault> {
+        push(list, Stmt::Assert(cond))
     }
 
-    fn named(
-        &self,
-        _: usize,
-        _: usize,
-        name: &str,
-        mut list: Vec<Stmt>,
-    ) -> Result<Vec<Stmt>, TextFault> {
-        push_named(self.alloc, self.progs, self.scope.find(name), &mut list)?;
-        Ok(list)
+    fn named(&self, _: usize, _: usize, name: &str, list: &mut Vec<Stmt>) -> Result<(), TextFault> {
+        Ok(push_named(self.alloc, self.progs, self.scope.find(name), list)?)
     }
 
     fn check_target(&self, _: usize, _: &str) -> Result<(), TextFault> {
         Ok(())
     }
 
-    fn assign(&self, mut list: Vec<Stmt>, name: &str, expr: Expr) -> Result<Vec<Stmt>, TextFault> {
+    fn assign(&self, list: &mut Vec<Stmt>, name: &str, expr: Expr) -> Result<(), TextFault> {
         let var = target_var(self.scope.find(name));
-        push_stmt(&mut list, Stmt::Assign(var, expr))?;
-        Ok(list)
+        push(list, Stmt::Assign(var, expr))
     }
 
     fn branch(
         &self,
-        mut list: Vec<Stmt>,
+        list: &mut Vec<Stmt>,
         cond: Cond,
         first: Vec<Stmt>,
         second: Vec<Stmt>,
-    ) -> Result<Vec<Stmt>, TextFault> {
+    ) -> Result<(), TextFault> {
         let first = Prog { list: first };
         let second = Prog { list: second };
-        push_stmt(&mut list, Stmt::If(cond, first, second))?;
-        Ok(list)
+        push(list, Stmt::If(cond, first, second))
     }
 
-    fn turn(
-        &self,
-        mut list: Vec<Stmt>,
-        cond: Cond,
-        body: Vec<Stmt>,
-    ) -> Result<Vec<Stmt>, TextFault> {
-        push_stmt(&mut list, Stmt::While(cond, Prog { list: body }))?;
-        Ok(list)
+    fn turn(&self, list: &mut Vec<Stmt>, cond: Cond, body: Vec<Stmt>) -> Result<(), TextFault> {
+        push(list, Stmt::While(cond, Prog { list: body }))
     }
 
     fn braced(&self, list: Vec<Stmt>) -> Vec<Stmt> {

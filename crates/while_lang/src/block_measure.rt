@@ -166,16 +166,19 @@ impl BlockReading for BlockMeasure<'_> {
         extent(0, 0)
     }
 
-    fn skip(&self, list: Extent) -> Result<Extent, TextFault> {
-        Ok(with_node(list, extent(0, 0)))
+    fn skip(&self, list: &mut Extent) -> Result<(), TextFault> {
+        *list = with_node(*list, extent(0, 0));
+        Ok(())
     }
 
-    fn abort(&self, list: Extent) -> Result<Extent, TextFault> {
-        Ok(with_node(list, extent(0, 0)))
+    fn abort(&self, list: &mut Extent) -> Result<(), TextFault> {
+        *list = with_node(*list, extent(0, 0));
+        Ok(())
     }
 
-    fn assert(&self, list: Extent, cond: Extent) -> Result<Extent, TextFault> {
-        Ok(with_node(list, cond))
+    fn assert(&self, list: &mut Extent, cond: Extent) -> Result<(), TextFault> {
+        *list = with_node(*list, cond);
+        Ok(())
     }
 
     fn named(
@@ -183,31 +186,35 @@ impl BlockReading for BlockMeasure<'_> {
         depth: usize,
         at: usize,
         name: &str,
-        list: Extent,
-    ) -> Result<Extent, TextFault> {
-        of_name(self.progs, depth, at, self.scope.find(name), list)
+        list: &mut Extent,
+    ) -> Result<(), TextFault> {
+        *list = of_name(self.progs, depth, at, self.scope.find(name), *list)?;
+        Ok(())
     }
 
     fn check_target(&self, at: usize, name: &str) -> Result<(), TextFault> {
         check_target(at, self.scope.find(name))
     }
 
-    fn assign(&self, list: Extent, _: &str, expr: Extent) -> Result<Extent, TextFault> {
-        Ok(with_node(list, extent(compared_nodes(expr.nodes), expr.nesting)))
+    fn assign(&self, list: &mut Extent, _: &str, expr: Extent) -> Result<(), TextFault> {
+        *list = with_node(*list, extent(compared_nodes(expr.nodes), expr.nesting));
+        Ok(())
     }
 
     fn branch(
         &self,
-        list: Extent,
+        list: &mut Extent,
         cond: Extent,
         first: Extent,
         second: Extent,
-    ) -> Result<Extent, TextFault> {
-        Ok(with_node(list, beside(cond, beside(first, second))))
+    ) -> Result<(), TextFault> {
+        *list = with_node(*list, beside(cond, beside(first, second)));
+        Ok(())
     }
 
-    fn turn(&self, list: Extent, cond: Extent, body: Extent) -> Result<Extent, TextFault> {
-        Ok(with_node(list, beside(cond, body)))
+    fn turn(&self, list: &mut Extent, cond: Extent, body: Extent) -> Result<(), TextFault> {
+        *list = with_node(*list, beside(cond, body));
+        Ok(())
     }
 
     fn braced(&self, list: Extent) -> Extent {

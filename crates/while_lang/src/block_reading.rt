@@ -8,8 +8,8 @@ ghost use Rattle.while_lang.specs.Blocks.{cond_by, expr_by};
 use text_tokens::{TextFault, Token};
 
 // The semantic actions of the block parser. It calls the methods for the parts of a block in text order; each method on
-// statements takes the statements of the block so far. A part that a method rejects ends the parse with that fault.
-// Places are in bytes of the text.
+// statements appends to the statements of the block so far. A part that a method rejects ends the parse with that
+// fault. Places are in bytes of the text.
 //
 // Contracts describe results through `expr`, `cond` and `stmts`, and the methods through `actions`. `memory` is what
 // holds when a method returns `NoMemory`: `⊥` if none does.
@@ -69,16 +69,16 @@ pub(crate) trait BlockReading {
         ensures { stmts result ≡ (actions self.now).none };
 
     // Appends a `skip`.
-    fn skip(&self, list: Self::Stmts) -> Result<Self::Stmts, TextFault>
-        ensures { Makes memory stmts result (Ok ((actions self.now).skip (stmts list))) };
+    fn skip(&self, list: &mut Self::Stmts) -> Result<(), TextFault>
+        ensures { Makes memory (λ u. stmts list.new) result (Ok ((actions self.now).skip (stmts list.old))) };
 
     // Appends an `abort`.
-    fn abort(&self, list: Self::Stmts) -> Result<Self::Stmts, TextFault>
-        ensures { Makes memory stmts result (Ok ((actions self.now).abort (stmts list))) };
+    fn abort(&self, list: &mut Self::Stmts) -> Result<(), TextFault>
+        ensures { Makes memory (λ u. stmts list.new) result (Ok ((actions self.now).abort (stmts list.old))) };
 
     // Appends an `assert`.
-    fn assert(&self, list: Self::Stmts, condition: Self::Cond) -> Result<Self::Stmts, TextFault>
-        ensures { Makes memory stmts result (Ok ((actions self.now).assert (stmts list) (cond condition))) };
+    fn assert(&self, list: &mut Self::Stmts, condition: Self::Cond) -> Result<(), TextFault>
+        ensures { Makes memory (λ u. stmts list.new) result (Ok ((actions self.now).assert (stmts list.old) (cond condition))) };
 
     // Appends the statements of a name, with `depth` open constructs around it.
     fn named(
@@ -86,41 +86,36 @@ pub(crate) trait BlockReading {
         depth: usize,
         at: usize,
         name: &str,
-        list: Self::Stmts,
-    ) -> Result<Self::Stmts, TextFault>
-        ensures { Makes memory stmts result ((actions self.now).named depth at name.now (stmts list)) };
+        list: &mut Self::Stmts,
+    ) -> Result<(), TextFault>
+        ensures { Makes memory (λ u. stmts list.new) result ((actions self.now).named depth at name.now (stmts list.old)) };
 
     // Checks that a name is allowed before `:=`.
     fn check_target(&self, at: usize, name: &str) -> Result<(), TextFault>
         ensures { Makes memory (λ u. u) result ((actions self.now).target at name.now) };
 
     // Appends an assignment to the variable of that name.
-    fn assign(
-        &self,
-        list: Self::Stmts,
-        name: &str,
-        value: Self::Expr,
-    ) -> Result<Self::Stmts, TextFault>
-        ensures { Makes memory stmts result (Ok ((actions self.now).assign (stmts list) name.now (expr value))) };
+    fn assign(&self, list: &mut Self::Stmts, name: &str, value: Self::Expr) -> Result<(), TextFault>
+        ensures { Makes memory (λ u. stmts list.new) result (Ok ((actions self.now).assign (stmts list.old) name.now (expr value))) };
 
     // Appends an `if`.
     fn branch(
         &self,
-        list: Self::Stmts,
+        list: &mut Self::Stmts,
         condition: Self::Cond,
         first: Self::Stmts,
         second: Self::Stmts,
-    ) -> Result<Self::Stmts, TextFault>
-        ensures { Makes memory stmts result (Ok ((actions self.now).branch (stmts list) (cond condition) (stmts first) (stmts second))) };
+    ) -> Result<(), TextFault>
+        ensures { Makes memory (λ u. stmts list.new) result (Ok ((actions self.now).branch (stmts list.old) (cond condition) (stmts first) (stmts second))) };
 
     // Appends a `while`.
     fn turn(
         &self,
-        list: Self::Stmts,
+        list: &mut Self::Stmts,
         condition: Self::Cond,
         body: Self::Stmts,
-    ) -> Result<Self::Stmts, TextFault>
-        ensures { Makes memory stmts result (Ok ((actions self.now).turn (stmts list) (cond condition) (stmts body))) };
+    ) -> Result<(), TextFault>
+        ensures { Makes memory (λ u. stmts list.new) result (Ok ((actions self.now).turn (stmts list.old) (cond condition) (stmts body))) };
 
     // Encloses the statements of a block in braces.
     fn braced(&self, list: Self::Stmts) -> Self::Stmts

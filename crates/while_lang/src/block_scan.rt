@@ -62,19 +62,19 @@ impl BlockReading for BlockScan {
 
     fn none(&self) {}
 
-    fn skip(&self, _: ()) -> Result<(), TextFault> {
+    fn skip(&self, _: &mut ()) -> Result<(), TextFault> {
         Ok(())
     }
 
-    fn abort(&self, _: ()) -> Result<(), TextFault> {
+    fn abort(&self, _: &mut ()) -> Result<(), TextFault> {
         Ok(())
     }
 
-    fn assert(&self, _: (), _: ()) -> Result<(), TextFault> {
+    fn assert(&self, _: &mut (), _: ()) -> Result<(), TextFault> {
         Ok(())
     }
 
-    fn named(&self, _: usize, _: usize, _: &str, _: ()) -> Result<(), TextFault> {
+    fn named(&self, _: usize, _: usize, _: &str, _: &mut ()) -> Result<(), TextFault> {
         Ok(())
     }
 
@@ -82,15 +82,15 @@ impl BlockReading for BlockScan {
         Ok(())
     }
 
-    fn assign(&self, _: (), _: &str, _: ()) -> Result<(), TextFault> {
+    fn assign(&self, _: &mut (), _: &str, _: ()) -> Result<(), TextFault> {
         Ok(())
     }
 
-    fn branch(&self, _: (), _: (), _: (), _: ()) -> Result<(), TextFault> {
+    fn branch(&self, _: &mut (), _: (), _: (), _: ()) -> Result<(), TextFault> {
         Ok(())
     }
 
-    fn turn(&self, _: (), _: (), _: ()) -> Result<(), TextFault> {
+    fn turn(&self, _: &mut (), _: (), _: ()) -> Result<(), TextFault> {
         Ok(())
     }
 

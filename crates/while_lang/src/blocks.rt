@@ -1,9 +1,10 @@
 //! The block parser, for any semantic actions.
 ghost use Rattle.std.specs.Prelude.{◌≡◌, ℕ, ◌+◌, ◌<◌, ◌≤◌, length, drop, Ok, IfOk};
-ghost use Rattle.text_grammar.specs.Lexemes.{lexemes, text_at, is_terminal};
-ghost use Rattle.text_grammar.specs.Parsed.{Reads, Goes, Wants, wants, change};
+ghost use Rattle.text_grammar.specs.Lexemes.{lexemes, text_at};
+ghost use Rattle.text_grammar.specs.Parsed.{Reads, Goes, change};
 ghost use Rattle.while_lang.specs.Blocks.{enter, block, stmts_after, stmt_after, branch_after, parse_block};
 ghost use Rattle.while_lang.specs.Blocks.{cond_by, then_semicolon, assign_by, named_by, loop_by, else_by};
+ghost use Rattle.while_lang.specs.Working.Appending.{Appends, EndsAfter};
 
 use crate::block_reading::BlockReading;
 use kat_model::MAX_OPEN;
@@ -57,61 +58,46 @@ fn stmts<R: BlockReading>(
     let mut list = reading.none();
     let mut at = from;
     'stmts: while !is_at(toks, at, Terminal::Separator(Separator::CurlyClose)) {
-        let (more, next) = stmt(reading, toks, at, depth, list)?;
-        list = more;
-        at = next;
+        at = stmt(reading, toks, at, depth, &mut list)?;
     }
     Ok((list, at + 1))
 }
 
-// Reads a statement and appends it to the list.
+// Reads a statement and appends it to the list. Returns the index after it.
 #[cycle(blocks)]
 fn stmt<R: BlockReading>(
     reading: &R,
     toks: &[Token],
     from: usize,
     depth: usize,
-    list: R::Stmts,
-) -> Result<(R::Stmts, usize), TextFault>
-    ensures value { Reads R.memory R.stmts (lexemes toks.now) result (parse_block (R.actions reading.now) (stmt_after (R.stmts list)) depth (drop from (lexemes toks.now))) }
-    ensures goes { Goes from (length toks.now) result }
+    list: &mut R::Stmts,
+) -> Result<usize, TextFault>
+    ensures value { Appends R.memory (R.stmts list.new) (lexemes toks.now) result (parse_block (R.actions reading.now) (stmt_after (R.stmts list.old)) depth (drop from (lexemes toks.now))) }
+    ensures goes { IfOk result (λ end. (from < end) × (end ≤ length toks.now)) }
 {
     let Some((terminal, at)) = terminal_at(toks, from) else {
         return Err(syntax_fault_at(toks, from));
     };
+    let next = from + 1;
     match terminal {
-        Terminal::Keyword(Keyword::Skip) => ended(toks, from + 1, reading.skip(list)?),
-        Terminal::Keyword(Keyword::Abort) => ended(toks, from + 1, reading.abort(list)?),
-        Terminal::Keyword(Keyword::Assert) => assertion(reading, toks, from + 1, depth, list),
-        Terminal::Keyword(Keyword::If) => branch(reading, toks, from + 1, depth, list),
-        Terminal::Keyword(Keyword::While) => turn(reading, toks, from + 1, depth, list),
-        Terminal::Name => name_statement(
-            reading,
-            toks,
-            from + 1,
-            depth,
-            list,
-            at,
-            text_at(toks, from),
-        ),
+        Terminal::Keyword(Keyword::Skip) => ended(reading.skip(list), toks, next),
+        Terminal::Keyword(Keyword::Abort) => ended(reading.abort(list), toks, next),
+        Terminal::Keyword(Keyword::Assert) => assertion(reading, toks, next, depth, list),
+        Terminal::Keyword(Keyword::If) => branch(reading, toks, next, depth, list),
+        Terminal::Keyword(Keyword::While) => turn(reading, toks, next, depth, list),
+        Terminal::Name => {
+            name_statement(reading, toks, next, depth, list, at, text_at(toks, from))
+        }
         _ => Err(TextFault::Syntax(at)),
     }
 }
 
-fn semicolon(toks: &[Token], i: usize) -> Result<usize, TextFault>
-    ensures value { Wants (lexemes toks.now) result (wants (is_terminal (Terminal.Separator Separator.Semicolon)) (drop i (lexemes toks.now))) }
-    ensures goes { IfOk result (λ end. (end ≡ i + 1) × (i < length toks.now)) }
+// Reads the semicolon after a statement, which was appended if `made` is `Ok`. Returns the index after it.
+fn ended(made: Result<(), TextFault>, toks: &[Token], from: usize) -> Result<usize, TextFault>
+    ensures value { EndsAfter (lexemes toks.now) made result (drop from (lexemes toks.now)) }
+    ensures goes { IfOk result (λ end. (end ≡ from + 1) × (from < length toks.now)) }
 {
-    expect(toks, i, Terminal::Separator(Separator::Semicolon))
-}
-
-// Reads the semicolon after a statement, which is the last of the list.
-fn ended<S: Drop>(toks: &[Token], from: usize, list: S) -> Result<(S, usize), TextFault>
-    ensures value { Reads ⊥ (λ s. s) (lexemes toks.now) result (then_semicolon (Ok (list, drop from (lexemes toks.now)))) }
-    ensures goes { Goes from (length toks.now) result }
-{
-    let end = semicolon(toks, from)?;
-    Ok((list, end))
+    made.and(expect(toks, from, Terminal::Separator(Separator::Semicolon)))
 }
 
 // Reads an assertion from the token after its keyword, and appends it to the list.
@@ -120,14 +106,13 @@ fn assertion<R: BlockReading>(
     toks: &[Token],
     from: usize,
     depth: usize,
-    list: R::Stmts,
-) -> Result<(R::Stmts, usize), TextFault>
-    ensures value { Reads R.memory R.stmts (lexemes toks.now) result (change ((R.actions reading.now).assert (R.stmts list)) (then_semicolon (cond_by (R.actions reading.now) depth (drop from (lexemes toks.now))))) }
-    ensures goes { Goes from (length toks.now) result }
+    list: &mut R::Stmts,
+) -> Result<usize, TextFault>
+    ensures value { Appends R.memory (R.stmts list.new) (lexemes toks.now) result (change ((R.actions reading.now).assert (R.stmts list.old)) (then_semicolon (cond_by (R.actions reading.now) depth (drop from (lexemes toks.now))))) }
+    ensures goes { IfOk result (λ end. (from < end) × (end ≤ length toks.now)) }
 {
     let (cond, end) = reading.read_cond(toks, from, depth)?;
-    let end = semicolon(toks, end)?;
-    Ok((reading.assert(list, cond)?, end))
+    ended(reading.assert(list, cond), toks, end)
 }
 
 // Reads a loop from the token after its keyword, and appends it to the list.
@@ -137,14 +122,14 @@ fn turn<R: BlockReading>(
     toks: &[Token],
     from: usize,
     depth: usize,
-    list: R::Stmts,
-) -> Result<(R::Stmts, usize), TextFault>
-    ensures value { Reads R.memory R.stmts (lexemes toks.now) result (loop_by (R.actions reading.now) (parse_block (R.actions reading.now)) (R.stmts list) depth (drop from (lexemes toks.now))) }
-    ensures goes { Goes from (length toks.now) result }
+    list: &mut R::Stmts,
+) -> Result<usize, TextFault>
+    ensures value { Appends R.memory (R.stmts list.new) (lexemes toks.now) result (loop_by (R.actions reading.now) (parse_block (R.actions reading.now)) (R.stmts list.old) depth (drop from (lexemes toks.now))) }
+    ensures goes { IfOk result (λ end. (from < end) × (end ≤ length toks.now)) }
 {
     let (cond, end) = reading.read_cond(toks, from, depth)?;
     let (body, end) = read_block(reading, toks, end, depth)?;
-    Ok((reading.turn(list, cond, body)?, end))
+    reading.turn(list, cond, body).and(Ok(end))
 }
 
 // Reads a statement that begins with a name, from the token after the name.
@@ -153,17 +138,17 @@ fn name_statement<R: BlockReading>(
     toks: &[Token],
     from: usize,
     depth: usize,
-    list: R::Stmts,
+    list: &mut R::Stmts,
     at: usize,
     name: &str,
-) -> Result<(R::Stmts, usize), TextFault>
-    ensures value { Reads R.memory R.stmts (lexemes toks.now) result (named_by (R.actions reading.now) (R.stmts list) depth at name.now (drop from (lexemes toks.now))) }
-    ensures goes { Goes from (length toks.now) result }
+) -> Result<usize, TextFault>
+    ensures value { Appends R.memory (R.stmts list.new) (lexemes toks.now) result (named_by (R.actions reading.now) (R.stmts list.old) depth at name.now (drop from (lexemes toks.now))) }
+    ensures goes { IfOk result (λ end. (from < end) × (end ≤ length toks.now)) }
 {
     if is_at(toks, from, Terminal::Separator(Separator::Becomes)) {
         return assignment(reading, toks, from + 1, depth, list, at, name);
     }
-    ended(toks, from, reading.named(depth, at, name, list)?)
+    ended(reading.named(depth, at, name, list), toks, from)
 }
 
 // Reads an assignment to the name, from the token after `:=`.
@@ -172,17 +157,16 @@ fn assignment<R: BlockReading>(
     toks: &[Token],
     from: usize,
     depth: usize,
-    list: R::Stmts,
+    list: &mut R::Stmts,
     at: usize,
     name: &str,
-) -> Result<(R::Stmts, usize), TextFault>
-    ensures value { Reads R.memory R.stmts (lexemes toks.now) result (assign_by (R.actions reading.now) (R.stmts list) depth at name.now (drop from (lexemes toks.now))) }
-    ensures goes { Goes from (length toks.now) result }
+) -> Result<usize, TextFault>
+    ensures value { Appends R.memory (R.stmts list.new) (lexemes toks.now) result (assign_by (R.actions reading.now) (R.stmts list.old) depth at name.now (drop from (lexemes toks.now))) }
+    ensures goes { IfOk result (λ end. (from < end) × (end ≤ length toks.now)) }
 {
     reading.check_target(at, name)?;
     let (expr, end) = reading.read_expr(toks, from, depth)?;
-    let end = semicolon(toks, end)?;
-    Ok((reading.assign(list, name, expr)?, end))
+    ended(reading.assign(list, name, expr), toks, end)
 }
 
 // Reads a statement from the token after its `if`, and appends it to the list.
@@ -192,15 +176,15 @@ fn branch<R: BlockReading>(
     toks: &[Token],
     from: usize,
     depth: usize,
-    list: R::Stmts,
-) -> Result<(R::Stmts, usize), TextFault>
-    ensures value { Reads R.memory R.stmts (lexemes toks.now) result (parse_block (R.actions reading.now) (branch_after (R.stmts list)) depth (drop from (lexemes toks.now))) }
-    ensures goes { Goes from (length toks.now) result }
+    list: &mut R::Stmts,
+) -> Result<usize, TextFault>
+    ensures value { Appends R.memory (R.stmts list.new) (lexemes toks.now) result (parse_block (R.actions reading.now) (branch_after (R.stmts list.old)) depth (drop from (lexemes toks.now))) }
+    ensures goes { IfOk result (λ end. (from < end) × (end ≤ length toks.now)) }
 {
     let (cond, end) = reading.read_cond(toks, from, depth)?;
     let (first, end) = read_block(reading, toks, end, depth)?;
     let (second, end) = otherwise(reading, toks, end, depth)?;
-    Ok((reading.branch(list, cond, first, second)?, end))
+    reading.branch(list, cond, first, second).and(Ok(end))
 }
 
 // Reads the second block of an `if`. Also returns the index after it.
@@ -222,6 +206,7 @@ fn otherwise<R: BlockReading>(
         return read_block(reading, toks, from + 1, depth);
     }
     let inside = enter(depth, place_at(toks, from + 1))?;
-    let (list, end) = branch(reading, toks, from + 2, inside, reading.none())?;
+    let mut list = reading.none();
+    let end = branch(reading, toks, from + 2, inside, &mut list)?;
     Ok((reading.chained(list), end))
 }

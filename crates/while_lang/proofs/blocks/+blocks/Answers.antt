@@ -1,4 +1,4 @@
-use Rattle.std.proofs.Common.{◌≡◌, ◌+◌, [], drop, Ok, Err, refl, sym, subst, arith}
+use Rattle.std.proofs.Common.{◌≡◌, ◌+◌, ◌<◌, ◌≤◌, [], length, drop, Ok, Err, refl, sym, subst, arith}
 use Rattle.text_grammar.specs.declared.terminal.Terminal.TheVariants.{Separator}
 use Rattle.text_grammar.specs.declared.terminal.Keyword.TheVariants as word
 use Rattle.text_grammar.specs.declared.terminal.Separator.TheVariants.{CurlyOpen}
@@ -7,9 +7,10 @@ use Rattle.text_grammar.specs.Parsed.{Reads, wants, place_of}
 use Rattle.text_grammar.proofs.NamedFaults.{wants_named}
 use Rattle.text_grammar.proofs.Tokens.{next_drop}
 use Rattle.while_lang.specs.Blocks.{enter, block, stmts_after, stmt_after, branch_after, cond_by, loop_by, else_by, parse_block}
+use Rattle.while_lang.specs.Working.Appending.{Appends}
 use Rattle.while_lang.proofs.BlockSteps.{stmt_after_step}
-use Rattle.while_lang.proofs.BlockFaults.{enter_named, entered, part_fails, action_fails, check_fails}
-use Rattle.while_lang.proofs.BlockParts.{next_two, block_closed, block_deep, block_fails, block_made, stmts_end, stmts_fail, stmts_go, skip_seen, abort_seen, assert_seen, if_seen, while_seen, name_seen, else_none, else_block, else_deep, else_fails, else_made, branch_unread, branch_first, branch_second, branch_made, loop_unread, loop_fails, loop_made, ended_reads}
+use Rattle.while_lang.proofs.BlockFaults.{enter_named, entered, part_fails, append_fails, check_fails, part_stops}
+use Rattle.while_lang.proofs.BlockParts.{next_two, block_closed, block_deep, block_fails, block_made, stmts_end, stmts_fail, stmts_go, skip_seen, abort_seen, assert_seen, if_seen, while_seen, name_seen, else_none, else_block, else_deep, else_fails, else_made, branch_unread, branch_first, branch_second, branch_made, loop_unread, loop_fails, loop_made, passed, made_appends, ended_appends}
 use Rattle.while_lang.proofs.blocks.+blocks.Goals as goal
 
 pub read_block-returns-in_err-next-clause-value : goal.read_block-returns-in_err-next-clause-value
@@ -54,15 +55,15 @@ pub stmts-stmts-init : goal.stmts-stmts-init
 stmts-stmts-init g t c =
     record { place = omega arith; value = rw (c.none-list.ensures) refl }
 
-pub stmts-returns-in_err-more-clause-value : goal.stmts-returns-in_err-more-clause-value
-stmts-returns-in_err-more-clause-value g t c =
+pub stmts-returns-in_err-at-clause-value : goal.stmts-returns-in_err-at-clause-value
+stmts-returns-in_err-at-clause-value g t c =
     let a = g.R.BlockReading.actions c.args.reading.now in
     let all = lexemes c.args.toks.now in
     let us = drop c.stmts.at all in
     let s = g.R.BlockReading.stmts c.stmts.list in
     let whole = parse_block a (stmts_after a.none) c.args.depth (drop c.args.from all) in
-    part_fails g.R.BlockReading.memory g.R.BlockReading.stmts all whole c.in_err-more.field-0.0 c.from_residual.result c.from_residual.ensures.1 g.R.BlockReading.stmts (parse_block a (stmt_after s) c.args.depth us) c.in_err-more.ensures.value
-    (stmts_fail a c.args.depth us s whole c.stmts.invariant.value (sym c.stmts-test.ensures.value) c.in_err-more.field-0.0)
+    append_fails g.R.BlockReading.memory g.R.BlockReading.stmts all whole c.in_err-at.field-0.0 c.from_residual.result c.from_residual.ensures.1 (g.R.BlockReading.stmts c.stmt.new.list) (parse_block a (stmt_after s) c.args.depth us) c.in_err-at.ensures.value
+    (stmts_fail a c.args.depth us s whole c.stmts.invariant.value (sym c.stmts-test.ensures.value) c.in_err-at.field-0.0)
 
 pub stmts-stmts-preserved : goal.stmts-stmts-preserved
 stmts-stmts-preserved g t c =
@@ -72,8 +73,8 @@ stmts-stmts-preserved g t c =
     let s = g.R.BlockReading.stmts c.stmts.list in
     let whole = parse_block a (stmts_after a.none) c.args.depth (drop c.args.from all) in
     record {
-      place = omega (arith, c.stmts.invariant.place, c.in_ok-more.ensures.goes.0);
-      value = stmts_go a c.args.depth us s whole c.stmts.invariant.value (sym c.stmts-test.ensures.value) (g.R.BlockReading.stmts c.in_ok-more.more, drop c.in_ok-more.next all) c.in_ok-more.ensures.value;
+      place = omega (arith, c.stmts.invariant.place, c.in_ok-at.ensures.goes.0);
+      value = stmts_go a c.args.depth us s whole c.stmts.invariant.value (sym c.stmts-test.ensures.value) (g.R.BlockReading.stmts c.stmt.new.list, drop c.in_ok-at.at all) c.in_ok-at.ensures.value;
     }
 
 pub stmts-returns-clause-value : goal.stmts-returns-clause-value
@@ -90,8 +91,8 @@ branch-returns-in_err-cond-clause-value g t c =
     let a = g.R.BlockReading.actions c.args.reading.now in
     let all = lexemes c.args.toks.now in
     let ts = drop c.args.from all in
-    let s = g.R.BlockReading.stmts c.args.list in
-    part_fails g.R.BlockReading.memory g.R.BlockReading.stmts all (parse_block a (branch_after s) c.args.depth ts) c.in_err-cond.field-0.0 c.from_residual.result c.from_residual.ensures.1 g.R.BlockReading.cond (cond_by a c.args.depth ts) c.in_err-cond.ensures.value
+    let s = g.R.BlockReading.stmts c.args.list.now in
+    part_stops g.R.BlockReading.memory (g.R.BlockReading.stmts c.args.list.now) all (parse_block a (branch_after s) c.args.depth ts) c.in_err-cond.field-0.0 c.from_residual.result c.from_residual.ensures.1 g.R.BlockReading.cond (cond_by a c.args.depth ts) c.in_err-cond.ensures.value
     (branch_unread a c.args.depth ts s c.in_err-cond.field-0.0)
 
 pub branch-returns-in_err-first-clause-value : goal.branch-returns-in_err-first-clause-value
@@ -99,8 +100,8 @@ branch-returns-in_err-first-clause-value g t c =
     let a = g.R.BlockReading.actions c.args.reading.now in
     let all = lexemes c.args.toks.now in
     let ts = drop c.args.from all in
-    let s = g.R.BlockReading.stmts c.args.list in
-    part_fails g.R.BlockReading.memory g.R.BlockReading.stmts all (parse_block a (branch_after s) c.args.depth ts) c.in_err-first.field-0.0 c.from_residual-in_err-first.result c.from_residual-in_err-first.ensures.1 g.R.BlockReading.stmts (parse_block a block c.args.depth (drop c.in_ok-cond.end all)) c.in_err-first.ensures.value
+    let s = g.R.BlockReading.stmts c.args.list.now in
+    part_stops g.R.BlockReading.memory (g.R.BlockReading.stmts c.args.list.now) all (parse_block a (branch_after s) c.args.depth ts) c.in_err-first.field-0.0 c.from_residual-in_err-first.result c.from_residual-in_err-first.ensures.1 g.R.BlockReading.stmts (parse_block a block c.args.depth (drop c.in_ok-cond.end all)) c.in_err-first.ensures.value
     (branch_first a c.args.depth ts s (g.R.BlockReading.cond c.in_ok-cond.cond, drop c.in_ok-cond.end all) c.in_ok-cond.ensures.value c.in_err-first.field-0.0)
 
 pub branch-returns-in_err-second-clause-value : goal.branch-returns-in_err-second-clause-value
@@ -108,26 +109,25 @@ branch-returns-in_err-second-clause-value g t c =
     let a = g.R.BlockReading.actions c.args.reading.now in
     let all = lexemes c.args.toks.now in
     let ts = drop c.args.from all in
-    let s = g.R.BlockReading.stmts c.args.list in
-    part_fails g.R.BlockReading.memory g.R.BlockReading.stmts all (parse_block a (branch_after s) c.args.depth ts) c.in_err-second.field-0.0 c.from_residual-in_err-second.result c.from_residual-in_err-second.ensures.1 g.R.BlockReading.stmts (else_by a (parse_block a) c.args.depth (drop c.in_ok-first.end all)) c.in_err-second.ensures.value
+    let s = g.R.BlockReading.stmts c.args.list.now in
+    part_stops g.R.BlockReading.memory (g.R.BlockReading.stmts c.args.list.now) all (parse_block a (branch_after s) c.args.depth ts) c.in_err-second.field-0.0 c.from_residual-in_err-second.result c.from_residual-in_err-second.ensures.1 g.R.BlockReading.stmts (else_by a (parse_block a) c.args.depth (drop c.in_ok-first.end all)) c.in_err-second.ensures.value
     (branch_second a c.args.depth ts s (g.R.BlockReading.cond c.in_ok-cond.cond, drop c.in_ok-cond.end all) c.in_ok-cond.ensures.value (g.R.BlockReading.stmts c.in_ok-first.first, drop c.in_ok-first.end all) c.in_ok-first.ensures.value c.in_err-second.field-0.0)
-
-pub branch-returns-in_err-branch-clause-value : goal.branch-returns-in_err-branch-clause-value
-branch-returns-in_err-branch-clause-value g t c =
-    let a = g.R.BlockReading.actions c.args.reading.now in
-    let all = lexemes c.args.toks.now in
-    let ts = drop c.args.from all in
-    let s = g.R.BlockReading.stmts c.args.list in
-    action_fails g.R.BlockReading.memory g.R.BlockReading.stmts all (parse_block a (branch_after s) c.args.depth ts) c.in_err-branch.field-0.0 c.from_residual-in_err-branch.result c.from_residual-in_err-branch.ensures.1 g.R.BlockReading.stmts (Ok (a.branch s (g.R.BlockReading.cond c.in_ok-cond.cond) (g.R.BlockReading.stmts c.in_ok-first.first) (g.R.BlockReading.stmts c.in_ok-second.second))) c.in_err-branch.ensures (λ h. absurd cc)
 
 pub branch-returns-clause-value : goal.branch-returns-clause-value
 branch-returns-clause-value g t c =
     let a = g.R.BlockReading.actions c.args.reading.now in
     let all = lexemes c.args.toks.now in
     let ts = drop c.args.from all in
-    let s = g.R.BlockReading.stmts c.args.list in
-    branch_made a c.args.depth ts s (g.R.BlockReading.cond c.in_ok-cond.cond, drop c.in_ok-cond.end all) c.in_ok-cond.ensures.value (g.R.BlockReading.stmts c.in_ok-first.first, drop c.in_ok-first.end all) c.in_ok-first.ensures.value
-    (g.R.BlockReading.stmts c.in_ok-second.second, drop c.in_ok-second.end all) c.in_ok-second.ensures.value _ c.in_ok-branch.ensures
+    let s = g.R.BlockReading.stmts c.args.list.now in
+    let b = g.R.BlockReading.cond c.in_ok-cond.cond in
+    let first = g.R.BlockReading.stmts c.in_ok-first.first in
+    let second = g.R.BlockReading.stmts c.in_ok-second.second in
+    made_appends g.R.BlockReading.memory (g.R.BlockReading.stmts c.branch-reading.new.list) (a.branch s b first second) all c.in_ok-second.end c.branch-reading.result c.and.result (parse_block a (branch_after s) c.args.depth ts) c.and.ensures c.branch-reading.ensures
+    (branch_made a c.args.depth ts s (b, drop c.in_ok-cond.end all) c.in_ok-cond.ensures.value (first, drop c.in_ok-first.end all) c.in_ok-first.ensures.value (second, drop c.in_ok-second.end all) c.in_ok-second.ensures.value)
+
+pub branch-returns-clause-goes : goal.branch-returns-clause-goes
+branch-returns-clause-goes g t c =
+    passed (λ end. (c.args.from < end) × (end ≤ length c.args.toks.now)) c.branch-reading.result (Ok c.in_ok-second.end) c.and.result c.and.ensures (omega (arith, c.in_ok-cond.ensures.goes.0, c.in_ok-first.ensures.goes.0, c.in_ok-second.ensures.goes), c.in_ok-second.ensures.within c.in_ok-first.ensures.goes.1)
 
 pub otherwise-returns-then-not-is_at-clause-value : goal.otherwise-returns-then-not-is_at-clause-value
 otherwise-returns-then-not-is_at-clause-value g t c =
@@ -154,16 +154,16 @@ otherwise-returns-in_err-inside-clause-value g t c =
     check_fails g.R.BlockReading.memory g.R.BlockReading.stmts all (else_by a (parse_block a) c.args.depth ts) c.in_err-inside.field-0.0 c.from_residual.result c.from_residual.ensures.1 (enter c.args.depth (place_of us)) (enter_named c.args.depth (place_of us)) told
     (else_deep a c.args.depth ts (sym c.if-not-is_at.ensures.value) us (next_drop c.args.from all) (sym c.if-not-is_at-2.ensures.value) c.in_err-inside.field-0.0 told)
 
-pub otherwise-returns-in_err-list-clause-value : goal.otherwise-returns-in_err-list-clause-value
-otherwise-returns-in_err-list-clause-value g t c =
+pub otherwise-returns-in_err-end-clause-value : goal.otherwise-returns-in_err-end-clause-value
+otherwise-returns-in_err-end-clause-value g t c =
     let a = g.R.BlockReading.actions c.args.reading.now in
     let all = lexemes c.args.toks.now in
     let ts = drop c.args.from all in
     let us = drop (c.args.from + 1) all in
     let inside = entered c.args.depth (place_of us) c.place_at.result (Ok c.in_ok-inside.inside) c.place_at.ensures c.in_ok-inside.ensures in
-    let s = g.R.BlockReading.stmts c.none-2.result in
-    part_fails g.R.BlockReading.memory g.R.BlockReading.stmts all (else_by a (parse_block a) c.args.depth ts) c.in_err-list.field-0.0 c.from_residual-in_err-list.result c.from_residual-in_err-list.ensures.1 g.R.BlockReading.stmts (parse_block a (branch_after s) c.in_ok-inside.inside (drop (c.args.from + 2) all)) c.in_err-list.ensures.value
-    (else_fails a c.args.depth ts (sym c.if-not-is_at.ensures.value) us (next_drop c.args.from all) (sym c.if-not-is_at-2.ensures.value) c.in_ok-inside.inside inside (drop (c.args.from + 2) all) (next_two c.args.from all) s c.none-2.ensures c.in_err-list.field-0.0)
+    let s = g.R.BlockReading.stmts c.none-list.result in
+    append_fails g.R.BlockReading.memory g.R.BlockReading.stmts all (else_by a (parse_block a) c.args.depth ts) c.in_err-end.field-0.0 c.from_residual-in_err-end.result c.from_residual-in_err-end.ensures.1 (g.R.BlockReading.stmts c.branch-reading.new.list) (parse_block a (branch_after s) c.in_ok-inside.inside (drop (c.args.from + 2) all)) c.in_err-end.ensures.value
+    (else_fails a c.args.depth ts (sym c.if-not-is_at.ensures.value) us (next_drop c.args.from all) (sym c.if-not-is_at-2.ensures.value) c.in_ok-inside.inside inside (drop (c.args.from + 2) all) (next_two c.args.from all) s c.none-list.ensures c.in_err-end.field-0.0)
 
 pub otherwise-returns-clause-value : goal.otherwise-returns-clause-value
 otherwise-returns-clause-value g t c =
@@ -172,17 +172,17 @@ otherwise-returns-clause-value g t c =
     let ts = drop c.args.from all in
     let us = drop (c.args.from + 1) all in
     let inside = entered c.args.depth (place_of us) c.place_at.result (Ok c.in_ok-inside.inside) c.place_at.ensures c.in_ok-inside.ensures in
-    let s = g.R.BlockReading.stmts c.none-2.result in
+    let s = g.R.BlockReading.stmts c.none-list.result in
     rw (c.chained.ensures)
-    (else_made a c.args.depth ts (sym c.if-not-is_at.ensures.value) us (next_drop c.args.from all) (sym c.if-not-is_at-2.ensures.value) c.in_ok-inside.inside inside (drop (c.args.from + 2) all) (next_two c.args.from all) s c.none-2.ensures (g.R.BlockReading.stmts c.in_ok-list.list, drop c.in_ok-list.end all) c.in_ok-list.ensures.value)
+    (else_made a c.args.depth ts (sym c.if-not-is_at.ensures.value) us (next_drop c.args.from all) (sym c.if-not-is_at-2.ensures.value) c.in_ok-inside.inside inside (drop (c.args.from + 2) all) (next_two c.args.from all) s c.none-list.ensures (g.R.BlockReading.stmts c.branch-reading.new.list, drop c.in_ok-end.end all) c.in_ok-end.ensures.value)
 
 pub turn-returns-in_err-cond-clause-value : goal.turn-returns-in_err-cond-clause-value
 turn-returns-in_err-cond-clause-value g t c =
     let a = g.R.BlockReading.actions c.args.reading.now in
     let all = lexemes c.args.toks.now in
     let ts = drop c.args.from all in
-    let s = g.R.BlockReading.stmts c.args.list in
-    part_fails g.R.BlockReading.memory g.R.BlockReading.stmts all (loop_by a (parse_block a) s c.args.depth ts) c.in_err-cond.field-0.0 c.from_residual.result c.from_residual.ensures.1 g.R.BlockReading.cond (cond_by a c.args.depth ts) c.in_err-cond.ensures.value
+    let s = g.R.BlockReading.stmts c.args.list.now in
+    part_stops g.R.BlockReading.memory (g.R.BlockReading.stmts c.args.list.now) all (loop_by a (parse_block a) s c.args.depth ts) c.in_err-cond.field-0.0 c.from_residual.result c.from_residual.ensures.1 g.R.BlockReading.cond (cond_by a c.args.depth ts) c.in_err-cond.ensures.value
     (loop_unread a c.args.depth ts s c.in_err-cond.field-0.0)
 
 pub turn-returns-in_err-body-clause-value : goal.turn-returns-in_err-body-clause-value
@@ -190,30 +190,28 @@ turn-returns-in_err-body-clause-value g t c =
     let a = g.R.BlockReading.actions c.args.reading.now in
     let all = lexemes c.args.toks.now in
     let ts = drop c.args.from all in
-    let s = g.R.BlockReading.stmts c.args.list in
-    part_fails g.R.BlockReading.memory g.R.BlockReading.stmts all (loop_by a (parse_block a) s c.args.depth ts) c.in_err-body.field-0.0 c.from_residual-in_err-body.result c.from_residual-in_err-body.ensures.1 g.R.BlockReading.stmts (parse_block a block c.args.depth (drop c.in_ok-cond.end all)) c.in_err-body.ensures.value
+    let s = g.R.BlockReading.stmts c.args.list.now in
+    part_stops g.R.BlockReading.memory (g.R.BlockReading.stmts c.args.list.now) all (loop_by a (parse_block a) s c.args.depth ts) c.in_err-body.field-0.0 c.from_residual-in_err-body.result c.from_residual-in_err-body.ensures.1 g.R.BlockReading.stmts (parse_block a block c.args.depth (drop c.in_ok-cond.end all)) c.in_err-body.ensures.value
     (loop_fails a c.args.depth ts s (g.R.BlockReading.cond c.in_ok-cond.cond, drop c.in_ok-cond.end all) c.in_ok-cond.ensures.value c.in_err-body.field-0.0)
-
-pub turn-returns-in_err-turn-clause-value : goal.turn-returns-in_err-turn-clause-value
-turn-returns-in_err-turn-clause-value g t c =
-    let a = g.R.BlockReading.actions c.args.reading.now in
-    let all = lexemes c.args.toks.now in
-    let ts = drop c.args.from all in
-    let s = g.R.BlockReading.stmts c.args.list in
-    action_fails g.R.BlockReading.memory g.R.BlockReading.stmts all (loop_by a (parse_block a) s c.args.depth ts) c.in_err-turn.field-0.0 c.from_residual-in_err-turn.result c.from_residual-in_err-turn.ensures.1 g.R.BlockReading.stmts (Ok (a.turn s (g.R.BlockReading.cond c.in_ok-cond.cond) (g.R.BlockReading.stmts c.in_ok-body.body))) c.in_err-turn.ensures (λ h. absurd cc)
 
 pub turn-returns-clause-value : goal.turn-returns-clause-value
 turn-returns-clause-value g t c =
     let a = g.R.BlockReading.actions c.args.reading.now in
     let all = lexemes c.args.toks.now in
     let ts = drop c.args.from all in
-    let s = g.R.BlockReading.stmts c.args.list in
-    loop_made a c.args.depth ts s (g.R.BlockReading.cond c.in_ok-cond.cond, drop c.in_ok-cond.end all) c.in_ok-cond.ensures.value
-    (g.R.BlockReading.stmts c.in_ok-body.body, drop c.in_ok-body.end all) c.in_ok-body.ensures.value _ c.in_ok-turn.ensures
+    let s = g.R.BlockReading.stmts c.args.list.now in
+    let b = g.R.BlockReading.cond c.in_ok-cond.cond in
+    let body = g.R.BlockReading.stmts c.in_ok-body.body in
+    made_appends g.R.BlockReading.memory (g.R.BlockReading.stmts c.turn.new.list) (a.turn s b body) all c.in_ok-body.end c.turn.result c.and.result (loop_by a (parse_block a) s c.args.depth ts) c.and.ensures c.turn.ensures
+    (loop_made a c.args.depth ts s (b, drop c.in_ok-cond.end all) c.in_ok-cond.ensures.value (body, drop c.in_ok-body.end all) c.in_ok-body.ensures.value)
+
+pub turn-returns-clause-goes : goal.turn-returns-clause-goes
+turn-returns-clause-goes g t c =
+    passed (λ end. (c.args.from < end) × (end ≤ length c.args.toks.now)) c.turn.result (Ok c.in_ok-body.end) c.and.result c.and.ensures (omega (arith, c.in_ok-cond.ensures.goes.0, c.in_ok-body.ensures.goes.0), c.in_ok-body.ensures.goes.1)
 
 pub stmt-returns-in_default-clause-value : goal.stmt-returns-in_default-clause-value
 stmt-returns-in_default-clause-value g t c =
-    rw (c.syntax_fault_at.ensures, c.in_default.ensures.0) (stmt_after_step (g.R.BlockReading.actions c.args.reading.now) (g.R.BlockReading.stmts c.args.list) c.args.depth [])
+    rw (c.syntax_fault_at.ensures, c.in_default.ensures.0) (stmt_after_step (g.R.BlockReading.actions c.args.reading.now) (g.R.BlockReading.stmts c.args.list.now) c.args.depth [])
 
 pub stmt-returns-in-Keyword-Assert-clause-value : goal.stmt-returns-in-Keyword-Assert-clause-value
 stmt-returns-in-Keyword-Assert-clause-value g t c =
@@ -221,9 +219,9 @@ stmt-returns-in-Keyword-Assert-clause-value g t c =
     let all = lexemes c.args.toks.now in
     let ts = drop c.args.from all in
     let us = drop (c.args.from + 1) all in
-    let s = g.R.BlockReading.stmts c.args.list in
+    let s = g.R.BlockReading.stmts c.args.list.now in
     let k : c.in-Keyword-Assert.field-0 ≡ word.Assert = rw (c.in-Keyword-Assert.is) at c.in-Keyword-Assert.field-0-is in
-    subst (λ m. Reads g.R.BlockReading.memory g.R.BlockReading.stmts all c.assertion.result m) (sym (assert_seen a c.args.depth ts s c.in-Some.at (text_at c.args.toks.now c.args.from) us c.in-Some.terminal c.in-Some.ensures.0 c.in-Keyword-Assert.field-0 c.in-Keyword-Assert.is k)) c.assertion.ensures.value
+    subst (λ m. Appends g.R.BlockReading.memory (g.R.BlockReading.stmts c.assertion.new.list) all c.assertion.result m) (sym (assert_seen a c.args.depth ts s c.in-Some.at (text_at c.args.toks.now c.args.from) us c.in-Some.terminal c.in-Some.ensures.0 c.in-Keyword-Assert.field-0 c.in-Keyword-Assert.is k)) c.assertion.ensures.value
 
 pub stmt-returns-in-Keyword-If-clause-value : goal.stmt-returns-in-Keyword-If-clause-value
 stmt-returns-in-Keyword-If-clause-value g t c =
@@ -231,9 +229,9 @@ stmt-returns-in-Keyword-If-clause-value g t c =
     let all = lexemes c.args.toks.now in
     let ts = drop c.args.from all in
     let us = drop (c.args.from + 1) all in
-    let s = g.R.BlockReading.stmts c.args.list in
+    let s = g.R.BlockReading.stmts c.args.list.now in
     let k : c.in-Keyword-If.field-0 ≡ word.If = rw (c.in-Keyword-If.is) at c.in-Keyword-If.field-0-is in
-    subst (λ m. Reads g.R.BlockReading.memory g.R.BlockReading.stmts all c.branch-reading.result m) (sym (if_seen a c.args.depth ts s c.in-Some.at (text_at c.args.toks.now c.args.from) us c.in-Some.terminal c.in-Some.ensures.0 c.in-Keyword-If.field-0 c.in-Keyword-If.is k)) c.branch-reading.ensures.value
+    subst (λ m. Appends g.R.BlockReading.memory (g.R.BlockReading.stmts c.branch-reading.new.list) all c.branch-reading.result m) (sym (if_seen a c.args.depth ts s c.in-Some.at (text_at c.args.toks.now c.args.from) us c.in-Some.terminal c.in-Some.ensures.0 c.in-Keyword-If.field-0 c.in-Keyword-If.is k)) c.branch-reading.ensures.value
 
 pub stmt-returns-in-Keyword-While-clause-value : goal.stmt-returns-in-Keyword-While-clause-value
 stmt-returns-in-Keyword-While-clause-value g t c =
@@ -241,9 +239,9 @@ stmt-returns-in-Keyword-While-clause-value g t c =
     let all = lexemes c.args.toks.now in
     let ts = drop c.args.from all in
     let us = drop (c.args.from + 1) all in
-    let s = g.R.BlockReading.stmts c.args.list in
+    let s = g.R.BlockReading.stmts c.args.list.now in
     let k : c.in-Keyword-While.field-0 ≡ word.While = rw (c.in-Keyword-While.is) at c.in-Keyword-While.field-0-is in
-    subst (λ m. Reads g.R.BlockReading.memory g.R.BlockReading.stmts all c.turn.result m) (sym (while_seen a c.args.depth ts s c.in-Some.at (text_at c.args.toks.now c.args.from) us c.in-Some.terminal c.in-Some.ensures.0 c.in-Keyword-While.field-0 c.in-Keyword-While.is k)) c.turn.ensures.value
+    subst (λ m. Appends g.R.BlockReading.memory (g.R.BlockReading.stmts c.turn.new.list) all c.turn.result m) (sym (while_seen a c.args.depth ts s c.in-Some.at (text_at c.args.toks.now c.args.from) us c.in-Some.terminal c.in-Some.ensures.0 c.in-Keyword-While.field-0 c.in-Keyword-While.is k)) c.turn.ensures.value
 
 pub stmt-returns-in-Name-clause-value : goal.stmt-returns-in-Name-clause-value
 stmt-returns-in-Name-clause-value g t c =
@@ -251,36 +249,33 @@ stmt-returns-in-Name-clause-value g t c =
     let all = lexemes c.args.toks.now in
     let ts = drop c.args.from all in
     let us = drop (c.args.from + 1) all in
-    let s = g.R.BlockReading.stmts c.args.list in
-    subst (λ m. Reads g.R.BlockReading.memory g.R.BlockReading.stmts all c.name_statement.result m) (sym (name_seen a c.args.depth ts s c.in-Some.at (text_at c.args.toks.now c.args.from) us c.in-Some.terminal c.in-Some.ensures.0 c.in-Name.is c.text_at.result.now c.text_at.ensures)) c.name_statement.ensures.value
+    let s = g.R.BlockReading.stmts c.args.list.now in
+    subst (λ m. Appends g.R.BlockReading.memory (g.R.BlockReading.stmts c.name_statement.new.list) all c.name_statement.result m) (sym (name_seen a c.args.depth ts s c.in-Some.at (text_at c.args.toks.now c.args.from) us c.in-Some.terminal c.in-Some.ensures.0 c.in-Name.is c.text_at.result.now c.text_at.ensures)) c.name_statement.ensures.value
 
 pub stmt-returns-in_default-terminal-clause-value : goal.stmt-returns-in_default-terminal-clause-value
 stmt-returns-in_default-terminal-clause-value g t c = grind (arith, stmt_after_step, next_drop)
 
-pub stmt-returns-in_err-skip-in-Keyword-Skip-clause-value : goal.stmt-returns-in_err-skip-in-Keyword-Skip-clause-value
-stmt-returns-in_err-skip-in-Keyword-Skip-clause-value g t c = grind (arith, stmt_after_step, next_drop)
-
-pub stmt-returns-in_err-abort-in-Keyword-Abort-clause-value : goal.stmt-returns-in_err-abort-in-Keyword-Abort-clause-value
-stmt-returns-in_err-abort-in-Keyword-Abort-clause-value g t c = grind (arith, stmt_after_step, next_drop)
-
-pub stmt-returns-in_ok-skip-in-Keyword-Skip-clause-value : goal.stmt-returns-in_ok-skip-in-Keyword-Skip-clause-value
-stmt-returns-in_ok-skip-in-Keyword-Skip-clause-value g t c =
+pub stmt-returns-in-Keyword-Skip-clause-value : goal.stmt-returns-in-Keyword-Skip-clause-value
+stmt-returns-in-Keyword-Skip-clause-value g t c =
     let a = g.R.BlockReading.actions c.args.reading.now in
     let all = lexemes c.args.toks.now in
     let ts = drop c.args.from all in
     let us = drop (c.args.from + 1) all in
-    let s = g.R.BlockReading.stmts c.args.list in
+    let s = g.R.BlockReading.stmts c.args.list.now in
     let k : c.in-Keyword-Skip.field-0 ≡ word.Skip = rw (c.in-Keyword-Skip.is) at c.in-Keyword-Skip.field-0-is in
-    subst (λ m. Reads g.R.BlockReading.memory g.R.BlockReading.stmts all c.ended.result m) (sym (skip_seen a c.args.depth ts s c.in-Some.at (text_at c.args.toks.now c.args.from) us c.in-Some.terminal c.in-Some.ensures.0 c.in-Keyword-Skip.field-0 c.in-Keyword-Skip.is k (g.R.BlockReading.stmts c.in_ok-skip-in-Keyword-Skip.field-0) c.in_ok-skip-in-Keyword-Skip.ensures))
-    (ended_reads g.R.BlockReading.stmts c.in_ok-skip-in-Keyword-Skip.field-0 g.R.BlockReading.memory all us c.ended.result c.ended.ensures.value)
+    ended_appends g.R.BlockReading.memory (g.R.BlockReading.stmts c.skip.new.list) all us c.skip.result (Ok (a.skip s)) c.ended.result (parse_block a (stmt_after s) c.args.depth ts) c.ended.ensures.value c.skip.ensures
+    (skip_seen a c.args.depth ts s c.in-Some.at (text_at c.args.toks.now c.args.from) us c.in-Some.terminal c.in-Some.ensures.0 c.in-Keyword-Skip.field-0 c.in-Keyword-Skip.is k)
 
-pub stmt-returns-in_ok-abort-in-Keyword-Abort-clause-value : goal.stmt-returns-in_ok-abort-in-Keyword-Abort-clause-value
-stmt-returns-in_ok-abort-in-Keyword-Abort-clause-value g t c =
+pub stmt-returns-in-Keyword-Abort-clause-value : goal.stmt-returns-in-Keyword-Abort-clause-value
+stmt-returns-in-Keyword-Abort-clause-value g t c =
     let a = g.R.BlockReading.actions c.args.reading.now in
     let all = lexemes c.args.toks.now in
     let ts = drop c.args.from all in
     let us = drop (c.args.from + 1) all in
-    let s = g.R.BlockReading.stmts c.args.list in
+    let s = g.R.BlockReading.stmts c.args.list.now in
     let k : c.in-Keyword-Abort.field-0 ≡ word.Abort = rw (c.in-Keyword-Abort.is) at c.in-Keyword-Abort.field-0-is in
-    subst (λ m. Reads g.R.BlockReading.memory g.R.BlockReading.stmts all c.ended-in-Keyword-Abort.result m) (sym (abort_seen a c.args.depth ts s c.in-Some.at (text_at c.args.toks.now c.args.from) us c.in-Some.terminal c.in-Some.ensures.0 c.in-Keyword-Abort.field-0 c.in-Keyword-Abort.is k (g.R.BlockReading.stmts c.in_ok-abort-in-Keyword-Abort.field-0) c.in_ok-abort-in-Keyword-Abort.ensures))
-    (ended_reads g.R.BlockReading.stmts c.in_ok-abort-in-Keyword-Abort.field-0 g.R.BlockReading.memory all us c.ended-in-Keyword-Abort.result c.ended-in-Keyword-Abort.ensures.value)
+    ended_appends g.R.BlockReading.memory (g.R.BlockReading.stmts c.abort.new.list) all us c.abort.result (Ok (a.abort s)) c.ended-in-Keyword-Abort.result (parse_block a (stmt_after s) c.args.depth ts) c.ended-in-Keyword-Abort.ensures.value c.abort.ensures
+    (abort_seen a c.args.depth ts s c.in-Some.at (text_at c.args.toks.now c.args.from) us c.in-Some.terminal c.in-Some.ensures.0 c.in-Keyword-Abort.field-0 c.in-Keyword-Abort.is k)
+
+pub stmt-returns-in_default-terminal-2-clause-value : goal.stmt-returns-in_default-terminal-2-clause-value
+stmt-returns-in_default-terminal-2-clause-value g t c = grind (arith, stmt_after_step, next_drop)
