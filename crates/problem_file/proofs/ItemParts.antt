@@ -7,7 +7,7 @@ use Rattle.text_grammar.specs.declared.terminal.Keyword.{Keyword as KeywordOf}
 use Rattle.text_grammar.specs.declared.terminal.Keyword.TheVariants as word
 use Rattle.text_grammar.specs.declared.terminal.Separator.TheVariants.{Semicolon, Equals}
 use Rattle.text_grammar.specs.Lexemes.{Lexeme, lexeme, is_terminal}
-use Rattle.text_grammar.specs.Parsed.{Parsed, wants}
+use Rattle.text_grammar.specs.Parsed.{Parsed, before, wants}
 use Rattle.text_grammar.specs.Phrases.{Leaf}
 use Rattle.problem_file.specs.declared.item_reading.Declared.TheVariants as what
 use Rattle.problem_file.specs.declared.item_reading.Setting.TheVariants as setting
@@ -28,18 +28,11 @@ module _ {S X : Type 0} (g : ItemActions S X) (s : S) (at : ℕ) (ts us : List L
         pub prog_wide : (e : TextFault) → g.check_numbers s (until ts x.1) ≡ Err e → prog_by g s at ts ≡ Err e
         prog_wide e h = rw (n, new, next, b, h) refl
 
-        pub prog_refused : (v : Unit {0}) (e : TextFault) → g.check_numbers s (until ts x.1) ≡ Ok v → g.define_prog s at l.text x.0 ≡ Err e → prog_by g s at ts ≡ Err e
-        prog_refused v e w h = rw (n, new, next, b, w, h) refl
+        pub prog_ended : (v : Unit {0}) → g.check_numbers s (until ts x.1) ≡ Ok v → prog_by g s at ts ≡ before x.1 (g.define_prog s at l.text x.0)
+        prog_ended v w = rw (n, new, next, b, w) refl
 
-        pub prog_made : (v : Unit {0}) (t : S) → g.check_numbers s (until ts x.1) ≡ Ok v → g.define_prog s at l.text x.0 ≡ Ok t → prog_by g s at ts ≡ Ok (t, x.1)
-        prog_made v t w h = rw (n, new, next, b, w, h) refl
-
-      module _ (x : Measurement X × List Lexeme) (b : meaning_by g s us ≡ Ok x) where
-        pub definition_refused : (e : TextFault) → g.define s at l.text x.0 ≡ Err e → definition_by g s at ts ≡ Err e
-        definition_refused e h = rw (n, new, next, b, h) refl
-
-        pub definition_made : (t : S) → g.define s at l.text x.0 ≡ Ok t → definition_by g s at ts ≡ Ok (t, x.1)
-        definition_made t h = rw (n, new, next, b, h) refl
+      pub definition_ended : (x : Measurement X × List Lexeme) → meaning_by g s us ≡ Ok x → definition_by g s at ts ≡ before x.1 (g.define s at l.text x.0)
+      definition_ended x b = rw (n, new, next, b) refl
 
       pub definition_unmeasured : (e : TextFault) → meaning_by g s us ≡ Err e → definition_by g s at ts ≡ Err e
       definition_unmeasured e h = rw (n, new, next, h) refl
@@ -63,12 +56,8 @@ module _ {S X : Type 0} (g : ItemActions S X) (s : S) (at : ℕ) (ts : List Lexe
         pub zero_open : (e : TextFault) → wants (is_terminal (Separator Semicolon)) vs ≡ Err e → zero_by g s at ts ≡ Err e
         zero_open e h = rw (m, equals, zero, h) refl
 
-        module _ (ws : List Lexeme) (end : wants (is_terminal (Separator Semicolon)) vs ≡ Ok ws) where
-          pub zero_refused : (e : TextFault) → g.state_zero s at x.0 ≡ Err e → zero_by g s at ts ≡ Err e
-          zero_refused e h = rw (m, equals, zero, end, h) refl
-
-          pub zero_made : (t : S) → g.state_zero s at x.0 ≡ Ok t → zero_by g s at ts ≡ Ok (t, ws)
-          zero_made t h = rw (m, equals, zero, end, h) refl
+        pub zero_ended : (ws : List Lexeme) → wants (is_terminal (Separator Semicolon)) vs ≡ Ok ws → zero_by g s at ts ≡ before ws (g.state_zero s at x.0)
+        zero_ended ws end = rw (m, equals, zero, end) refl
 
 -- a question, by the parts that it is about
 module _ {S X M : Type 0} (g : ItemActions S X) (s : S) (ts : List Lexeme) (f : M → Result S TextFault) (m : Parsed M) where
@@ -83,12 +72,8 @@ module _ {S X M : Type 0} (g : ItemActions S X) (s : S) (ts : List Lexeme) (f : 
       pub ask_wide : (e : TextFault) → g.check_numbers s (until ts us) ≡ Err e → then_ask g s ts f m ≡ Err e
       ask_wide e h = rw (k, end, h) refl
 
-      module _ (v : Unit {0}) (narrow : g.check_numbers s (until ts us) ≡ Ok v) where
-        pub ask_refused : (e : TextFault) → f x.0 ≡ Err e → then_ask g s ts f m ≡ Err e
-        ask_refused e h = rw (k, end, narrow, h) refl
-
-        pub ask_made : (t : S) → f x.0 ≡ Ok t → then_ask g s ts f m ≡ Ok (t, us)
-        ask_made t h = rw (k, end, narrow, h) refl
+      pub ask_ended : (v : Unit {0}) → g.check_numbers s (until ts us) ≡ Ok v → then_ask g s ts f m ≡ before us (f x.0)
+      ask_ended v narrow = rw (k, end, narrow) refl
 
 -- an item, by its keyword
 module _ {S X : Type 0} (g : ItemActions S X) (s : S) (at : ℕ) (text : List ℕ) (ts us : List Lexeme) (t : Terminal) (seen : ts ≡ lexeme t at text ∷ us) (k : KeywordOf) (is : t ≡ Keyword k) where

@@ -1,11 +1,12 @@
 -- A fault of a part of an item is the fault of the item, and the functions that read the item return it.
-use Rattle.std.proofs.Common.{◌≡◌, ℕ, List, Bool, Result, Ok, Err, refl, sym, subst}
-use Rattle.std.specs.Result.{IsErrAnd}
+use Rattle.std.proofs.Common.{◌≡◌, ℕ, List, drop, Bool, Result, Ok, Err, refl, sym, subst}
+use Rattle.std.specs.Prelude.{IfOk}
+use Rattle.std.specs.Result.{IsErrAnd, result_and}
 use Rattle.text_tokens.specs.declared.fault.TextFault.{TextFault}
 use Rattle.text_tokens.specs.declared.fault.TextFault.TheVariants.{NoMemory}
 use Rattle.text_grammar.specs.declared.terminal.Terminal.{Terminal}
 use Rattle.text_grammar.specs.Lexemes.{Lexeme}
-use Rattle.text_grammar.specs.Parsed.{Parsed, ◌>>=◌, Makes, Reads, Wants, wants}
+use Rattle.text_grammar.specs.Parsed.{Parsed, ◌>>=◌, before, Makes, Reads, Wants, wants}
 use Rattle.text_grammar.proofs.NamedFaults.{IsNamedFault, IsNamed, wants_named}
 use Rattle.while_lang.proofs.BlockFaults.{returned}
 use Rattle.problem_file.specs.Working.Walks.{StepEnds, Does}
@@ -33,14 +34,6 @@ module _ {S : Type 0} (memory : Type 0) (ts : List Lexeme) (s : S) (whole : Pars
       ends NoMemory h k = elim h [ ]
       ends f h k = k
 
-  -- an action refuses the item, or memory runs out
-  pub refusal_ends : (m : Result S TextFault) → Does {X = Unit {0}} memory (Err e) s m → (m ≡ Err e → whole ≡ Err e) → StepEnds memory ts r s whole
-  refusal_ends m h k = subst (λ x. StepEnds memory ts x s whole) (sym (returned r e same)) (ends e h k)
-    where
-      ends : (f : TextFault) → Does {X = Unit {0}} memory (Err f) s m → (m ≡ Err f → whole ≡ Err f) → StepEnds memory ts (Err f) s whole
-      ends NoMemory h k = h
-      ends f h k = k h
-
   -- a step of the item fails, or memory runs out
   pub step_ends : {T : Type 0} (u : T) (part : Parsed T) → StepEnds memory ts (Err e) u part → (part ≡ Err e → whole ≡ Err e) → StepEnds memory ts r s whole
   step_ends {T} u part h k = subst (λ x. StepEnds memory ts x s whole) (sym (returned r e same)) (ends e h k)
@@ -48,6 +41,18 @@ module _ {S : Type 0} (memory : Type 0) (ts : List Lexeme) (s : S) (whole : Pars
       ends : (f : TextFault) → StepEnds memory ts (Err f) u part → (part ≡ Err f → whole ≡ Err f) → StepEnds memory ts (Err f) s whole
       ends NoMemory h k = h
       ends f h k = k h
+
+-- an action ends the item, at an index that is known before
+pub made_ends : {S : Type 0} (memory : Type 0) (ts : List Lexeme) (s : S) (end : ℕ) (made : Result (Unit {0}) TextFault) (r : Result ℕ TextFault) (m : Result S TextFault) (whole : Parsed S) →
+    r ≡ result_and made (Ok end) → Does memory made s m → whole ≡ before (drop end ts) m → StepEnds memory ts r s whole
+made_ends memory ts s end (Ok u) r m whole is h same = rw (is, same, h) refl
+made_ends memory ts s end (Err NoMemory) r m whole is h same = rw (is) h
+made_ends memory ts s end (Err e) r m whole is h same = rw (is, same, h) refl
+
+-- if the action fails, the function returns no index
+pub made_within : (P : ℕ → Type 0) (end : ℕ) (made : Result (Unit {0}) TextFault) (r : Result ℕ TextFault) → r ≡ result_and made (Ok end) → P end → IfOk r P
+made_within P end (Ok u) r is h = rw (is) h
+made_within P end (Err e) r is h = rw (is) tt
 
 -- the item ends with a token
 module _ {S : Type 0} (memory : Type 0) (ts : List Lexeme) (s : S) (p : Terminal → Bool) (us : List Lexeme) where

@@ -12,7 +12,6 @@ use text_tokens::{TextFault, Token};
 use while_lang::NamedProg;
 
 // Reads items whose syntax was checked before.
-#[derive(Drop)]
 pub(crate) struct ItemReader {
     pub(crate) alloc: Global,
     pub(crate) limit: GoalLimit,
@@ -27,6 +26,26 @@ pub(crate) struct ItemReader {
     pub(crate) goals: Vec<Goal>,
     pub(crate) size: u64,
     pub(crate) ghost numbered: { AreNumbered scope tests actions vars (length progs.items) },
+}
+
+// Explicit, so that it is proved once and not at each end of each function that owns one.
+impl Drop for ItemReader {
+    fn drop(self) {
+        let ItemReader {
+            alloc: _,
+            limit: _,
+            scope: _scope,
+            tests: _,
+            actions: _,
+            vars: _,
+            progs: _progs,
+            hyps: _hyps,
+            rounds: _,
+            width: _,
+            goals: _goals,
+            size: _,
+        } = self;
+    }
 }
 
 impl ItemReader {
@@ -150,8 +169,13 @@ impl ItemReader {
     pub(crate) fn files(self) -> Result<(File, Vec<Goal>), TextFault>
         ensures { Makes ⊥ (λ x. (x.0, map goal_tree x.1.items)) result (check_goal (state_of self)) }
     {
+        if self.goals.is_empty() {
+            return Err(TextFault::NoGoal);
+        }
         let width = self.width();
         let ItemReader {
+            alloc: _,
+            limit: _,
             scope,
             tests,
             actions,
@@ -159,12 +183,10 @@ impl ItemReader {
             progs,
             hyps,
             rounds,
+            width: _,
             mut goals,
-            ..
+            size: _,
         } = self;
-        if goals.is_empty() {
-            return Err(TextFault::NoGoal);
-        }
         let goal = goals.remove(0);
         let terms = scope.terms();
         let rounds = rounds.unwrap_or(1);

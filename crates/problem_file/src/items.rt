@@ -31,8 +31,7 @@ fn read_name<R: ItemReading>(
     ensures goes { IfOk result (λ end. (end ≡ from + 1) × (from < length toks.now)) }
 {
     let name = name_at(toks, from)?;
-    reading.declare(what, name)?;
-    Ok(from + 1)
+    reading.declare(what, name).and(Ok(from + 1))
 }
 
 // Declares names separated by commas, and returns the index after them.
@@ -218,8 +217,7 @@ fn read_definition<R: ItemReading>(
     let name = name_at(toks, from)?;
     reading.check_new(name)?;
     let (term, end) = meaning_at(reading, toks, from + 1)?;
-    reading.define(toks, at, name, term)?;
-    Ok(end)
+    reading.define(toks, at, name, term).and(Ok(end))
 }
 
 fn read_prog<R: ItemReading>(
@@ -238,8 +236,7 @@ fn read_prog<R: ItemReading>(
     reading.check_new(name)?;
     let (block, end) = block_at(reading, toks, from + 1)?;
     reading.check_numbers(toks, from, end)?;
-    reading.define_prog(toks, at, name, block)?;
-    Ok(end)
+    reading.define_prog(toks, at, name, block).and(Ok(end))
 }
 
 fn read_zero<R: ItemReading>(
@@ -257,8 +254,7 @@ fn read_zero<R: ItemReading>(
     let end = expect(toks, end, Terminal::Separator(Separator::Equals))?;
     let end = expect(toks, end, Terminal::Zero)?;
     let end = expect(toks, end, Terminal::Separator(Separator::Semicolon))?;
-    reading.state_zero(toks, at, term)?;
-    Ok(end)
+    reading.state_zero(toks, at, term).and(Ok(end))
 }
 
 fn read_hyp<R: ItemReading>(
@@ -278,8 +274,7 @@ fn read_hyp<R: ItemReading>(
     }
     let (triple, end) = triple_at(reading, toks, from + 1, false)?;
     let end = expect(toks, end, Terminal::Separator(Separator::Semicolon))?;
-    reading.state_triple(toks, at, triple)?;
-    Ok(end)
+    reading.state_triple(toks, at, triple).and(Ok(end))
 }
 
 // Sets a setting to the number at an index, and returns the index after it.
@@ -295,8 +290,8 @@ fn read_number<R: ItemReading>(
     ensures goes { IfOk result (λ end. (end ≡ from + 1) × (from < length toks.now)) }
 {
     let number = number_at(toks, from)?;
-    reading.set(what, place_at(toks, from), number)?;
-    Ok(from + 1)
+    let place = place_at(toks, from);
+    reading.set(what, place, number).and(Ok(from + 1))
 }
 
 fn read_setting<R: ItemReading>(
@@ -331,8 +326,7 @@ fn read_comparison<R: ItemReading>(
     let (sides, end) = sides_at(reading, toks, from)?;
     let end = expect(toks, end, Terminal::Separator(Separator::Semicolon))?;
     reading.check_numbers(toks, from, end)?;
-    reading.ask_sides(toks, at, comparison, sides)?;
-    Ok(end)
+    reading.ask_sides(toks, at, comparison, sides).and(Ok(end))
 }
 
 fn read_triple_goal<R: ItemReading>(
@@ -349,8 +343,7 @@ fn read_triple_goal<R: ItemReading>(
     let (triple, end) = triple_at(reading, toks, from, true)?;
     let end = expect(toks, end, Terminal::Separator(Separator::Semicolon))?;
     reading.check_numbers(toks, from, end)?;
-    reading.ask_triple(toks, at, triple)?;
-    Ok(end)
+    reading.ask_triple(toks, at, triple).and(Ok(end))
 }
 
 fn read_goal<R: ItemReading>(

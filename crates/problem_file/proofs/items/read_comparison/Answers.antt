@@ -1,4 +1,4 @@
-use Rattle.std.proofs.Common.{drop}
+use Rattle.std.proofs.Common.{◌<◌, ◌≤◌, drop, length, arith}
 use Rattle.text_grammar.specs.declared.terminal.Terminal.TheVariants.{Separator}
 use Rattle.text_grammar.specs.declared.terminal.Separator.TheVariants.{Semicolon}
 use Rattle.text_grammar.specs.Lexemes.{lexemes, is_terminal}
@@ -7,8 +7,8 @@ use Rattle.text_grammar.proofs.NamedFaults.{wants_named}
 use Rattle.problem_file.specs.Items.{sides_by, comparison_by}
 use Rattle.problem_file.specs.Numbers.{until}
 use Rattle.problem_file.specs.Working.Walks.{sides_of}
-use Rattle.problem_file.proofs.ReadFaults.{named_fault, read_fault, check_fault, fault_ends, refusal_ends}
-use Rattle.problem_file.proofs.ItemParts.{ask_unmeasured, ask_open, ask_wide, ask_refused, ask_made}
+use Rattle.problem_file.proofs.ReadFaults.{named_fault, read_fault, check_fault, fault_ends, made_ends, made_within}
+use Rattle.problem_file.proofs.ItemParts.{ask_unmeasured, ask_open, ask_wide, ask_ended}
 use Rattle.problem_file.proofs.items.read_comparison.Goals as goal
 
 pub returns-in_err-sides-clause-value : goal.returns-in_err-sides-clause-value
@@ -44,22 +44,15 @@ returns-in_err-check_numbers-clause-value g c =
     (ask_wide a s ts (a.ask_sides c.args.comparison s c.args.at) (sides_by a s ts) (sides_of all c.in_ok-sides.sides, drop c.in_ok-sides.end all) c.in_ok-sides.ensures.value
     (drop c.in_ok-end.end all) c.in_ok-end.ensures.value c.in_err-check_numbers.field-0.0 told.1)
 
-pub returns-in_err-ask_sides-clause-value : goal.returns-in_err-ask_sides-clause-value
-returns-in_err-ask_sides-clause-value g c =
-    let a = g.R.ItemReading.actions in
-    let s = g.R.ItemReading.state c.args.reading.now in
-    let all = lexemes c.args.toks.now in
-    let ts = drop c.args.from all in
-    refusal_ends g.R.ItemReading.memory all (g.R.ItemReading.state c.ask_sides.new.self) (comparison_by a c.args.comparison s c.args.at ts) c.in_err-ask_sides.field-0.0 c.from_residual-in_err-ask_sides.result c.from_residual-in_err-ask_sides.ensures.1
-    (a.ask_sides c.args.comparison s c.args.at (sides_of all c.in_ok-sides.sides)) c.in_err-ask_sides.ensures
-    (ask_refused a s ts (a.ask_sides c.args.comparison s c.args.at) (sides_by a s ts) (sides_of all c.in_ok-sides.sides, drop c.in_ok-sides.end all) c.in_ok-sides.ensures.value
-    (drop c.in_ok-end.end all) c.in_ok-end.ensures.value c.in_ok-check_numbers.field-0 c.in_ok-check_numbers.ensures c.in_err-ask_sides.field-0.0)
-
 pub returns-clause-value : goal.returns-clause-value
 returns-clause-value g c =
     let a = g.R.ItemReading.actions in
     let s = g.R.ItemReading.state c.args.reading.now in
     let all = lexemes c.args.toks.now in
     let ts = drop c.args.from all in
-    ask_made a s ts (a.ask_sides c.args.comparison s c.args.at) (sides_by a s ts) (sides_of all c.in_ok-sides.sides, drop c.in_ok-sides.end all) c.in_ok-sides.ensures.value
-    (drop c.in_ok-end.end all) c.in_ok-end.ensures.value c.in_ok-check_numbers.field-0 c.in_ok-check_numbers.ensures (g.R.ItemReading.state c.ask_sides.new.self) c.in_ok-ask_sides.ensures
+    made_ends g.R.ItemReading.memory all (g.R.ItemReading.state c.ask_sides.new.self) c.in_ok-end.end c.ask_sides.result c.and.result (a.ask_sides c.args.comparison s c.args.at (sides_of all c.in_ok-sides.sides)) (comparison_by a c.args.comparison s c.args.at ts) c.and.ensures c.ask_sides.ensures
+    (ask_ended a s ts (a.ask_sides c.args.comparison s c.args.at) (sides_by a s ts) (sides_of all c.in_ok-sides.sides, drop c.in_ok-sides.end all) c.in_ok-sides.ensures.value
+    (drop c.in_ok-end.end all) c.in_ok-end.ensures.value c.in_ok-check_numbers.field-0 c.in_ok-check_numbers.ensures)
+
+pub returns-clause-goes : goal.returns-clause-goes
+returns-clause-goes g c = made_within (λ end. (c.args.from < end) × (end ≤ length c.args.toks.now)) c.in_ok-end.end c.ask_sides.result c.and.result c.and.ensures (omega (arith, c.in_ok-sides.ensures.goes.0, c.in_ok-end.ensures.goes.0), omega (arith, c.in_ok-end.ensures.goes.0, c.in_ok-end.ensures.goes.1))

@@ -1,11 +1,11 @@
-use Rattle.std.proofs.Common.{◌+◌, drop, refl}
+use Rattle.std.proofs.Common.{◌+◌, ◌<◌, ◌≤◌, drop, refl, length, arith}
 use Rattle.text_grammar.specs.Lexemes.{lexemes}
 use Rattle.text_grammar.proofs.Tokens.{next_drop}
 use Rattle.problem_file.specs.Items.{name_at, meaning_by, definition_by}
 use Rattle.problem_file.specs.Working.Walks.{measured_of}
 use Rattle.problem_file.proofs.NameWalks.{name_at_named}
-use Rattle.problem_file.proofs.ReadFaults.{named_fault, read_fault, check_fault, fault_ends, refusal_ends}
-use Rattle.problem_file.proofs.ItemParts.{definition_old, definition_unmeasured, definition_refused, definition_made}
+use Rattle.problem_file.proofs.ReadFaults.{named_fault, read_fault, check_fault, fault_ends, made_ends, made_within}
+use Rattle.problem_file.proofs.ItemParts.{definition_old, definition_unmeasured, definition_ended}
 use Rattle.problem_file.proofs.items.read_definition.Goals as goal
 
 pub returns-in_err-name-clause-value : goal.returns-in_err-name-clause-value
@@ -37,22 +37,15 @@ returns-in_err-term-clause-value g c =
     fault_ends g.R.ItemReading.memory all s (definition_by a s c.args.at ts) c.in_err-term.field-0.0 c.from_residual-in_err-term.result c.from_residual-in_err-term.ensures.1 told.0
     (definition_unmeasured a s c.args.at ts (drop (c.args.from + 1) all) (next_drop c.args.from all) (record { at = c.in_ok-name.name.now.at; text = c.in_ok-name.name.now.text.now }) c.in_ok-name.ensures.found c.in_ok-check_new.field-0 c.in_ok-check_new.ensures c.in_err-term.field-0.0 told.1)
 
-pub returns-in_err-define-clause-value : goal.returns-in_err-define-clause-value
-returns-in_err-define-clause-value g c =
-    let a = g.R.ItemReading.actions in
-    let s = g.R.ItemReading.state c.args.reading.now in
-    let all = lexemes c.args.toks.now in
-    let ts = drop c.args.from all in
-    refusal_ends g.R.ItemReading.memory all (g.R.ItemReading.state c.define.new.self) (definition_by a s c.args.at ts) c.in_err-define.field-0.0 c.from_residual-in_err-define.result c.from_residual-in_err-define.ensures.1
-    (a.define s c.args.at c.in_ok-name.name.now.text.now (measured_of all c.in_ok-term.term)) c.in_err-define.ensures
-    (definition_refused a s c.args.at ts (drop (c.args.from + 1) all) (next_drop c.args.from all) (record { at = c.in_ok-name.name.now.at; text = c.in_ok-name.name.now.text.now }) c.in_ok-name.ensures.found c.in_ok-check_new.field-0 c.in_ok-check_new.ensures
-    (measured_of all c.in_ok-term.term, drop c.in_ok-term.end all) c.in_ok-term.ensures.value c.in_err-define.field-0.0)
-
 pub returns-clause-value : goal.returns-clause-value
 returns-clause-value g c =
     let a = g.R.ItemReading.actions in
     let s = g.R.ItemReading.state c.args.reading.now in
     let all = lexemes c.args.toks.now in
     let ts = drop c.args.from all in
-    definition_made a s c.args.at ts (drop (c.args.from + 1) all) (next_drop c.args.from all) (record { at = c.in_ok-name.name.now.at; text = c.in_ok-name.name.now.text.now }) c.in_ok-name.ensures.found c.in_ok-check_new.field-0 c.in_ok-check_new.ensures
-    (measured_of all c.in_ok-term.term, drop c.in_ok-term.end all) c.in_ok-term.ensures.value (g.R.ItemReading.state c.define.new.self) c.in_ok-define.ensures
+    made_ends g.R.ItemReading.memory all (g.R.ItemReading.state c.define.new.self) c.in_ok-term.end c.define.result c.and.result (a.define s c.args.at c.in_ok-name.name.now.text.now (measured_of all c.in_ok-term.term)) (definition_by a s c.args.at ts) c.and.ensures c.define.ensures
+    (definition_ended a s c.args.at ts (drop (c.args.from + 1) all) (next_drop c.args.from all) (record { at = c.in_ok-name.name.now.at; text = c.in_ok-name.name.now.text.now }) c.in_ok-name.ensures.found c.in_ok-check_new.field-0 c.in_ok-check_new.ensures
+    (measured_of all c.in_ok-term.term, drop c.in_ok-term.end all) c.in_ok-term.ensures.value)
+
+pub returns-clause-goes : goal.returns-clause-goes
+returns-clause-goes g c = made_within (λ end. (c.args.from < end) × (end ≤ length c.args.toks.now)) c.in_ok-term.end c.define.result c.and.result c.and.ensures (omega (arith, c.in_ok-term.ensures.goes.0), c.in_ok-term.ensures.goes.1)

@@ -1,4 +1,4 @@
-use Rattle.std.proofs.Common.{drop}
+use Rattle.std.proofs.Common.{◌<◌, ◌≤◌, drop, length, arith}
 use Rattle.text_grammar.specs.declared.terminal.Terminal.TheVariants.{Separator, Zero}
 use Rattle.text_grammar.specs.declared.terminal.Separator.TheVariants.{Semicolon, Equals}
 use Rattle.text_grammar.specs.Lexemes.{lexemes, is_terminal}
@@ -6,8 +6,8 @@ use Rattle.text_grammar.specs.Parsed.{wants}
 use Rattle.text_grammar.proofs.NamedFaults.{wants_named}
 use Rattle.problem_file.specs.Items.{term_by, zero_by}
 use Rattle.problem_file.specs.Working.Walks.{measured_of}
-use Rattle.problem_file.proofs.ReadFaults.{named_fault, read_fault, fault_ends, refusal_ends}
-use Rattle.problem_file.proofs.ItemParts.{zero_unmeasured, zero_unequal, zero_other, zero_open, zero_refused, zero_made}
+use Rattle.problem_file.proofs.ReadFaults.{named_fault, read_fault, fault_ends, made_ends, made_within}
+use Rattle.problem_file.proofs.ItemParts.{zero_unmeasured, zero_unequal, zero_other, zero_open, zero_ended}
 use Rattle.problem_file.proofs.items.read_zero.Goals as goal
 
 pub returns-in_err-term-clause-value : goal.returns-in_err-term-clause-value
@@ -58,22 +58,15 @@ returns-in_err-end-3-clause-value g c =
     (zero_open a s c.args.at ts (measured_of all c.in_ok-term.term, drop c.in_ok-term.end all) c.in_ok-term.ensures.value
     (drop c.in_ok-end.end all) c.in_ok-end.ensures.value (drop c.in_ok-end-2.end all) c.in_ok-end-2.ensures.value c.in_err-end-3.field-0.0 told.1)
 
-pub returns-in_err-state_zero-clause-value : goal.returns-in_err-state_zero-clause-value
-returns-in_err-state_zero-clause-value g c =
-    let a = g.R.ItemReading.actions in
-    let s = g.R.ItemReading.state c.args.reading.now in
-    let all = lexemes c.args.toks.now in
-    let ts = drop c.args.from all in
-    refusal_ends g.R.ItemReading.memory all (g.R.ItemReading.state c.state_zero.new.self) (zero_by a s c.args.at ts) c.in_err-state_zero.field-0.0 c.from_residual-in_err-state_zero.result c.from_residual-in_err-state_zero.ensures.1
-    (a.state_zero s c.args.at (measured_of all c.in_ok-term.term)) c.in_err-state_zero.ensures
-    (zero_refused a s c.args.at ts (measured_of all c.in_ok-term.term, drop c.in_ok-term.end all) c.in_ok-term.ensures.value
-    (drop c.in_ok-end.end all) c.in_ok-end.ensures.value (drop c.in_ok-end-2.end all) c.in_ok-end-2.ensures.value (drop c.in_ok-end-3.end all) c.in_ok-end-3.ensures.value c.in_err-state_zero.field-0.0)
-
 pub returns-clause-value : goal.returns-clause-value
 returns-clause-value g c =
     let a = g.R.ItemReading.actions in
     let s = g.R.ItemReading.state c.args.reading.now in
     let all = lexemes c.args.toks.now in
     let ts = drop c.args.from all in
-    zero_made a s c.args.at ts (measured_of all c.in_ok-term.term, drop c.in_ok-term.end all) c.in_ok-term.ensures.value
-    (drop c.in_ok-end.end all) c.in_ok-end.ensures.value (drop c.in_ok-end-2.end all) c.in_ok-end-2.ensures.value (drop c.in_ok-end-3.end all) c.in_ok-end-3.ensures.value (g.R.ItemReading.state c.state_zero.new.self) c.in_ok-state_zero.ensures
+    made_ends g.R.ItemReading.memory all (g.R.ItemReading.state c.state_zero.new.self) c.in_ok-end-3.end c.state_zero.result c.and.result (a.state_zero s c.args.at (measured_of all c.in_ok-term.term)) (zero_by a s c.args.at ts) c.and.ensures c.state_zero.ensures
+    (zero_ended a s c.args.at ts (measured_of all c.in_ok-term.term, drop c.in_ok-term.end all) c.in_ok-term.ensures.value
+    (drop c.in_ok-end.end all) c.in_ok-end.ensures.value (drop c.in_ok-end-2.end all) c.in_ok-end-2.ensures.value (drop c.in_ok-end-3.end all) c.in_ok-end-3.ensures.value)
+
+pub returns-clause-goes : goal.returns-clause-goes
+returns-clause-goes g c = made_within (λ end. (c.args.from < end) × (end ≤ length c.args.toks.now)) c.in_ok-end-3.end c.state_zero.result c.and.result c.and.ensures (omega (arith, c.in_ok-term.ensures.goes.0, c.in_ok-end.ensures.goes.0, c.in_ok-end-2.ensures.goes.0, c.in_ok-end-3.ensures.goes.0), omega (arith, c.in_ok-end-3.ensures.goes.0, c.in_ok-end-3.ensures.goes.1))
