@@ -1,7 +1,7 @@
 -- The results of blocks and statements by the results of their parts.
-use Rattle.std.proofs.Common.{◌≡◌, ℕ, ◌+◌, List, ◌∷◌, true, false, drop, Result, Ok, Err, refl, sym, subst, ap, ◌∙◌, arith}
+use Rattle.std.proofs.Common.{◌≡◌, ℕ, ◌+◌, ◌<◌, ◌≤◌, List, ◌∷◌, true, false, drop, Result, Ok, Err, refl, sym, subst, ap, ◌∙◌, arith}
 use Rattle.std.specs.Prelude.{IfOk}
-use Rattle.std.specs.Result.{result_and}
+use Rattle.std.specs.Result.{IsErrAnd, result_and}
 use Rattle.text_tokens.specs.declared.fault.TextFault.{TextFault}
 use Rattle.text_tokens.specs.declared.fault.TextFault.TheVariants.{NoMemory}
 use Rattle.text_grammar.specs.declared.terminal.Terminal.{Terminal}
@@ -10,7 +10,7 @@ use Rattle.text_grammar.specs.declared.terminal.Keyword.{Keyword as KeywordOf}
 use Rattle.text_grammar.specs.declared.terminal.Keyword.TheVariants as word
 use Rattle.text_grammar.specs.declared.terminal.Separator.TheVariants.{Semicolon, CurlyOpen, CurlyClose, Becomes}
 use Rattle.text_grammar.specs.Lexemes.{Lexeme, lexeme, heads, is_terminal}
-use Rattle.text_grammar.specs.Parsed.{Parsed, ◌>>=◌, before, change, wants, place_of, Makes, Wants}
+use Rattle.text_grammar.specs.Parsed.{Parsed, ◌>>=◌, before, change, wants, place_of, Makes, Wants, Goes}
 use Rattle.text_grammar.proofs.NamedFaults.{IsNamed, wants_named}
 use Rattle.text_grammar.proofs.Tokens.{next_drop}
 use Rattle.while_lang.specs.BlockActions.{BlockActions}
@@ -172,6 +172,24 @@ module _ {E B L T M S : Type 0} (g : BlockActions E B L T M S) (d : ℕ) (ts : L
 pub passed : (P : ℕ → Type 0) (made : Result (Unit {0}) TextFault) (rest r : Result ℕ TextFault) → r ≡ result_and made rest → IfOk rest P → IfOk r P
 passed P (Ok u) rest r is h = rw (is) h
 passed P (Err e) rest r is h = rw (is) tt
+
+-- a fault comes with no index
+pub no_index : {A : Type 0} (P : A → Type 0) (r : Result A TextFault) (e : TextFault) → IsErrAnd r (λ y. y ≡ e) → IfOk r P
+no_index P (Ok x) e h = elim h [ ]
+no_index P (Err f) e h = tt
+
+pub no_end : {V : Type 0} (from count : ℕ) (r : Result (V × ℕ) TextFault) (e : TextFault) → IsErrAnd r (λ y. y ≡ e) → Goes from count r
+no_end from count (Ok x) e h = elim h [ ]
+no_end from count (Err f) e h = tt
+
+-- a part begins after the first token
+pub goes_before : (a b n : ℕ) (r : Result ℕ TextFault) → a ≤ b → IfOk r (λ e. (b < e) × (e ≤ n)) → IfOk r (λ e. (a < e) × (e ≤ n))
+goes_before a b n (Ok x) le h = (omega (arith, h.0), h.1)
+goes_before a b n (Err e) le h = tt
+
+pub ends_before : (a b n : ℕ) (r : Result ℕ TextFault) → a ≤ b → IfOk r (λ e. (e ≡ b + 1) × (b < n)) → IfOk r (λ e. (a < e) × (e ≤ n))
+ends_before a b n (Ok x) le h = (omega (arith, h.0), omega (arith, h.0, h.1))
+ends_before a b n (Err e) le h = tt
 
 -- a block is the last part of the statement
 pub made_appends : {S : Type 0} (memory : Type 0) (list v : S) (all : List Lexeme) (end : ℕ) (made : Result (Unit {0}) TextFault) (r : Result ℕ TextFault) (whole : Parsed S) →

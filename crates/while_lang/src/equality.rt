@@ -10,9 +10,9 @@ pub(crate) fn same_expr(left: &Expr, right: &Expr) -> bool
     match (left, right) {
         (Expr::Num(m), Expr::Num(n)) => m == n,
         (Expr::Var(j), Expr::Var(k)) => j == k,
-        (Expr::Add(a, b), Expr::Add(e, f)) => same_expr(a, e) && same_expr(b, f),
-        (Expr::Sub(a, b), Expr::Sub(e, f)) => same_expr(a, e) && same_expr(b, f),
-        (Expr::Mul(a, b), Expr::Mul(e, f)) => same_expr(a, e) && same_expr(b, f),
+        (Expr::Add(a, b), Expr::Add(e, f))
+        | (Expr::Sub(a, b), Expr::Sub(e, f))
+        | (Expr::Mul(a, b), Expr::Mul(e, f)) => same_expr(a, e) && same_expr(b, f),
         _ => false,
     }
 }
@@ -27,8 +27,9 @@ pub(crate) fn same_cond(left: &Cond, right: &Cond) -> bool
             rel == other && same_expr(a, e) && same_expr(b, f)
         }
         (Cond::Not(b), Cond::Not(c)) => same_cond(b, c),
-        (Cond::And(a, b), Cond::And(c, d)) => same_cond(a, c) && same_cond(b, d),
-        (Cond::Or(a, b), Cond::Or(c, d)) => same_cond(a, c) && same_cond(b, d),
+        (Cond::And(a, b), Cond::And(c, d)) | (Cond::Or(a, b), Cond::Or(c, d)) => {
+            same_cond(a, c) && same_cond(b, d)
+        }
         _ => false,
     }
 }

@@ -10,7 +10,7 @@ use Rattle.while_lang.specs.Blocks.{enter, block, stmts_after, stmt_after, branc
 use Rattle.while_lang.specs.Working.Appending.{Appends}
 use Rattle.while_lang.proofs.BlockSteps.{stmt_after_step}
 use Rattle.while_lang.proofs.BlockFaults.{enter_named, entered, part_fails, append_fails, check_fails, part_stops}
-use Rattle.while_lang.proofs.BlockParts.{next_two, block_closed, block_deep, block_fails, block_made, stmts_end, stmts_fail, stmts_go, skip_seen, abort_seen, assert_seen, if_seen, while_seen, name_seen, else_none, else_block, else_deep, else_fails, else_made, branch_unread, branch_first, branch_second, branch_made, loop_unread, loop_fails, loop_made, passed, made_appends, ended_appends}
+use Rattle.while_lang.proofs.BlockParts.{next_two, block_closed, block_deep, block_fails, block_made, stmts_end, stmts_fail, stmts_go, skip_seen, abort_seen, assert_seen, if_seen, while_seen, name_seen, else_none, else_block, else_deep, else_fails, else_made, branch_unread, branch_first, branch_second, branch_made, loop_unread, loop_fails, loop_made, passed, no_index, no_end, goes_before, ends_before, made_appends, ended_appends}
 use Rattle.while_lang.proofs.blocks.+blocks.Goals as goal
 
 pub read_block-returns-in_err-next-clause-value : goal.read_block-returns-in_err-next-clause-value
@@ -279,3 +279,63 @@ stmt-returns-in-Keyword-Abort-clause-value g t c =
 
 pub stmt-returns-in_default-terminal-2-clause-value : goal.stmt-returns-in_default-terminal-2-clause-value
 stmt-returns-in_default-terminal-2-clause-value g t c = grind (arith, stmt_after_step, next_drop)
+
+pub read_block-returns-in_err-next-clause-goes : goal.read_block-returns-in_err-next-clause-goes
+read_block-returns-in_err-next-clause-goes g t c = no_end c.args.from (length c.args.toks.now) c.from_residual.result c.in_err-next.field-0.0 c.from_residual.ensures.1
+
+pub read_block-returns-in_err-inside-clause-goes : goal.read_block-returns-in_err-inside-clause-goes
+read_block-returns-in_err-inside-clause-goes g t c = no_end c.args.from (length c.args.toks.now) c.from_residual-in_err-inside.result c.in_err-inside.field-0.0 c.from_residual-in_err-inside.ensures.1
+
+pub read_block-returns-in_err-list-clause-goes : goal.read_block-returns-in_err-list-clause-goes
+read_block-returns-in_err-list-clause-goes g t c = no_end c.args.from (length c.args.toks.now) c.from_residual-in_err-list.result c.in_err-list.field-0.0 c.from_residual-in_err-list.ensures.1
+
+pub read_block-returns-clause-goes : goal.read_block-returns-clause-goes
+read_block-returns-clause-goes g t c = (omega (arith, c.in_ok-next.ensures.goes.0, c.in_ok-list.ensures.goes.0), c.in_ok-list.ensures.goes.1)
+
+pub stmts-returns-in_err-at-clause-goes : goal.stmts-returns-in_err-at-clause-goes
+stmts-returns-in_err-at-clause-goes g t c = no_end c.args.from (length c.args.toks.now) c.from_residual.result c.in_err-at.field-0.0 c.from_residual.ensures.1
+
+pub turn-returns-in_err-cond-clause-goes : goal.turn-returns-in_err-cond-clause-goes
+turn-returns-in_err-cond-clause-goes g t c = no_index (λ end. (c.args.from < end) × (end ≤ length c.args.toks.now)) c.from_residual.result c.in_err-cond.field-0.0 c.from_residual.ensures.1
+
+pub turn-returns-in_err-body-clause-goes : goal.turn-returns-in_err-body-clause-goes
+turn-returns-in_err-body-clause-goes g t c = no_index (λ end. (c.args.from < end) × (end ≤ length c.args.toks.now)) c.from_residual-in_err-body.result c.in_err-body.field-0.0 c.from_residual-in_err-body.ensures.1
+
+pub branch-returns-in_err-cond-clause-goes : goal.branch-returns-in_err-cond-clause-goes
+branch-returns-in_err-cond-clause-goes g t c = no_index (λ end. (c.args.from < end) × (end ≤ length c.args.toks.now)) c.from_residual.result c.in_err-cond.field-0.0 c.from_residual.ensures.1
+
+pub branch-returns-in_err-first-clause-goes : goal.branch-returns-in_err-first-clause-goes
+branch-returns-in_err-first-clause-goes g t c = no_index (λ end. (c.args.from < end) × (end ≤ length c.args.toks.now)) c.from_residual-in_err-first.result c.in_err-first.field-0.0 c.from_residual-in_err-first.ensures.1
+
+pub branch-returns-in_err-second-clause-goes : goal.branch-returns-in_err-second-clause-goes
+branch-returns-in_err-second-clause-goes g t c = no_index (λ end. (c.args.from < end) × (end ≤ length c.args.toks.now)) c.from_residual-in_err-second.result c.in_err-second.field-0.0 c.from_residual-in_err-second.ensures.1
+
+pub stmt-returns-in-Keyword-Assert-clause-goes : goal.stmt-returns-in-Keyword-Assert-clause-goes
+stmt-returns-in-Keyword-Assert-clause-goes g t c = goes_before c.args.from (c.args.from + 1) (length c.args.toks.now) c.assertion.result (omega arith) c.assertion.ensures.goes
+
+pub stmt-returns-in-Keyword-If-clause-goes : goal.stmt-returns-in-Keyword-If-clause-goes
+stmt-returns-in-Keyword-If-clause-goes g t c = goes_before c.args.from (c.args.from + 1) (length c.args.toks.now) c.branch-reading.result (omega arith) c.branch-reading.ensures.goes
+
+pub stmt-returns-in-Keyword-While-clause-goes : goal.stmt-returns-in-Keyword-While-clause-goes
+stmt-returns-in-Keyword-While-clause-goes g t c = goes_before c.args.from (c.args.from + 1) (length c.args.toks.now) c.turn.result (omega arith) c.turn.ensures.goes
+
+pub stmt-returns-in-Name-clause-goes : goal.stmt-returns-in-Name-clause-goes
+stmt-returns-in-Name-clause-goes g t c = goes_before c.args.from (c.args.from + 1) (length c.args.toks.now) c.name_statement.result (omega arith) c.name_statement.ensures.goes
+
+pub stmt-returns-in-Keyword-Skip-clause-goes : goal.stmt-returns-in-Keyword-Skip-clause-goes
+stmt-returns-in-Keyword-Skip-clause-goes g t c = ends_before c.args.from (c.args.from + 1) (length c.args.toks.now) c.ended.result (omega arith) c.ended.ensures.goes
+
+pub stmt-returns-in-Keyword-Abort-clause-goes : goal.stmt-returns-in-Keyword-Abort-clause-goes
+stmt-returns-in-Keyword-Abort-clause-goes g t c = ends_before c.args.from (c.args.from + 1) (length c.args.toks.now) c.ended-in-Keyword-Abort.result (omega arith) c.ended-in-Keyword-Abort.ensures.goes
+
+pub otherwise-returns-in_err-inside-clause-goes : goal.otherwise-returns-in_err-inside-clause-goes
+otherwise-returns-in_err-inside-clause-goes g t c = no_index (λ x. c.args.from ≤ x.1) c.from_residual.result c.in_err-inside.field-0.0 c.from_residual.ensures.1
+
+pub otherwise-returns-in_err-inside-clause-within : goal.otherwise-returns-in_err-inside-clause-within
+otherwise-returns-in_err-inside-clause-within g t c h = no_index (λ x. x.1 ≤ length c.args.toks.now) c.from_residual.result c.in_err-inside.field-0.0 c.from_residual.ensures.1
+
+pub otherwise-returns-in_err-end-clause-goes : goal.otherwise-returns-in_err-end-clause-goes
+otherwise-returns-in_err-end-clause-goes g t c = no_index (λ x. c.args.from ≤ x.1) c.from_residual-in_err-end.result c.in_err-end.field-0.0 c.from_residual-in_err-end.ensures.1
+
+pub otherwise-returns-in_err-end-clause-within : goal.otherwise-returns-in_err-end-clause-within
+otherwise-returns-in_err-end-clause-within g t c h = no_index (λ x. x.1 ≤ length c.args.toks.now) c.from_residual-in_err-end.result c.in_err-end.field-0.0 c.from_residual-in_err-end.ensures.1
