@@ -26,8 +26,7 @@ fn read_name<R: GkatItemReading>(
     ensures goes { IfOk result (λ end. (end ≡ from + 1) × (from < length toks.now)) }
 {
     let name = name_at(toks, from)?;
-    reading.declare(what, name)?;
-    Ok(from + 1)
+    reading.declare(what, name).and(Ok(from + 1))
 }
 
 // Declares names separated by commas.
@@ -93,8 +92,7 @@ fn read_equal<R: GkatItemReading>(
     reading.begin_equal(at)?;
     let ((left, right), end) = read_sides(reading, toks, from)?;
     let end = expect(toks, end, Terminal::Separator(Separator::Semicolon))?;
-    reading.ask(at, left, right)?;
-    Ok(end)
+    reading.ask(at, left, right).and(Ok(end))
 }
 
 #[tactic(auto, using(text_grammar::proofs::Tokens::next_drop))]

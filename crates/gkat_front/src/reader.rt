@@ -12,7 +12,6 @@ use text_scopes::{Meaning, Scope};
 use text_tokens::{TextFault, Token};
 
 // Reads items that passed the syntax test.
-#[derive(Drop)]
 pub(crate) struct GkatReader {
     alloc: Global,
     pub(crate) scope: Scope,
@@ -20,6 +19,19 @@ pub(crate) struct GkatReader {
     pub(crate) actions: usize,
     pub(crate) sides: Option<(Gkat, Gkat)>,
     ghost numbered: { AreNumbered scope tests actions 0 0 },
+}
+
+// Explicit, so that it is proved once and not at each end of each function that owns one.
+impl Drop for GkatReader {
+    fn drop(self) {
+        let GkatReader {
+            alloc: _,
+            scope: _scope,
+            tests: _,
+            actions: _,
+            sides: _sides,
+        } = self;
+    }
 }
 
 impl GkatReader {

@@ -2,6 +2,7 @@
 ghost use Rattle.std.specs.Prelude.{◌≡◌, length, drop};
 ghost use Rattle.text_grammar.specs.Lexemes.{lexemes};
 ghost use Rattle.text_grammar.specs.Parsed.{Reads, Goes};
+ghost use Rattle.text_grammar.specs.Working.Ends.{with_end};
 ghost use Rattle.gkat_front.specs.GkatWalks.{guard_by, tested_by, round_by, unit_by, factor_by, product_by, whole, parse_gkat};
 
 use crate::gkat_reading::GkatReading;
@@ -10,6 +11,13 @@ use text_grammar::{
 };
 use text_tokens::{TextFault, Token};
 use while_lang::enter;
+
+// Returns what an action made, with the index after its phrase.
+fn with_end<T: Drop>(made: Result<T, TextFault>, end: usize) -> Result<(T, usize), TextFault>
+    ensures { result ≡ with_end end made }
+{
+    Ok((made?, end))
+}
 
 // Reads a condition in brackets.
 fn guard<R: GkatReading>(
@@ -78,7 +86,7 @@ fn unit<R: GkatReading>(
     match terminal {
         Terminal::Zero => Ok((reading.never(), from + 1)),
         Terminal::One => Ok((reading.always(), from + 1)),
-        Terminal::Name => Ok((reading.named(at, text_at(toks, from))?, from + 1)),
+        Terminal::Name => with_end(reading.named(at, text_at(toks, from)), from + 1),
         Terminal::SquareOpen => tested(reading, toks, from, depth),
         Terminal::RoundOpen => round(reading, toks, from, depth),
         _ => Err(TextFault::Syntax(at)),
@@ -102,7 +110,7 @@ fn factor<R: GkatReading>(
         return Ok((body, end));
     }
     let (cond, end) = guard(reading, toks, end + 1, depth)?;
-    Ok((reading.repeat(cond, body)?, end))
+    with_end(reading.repeat(cond, body), end)
 }
 
 // Reads factors separated by dots.
@@ -125,7 +133,7 @@ fn product<R: GkatReading>(
         list = reading.more(list, more)?;
         at = next;
     }
-    Ok((reading.product(list)?, at))
+    with_end(reading.product(list), at)
 }
 
 // Reads the expression that begins at `from`, with `depth` open constructs around it. Returns its value and the index
@@ -149,5 +157,5 @@ pub(crate) fn read_expr<R: GkatReading>(
     }
     let (cond, end) = guard(reading, toks, end + 1, depth)?;
     let (right, end) = product(reading, toks, end, depth)?;
-    Ok((reading.choice(cond, left, right)?, end))
+    with_end(reading.choice(cond, left, right), end)
 }
