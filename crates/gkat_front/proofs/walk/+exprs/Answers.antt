@@ -3,7 +3,7 @@ use Rattle.text_grammar.specs.declared.terminal.Terminal.TheVariants.{RoundOpen,
 use Rattle.text_grammar.specs.Lexemes.{lexemes, is_terminal}
 use Rattle.text_grammar.specs.Parsed.{Reads, wants, place_of}
 use Rattle.text_grammar.proofs.NamedFaults.{wants_named}
-use Rattle.text_grammar.proofs.PartFaults.{end_made, end_goes}
+use Rattle.text_grammar.proofs.PartFaults.{end_made, end_goes, memory_lacks}
 use Rattle.text_grammar.proofs.Tokens.{next_drop}
 use Rattle.while_lang.specs.Blocks.{enter}
 use Rattle.while_lang.proofs.BlockFaults.{enter_named, entered, part_fails, check_fails}
@@ -102,16 +102,28 @@ factor-returns-in_err-cond-clause-value g t c =
     (λ h. rw (c.in_ok-body.ensures.value, ← c.if-not-is_at.ensures.value, next_drop c.in_ok-body.end all, h) refl)
 
 pub product-returns-in_err-only-clause-value : goal.product-returns-in_err-only-clause-value
-product-returns-in_err-only-clause-value g t c = grind (arith, factors_after_step, next_drop)
+product-returns-in_err-only-clause-value g t c =
+    let a = g.R.GkatReading.actions c.args.reading.now in
+    let all = lexemes c.args.toks.now in
+    let ts = drop c.args.from all in
+    part_fails g.R.GkatReading.memory g.R.GkatReading.expr all (product_by a (parse_gkat a) c.args.depth ts) c.in_err-only.field-0.0 c.from_residual.result c.from_residual.ensures.1 g.R.GkatReading.expr (factor_by a (parse_gkat a) c.args.depth ts) c.in_err-only.ensures.value (λ h. rw (h) refl)
 
 pub product-returns-in_err-list-clause-value : goal.product-returns-in_err-list-clause-value
-product-returns-in_err-list-clause-value g t c = grind (arith, factors_after_step, next_drop)
+product-returns-in_err-list-clause-value g t c =
+    let a = g.R.GkatReading.actions c.args.reading.now in
+    let all = lexemes c.args.toks.now in
+    let ts = drop c.args.from all in
+    memory_lacks g.R.GkatReading.memory g.R.GkatReading.factors g.R.GkatReading.expr all c.from_residual-in_err-list.result c.in_err-list.field-0.0 (a.first (g.R.GkatReading.expr c.in_ok-only.only)) (product_by a (parse_gkat a) c.args.depth ts) c.from_residual-in_err-list.ensures.1 c.in_err-list.ensures
 
 pub product-returns-in_err-more-clause-value : goal.product-returns-in_err-more-clause-value
 product-returns-in_err-more-clause-value g t c = grind (arith, factors_after_step, next_drop)
 
 pub product-returns-in_err-list-2-clause-value : goal.product-returns-in_err-list-2-clause-value
-product-returns-in_err-list-2-clause-value g t c = grind (arith, factors_after_step, next_drop)
+product-returns-in_err-list-2-clause-value g t c =
+    let a = g.R.GkatReading.actions c.args.reading.now in
+    let all = lexemes c.args.toks.now in
+    let ts = drop c.args.from all in
+    memory_lacks g.R.GkatReading.memory g.R.GkatReading.factors g.R.GkatReading.expr all c.from_residual-in_err-list-2.result c.in_err-list-2.field-0.0 (a.more (g.R.GkatReading.factors c.factors.list) (g.R.GkatReading.expr c.in_ok-more.more)) (product_by a (parse_gkat a) c.args.depth ts) c.from_residual-in_err-list-2.ensures.1 c.in_err-list-2.ensures
 
 pub product-factors-init : goal.product-factors-init
 product-factors-init g t c = grind (arith, factors_after_step, next_drop)
