@@ -12,6 +12,13 @@ term_height_positive (sum e f) = omega arith
 term_height_positive (product e f) = omega arith
 term_height_positive (star e) = omega arith
 
+-- the first matrix or row of a list whose sizes are those of another list
+pub room_at_first : {X : Type 0} (size : X → ℕ) (n : ℕ) (old new : List X) → All (λ k. n ≤ k) (map size old) → map size new ≡ map size old → 0 < length new → (d : X) → n ≤ size (get_or new 0 d)
+room_at_first size n old new room same some d =
+    let short : 0 < length (map size old) = rw (← same, length-map) some in
+    let at : n ≤ get_or (map size new) 0 0 = rw same (room 0 0 short) in
+    rw (get_or-map size new 0 d 0 some) at at
+
 module _ {X : Type 0} (size : X → ℕ) (n : ℕ) (old new front rest : List X) (room : All (λ k. n ≤ k) (map size old)) (same : map size new ≡ map size old) (parts : new ≡ front ++ rest) where
   joined : map size old ≡ map size front ++ map size rest
   joined = sym same ∙ ap (map size) parts ∙ map-append size front rest

@@ -1,4 +1,4 @@
--- Products and closures of relations that matrices represent.
+-- Unions, products and closures of relations that matrices represent.
 use Rattle.std.proofs.Common.{◌≡◌, ℕ, zero, suc, ◌<◌, ◌≤◌, Bool, ◌&&◌, ◌||◌, eqb, refl, ap, ◌∙◌, arith}
 use mathlib.Core.Path.{ap₂}
 use Rattle.kat_model.specs.Working.Decided.{some_below, warshall}
@@ -15,6 +15,9 @@ through_now_same r q n (suc k) le same i j li lj =
     let less : k ≤ n = omega arith in
     ap₂ ◌||◌ (through_now_same r q n k less same i j li lj)
     (ap₂ ◌&&◌ (through_now_same r q n k less same i k li lk) (through_now_same r q n k less same k j lk lj))
+
+pub union_told : (n : ℕ) (r q : ℕ → ℕ → Bool) (a b m : Square) → Tells n a r → Tells n b q → Tells n m (λ i j. entry a i j || entry b i j) → Tells n m (λ i j. r i j || q i j)
+union_told n r q a b m left right told i j li lj = told i j li lj ∙ ap₂ ◌||◌ (left i j li lj) (right i j li lj)
 
 pub product_told : (n : ℕ) (r q : ℕ → ℕ → Bool) (a b m : Square) → Tells n a r → Tells n b q → Tells n m (λ i j. some_below (λ k. entry a i k && entry b k j) n) → Tells n m (λ i j. some_below (λ k. r i k && q k j) n)
 product_told n r q a b m left right told i j li lj =

@@ -11,11 +11,21 @@ use std::alloc::Global;
 
 /// Which actions of a term are marked: none, the action itself, or some in the parts of a sum or product. A star has the
 /// marks of its body.
-#[derive(Drop)]
 pub(crate) enum Marks {
     Nowhere,
     Here,
     Both(Box<Marks>, Box<Marks>),
+}
+
+// Explicit, so that it is proved once and not at each end of each function that owns marks.
+impl Drop for Marks {
+    fn drop(self) {
+        match self {
+            Marks::Nowhere => {}
+            Marks::Here => {}
+            Marks::Both(_first, _second) => {}
+        }
+    }
 }
 
 // Whether no action is marked.

@@ -1,5 +1,5 @@
 //! Finite tables, and the table of a string.
-ghost use Rattle.std.specs.Prelude.{◌≡◌, IfOk};
+ghost use Rattle.std.specs.Prelude.{◌≡◌, ◌++◌, ◌∷◌, [], IfOk, OnOk};
 ghost use Rattle.string_relations.specs.Tables.{table_of as string_table};
 
 use crate::string::GString;
@@ -49,6 +49,22 @@ fn copy_of(alloc: Global, atom: &Items<bool>) -> Result<Items<bool>, NoMemory>
     Ok(Items::of(values))
 }
 
+// Appends the truth values of a state, and the move to it.
+fn push_state(
+    alloc: Global,
+    truths: &mut Vec<Items<bool>>,
+    moves: &mut Vec<Step>,
+    atom: &Items<bool>,
+    step: Step,
+) -> Result<(), NoMemory>
+    ensures truths { OnOk result (truths.new.items ≡ truths.old.items ++ atom.now ∷ []) }
+    ensures moves { OnOk result (moves.new.items ≡ moves.old.items ++ step ∷ []) }
+{
+    truths.push(copy_of(alloc, atom)?)?;
+    moves.push(step)?;
+    Ok(())
+}
+
 /// Returns the table of a string: its positions are the states, the truth values at each are its atom, and the only
 /// moves are from each position to the next. Fails only when out of memory.
 pub fn table_of(alloc: Global, string: &GString) -> Result<Table, NoMemory>
@@ -59,12 +75,12 @@ pub fn table_of(alloc: Global, string: &GString) -> Result<Table, NoMemory>
     truths.push(copy_of(alloc, &string.first)?)?;
     let mut moves = Vec::new(alloc);
     for (k, m) in rest.iter().enumerate() {
-        truths.push(copy_of(alloc, &m.atom)?)?;
-        moves.push(Step {
+        let step = Step {
             from: k,
             act: m.act,
             to: k + 1,
-        })?;
+        };
+        push_state(alloc, &mut truths, &mut moves, &m.atom, step)?;
     }
     Ok(Table {
         states: rest.len() + 1,

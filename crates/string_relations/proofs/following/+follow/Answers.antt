@@ -118,3 +118,105 @@ returns-in-Star-clause-image t c =
     let product : IsImage n c.args.row.now (entry c.close.new.m) c.row_product.new.to = rw states at c.row_product.ensures.told in
     let copied = rw states at c.copy_from-in-Star.ensures.copied in
     rw tree (image_told n c.args.row.now (warshall body n) c.close.new.m c.copy_from-in-Star.new.self closed (λ j lj. copied j lj ∙ product j lj))
+
+pub returns-in-Zero-clause-row : goal.returns-in-Zero-clause-row
+returns-in-Zero-clause-row t c = c.clear.ensures.width
+
+pub returns-in-Zero-clause-rows : goal.returns-in-Zero-clause-rows
+returns-in-Zero-clause-rows t c = refl
+
+pub returns-in-Zero-clause-size : goal.returns-in-Zero-clause-size
+returns-in-Zero-clause-size t c = refl
+
+pub returns-in-Zero-clause-sizes : goal.returns-in-Zero-clause-sizes
+returns-in-Zero-clause-sizes t c = refl
+
+pub returns-in-Zero-clause-width : goal.returns-in-Zero-clause-width
+returns-in-Zero-clause-width t c = refl
+
+pub returns-in-One-clause-row : goal.returns-in-One-clause-row
+returns-in-One-clause-row t c = refl
+
+pub returns-in-One-clause-rows : goal.returns-in-One-clause-rows
+returns-in-One-clause-rows t c = refl
+
+pub returns-in-One-clause-size : goal.returns-in-One-clause-size
+returns-in-One-clause-size t c = refl
+
+pub returns-in-One-clause-sizes : goal.returns-in-One-clause-sizes
+returns-in-One-clause-sizes t c = refl
+
+pub returns-in-One-clause-width : goal.returns-in-One-clause-width
+returns-in-One-clause-width t c = refl
+
+pub returns-in-Test-clause-row : goal.returns-in-Test-clause-row
+returns-in-Test-clause-row t c = c.keep_true.ensures.width
+
+pub returns-in-Test-clause-rows : goal.returns-in-Test-clause-rows
+returns-in-Test-clause-rows t c = refl
+
+pub returns-in-Test-clause-size : goal.returns-in-Test-clause-size
+returns-in-Test-clause-size t c = refl
+
+pub returns-in-Test-clause-sizes : goal.returns-in-Test-clause-sizes
+returns-in-Test-clause-sizes t c = refl
+
+pub returns-in-Test-clause-width : goal.returns-in-Test-clause-width
+returns-in-Test-clause-width t c = refl
+
+pub returns-in-Act-clause-row : goal.returns-in-Act-clause-row
+returns-in-Act-clause-row t c = c.copy_from.ensures.width
+
+pub returns-in-Act-clause-rows : goal.returns-in-Act-clause-rows
+returns-in-Act-clause-rows t c = refl
+
+pub returns-in-Act-clause-size : goal.returns-in-Act-clause-size
+returns-in-Act-clause-size t c = refl
+
+pub returns-in-Act-clause-sizes : goal.returns-in-Act-clause-sizes
+returns-in-Act-clause-sizes t c = refl
+
+pub returns-in-Act-clause-width : goal.returns-in-Act-clause-width
+returns-in-Act-clause-width t c = c.follow_action.ensures.width
+
+pub returns-in-Sum-clause-row : goal.returns-in-Sum-clause-row
+returns-in-Sum-clause-row t c = c.join.ensures.width ∙ c.follow.ensures.row
+
+pub returns-in-Sum-clause-size : goal.returns-in-Sum-clause-size
+returns-in-Sum-clause-size t c = c.follow-in-Sum.ensures.size ∙ c.follow.ensures.size
+
+pub returns-in-Sum-clause-sizes : goal.returns-in-Sum-clause-sizes
+returns-in-Sum-clause-sizes t c = c.follow-in-Sum.ensures.sizes ∙ c.follow.ensures.sizes
+
+pub returns-in-Sum-clause-width : goal.returns-in-Sum-clause-width
+returns-in-Sum-clause-width t c = c.follow-in-Sum.ensures.width ∙ c.follow.ensures.width
+
+pub returns-in-Seq-clause-row : goal.returns-in-Seq-clause-row
+returns-in-Seq-clause-row t c = c.follow-in-Seq-2.ensures.row ∙ c.follow-in-Seq.ensures.row
+
+pub returns-in-Seq-clause-rows : goal.returns-in-Seq-clause-rows
+returns-in-Seq-clause-rows t c = c.follow-in-Seq-2.ensures.rows ∙ c.follow-in-Seq.ensures.rows
+
+pub returns-in-Seq-clause-size : goal.returns-in-Seq-clause-size
+returns-in-Seq-clause-size t c = c.follow-in-Seq-2.ensures.size ∙ c.follow-in-Seq.ensures.size
+
+pub returns-in-Seq-clause-sizes : goal.returns-in-Seq-clause-sizes
+returns-in-Seq-clause-sizes t c = c.follow-in-Seq-2.ensures.sizes ∙ c.follow-in-Seq.ensures.sizes
+
+pub returns-in-Seq-clause-width : goal.returns-in-Seq-clause-width
+returns-in-Seq-clause-width t c = c.follow-in-Seq-2.ensures.width ∙ c.follow-in-Seq.ensures.width
+
+pub returns-in-Star-clause-row : goal.returns-in-Star-clause-row
+returns-in-Star-clause-row t c = c.copy_from-in-Star.ensures.width
+
+pub returns-in-Star-clause-rows : goal.returns-in-Star-clause-rows
+returns-in-Star-clause-rows t c = refl
+
+pub returns-in-Star-clause-size : goal.returns-in-Star-clause-size
+returns-in-Star-clause-size t c = c.close.ensures.size ∙ c.evaluate.ensures.size
+
+pub returns-in-Star-clause-sizes : goal.returns-in-Star-clause-sizes
+returns-in-Star-clause-sizes t c = c.evaluate.ensures.sizes
+
+pub returns-in-Star-clause-width : goal.returns-in-Star-clause-width
+returns-in-Star-clause-width t c = c.row_product.ensures.width ∙ c.close.ensures.width ∙ c.evaluate.ensures.width

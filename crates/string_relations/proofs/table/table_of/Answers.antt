@@ -15,10 +15,10 @@ loop-k-preserved c =
     let seen : record { act = c.m.inside.act; atom = c.m.inside.atom } ≡ m = c.m.view_is in
     let atoms : List Atom = c.loop-k.truths.items in
     let steps : List Step = c.loop-k.moves.items in
-    let atom : c.in_ok-copy_of-2.field-0 ≡ m.atom = c.in_ok-copy_of-2.ensures ∙ ap (λ (n : Move). n.atom) seen in
-    let atoms_are = c.in_ok-push-2.ensures.items ∙ ap (λ (a : Atom). atoms ++ a ∷ []) atom in
-    let steps_are = c.in_ok-push-3.ensures.items ∙ ap (λ (n : Move). steps ++ (record { from = i; act = n.act; to = i + 1 }) ∷ []) seen in
+    let atom : c.m.inside.atom ≡ m.atom = ap (λ (n : Move). n.atom) seen in
+    let atoms_are = c.in_ok-push_state.ensures.truths ∙ ap (λ (a : Atom). atoms ++ a ∷ []) atom in
+    let steps_are = c.in_ok-push_state.ensures.moves ∙ ap (λ (n : Move). steps ++ (record { from = i; act = n.act; to = i + 1 }) ∷ []) seen in
     record {
-      truths = atoms_pushed ms i m c.args.string.now.first atoms c.push-in-loop-k.new.self.items lt is c.loop-k.invariant.truths atoms_are;
-      moves = steps_from_pushed ms i m steps c.push-in-loop-k-2.new.self.items lt is c.loop-k.invariant.moves steps_are;
+      truths = atoms_pushed ms i m c.args.string.now.first atoms c.push_state.new.truths.items lt is c.loop-k.invariant.truths atoms_are;
+      moves = steps_from_pushed ms i m steps c.push_state.new.moves.items lt is c.loop-k.invariant.moves steps_are;
     }
