@@ -126,3 +126,9 @@ no_form_there fs k e = ap or_zero (slice_get-map form_tree fs k ∙ ap (option_m
 pub no_second : (b : Bool) → (b && false) ≡ false
 no_second true = refl
 no_second false = refl
+
+-- two parts that do not fit, beside the whole
+pub first_two : (a b c : Bool) → (a && b) ≡ false → (a && (b && c)) ≡ false
+first_two true true c h = absurd cc
+first_two true false c h = refl
+first_two false b c h = refl

@@ -96,17 +96,17 @@ fn bounded_product(alloc: Global, bound: &Bound, product: &FlowForm) -> Result<B
 }
 
 // Returns a bound of a conversion without sign that keeps all bits as one of its own form.
-fn narrower(alloc: Global, bound: &Bound) -> Result<Bound, NoMemory>
-    ensures { IfOk result (λ b. bound_tree b ≡ narrower_form_bound bound.now.width (form_tree bound.now.form) bound.now.number) }
+fn narrower(alloc: Global, bound: Bound) -> Result<Bound, NoMemory>
+    ensures { IfOk result (λ b. bound_tree b ≡ narrower_form_bound bound.width (form_tree bound.form) bound.number) }
 {
     match &bound.form {
         FlowForm::Term(times, product, rest) => {
             if is_alone(*times, rest) {
-                return bounded_product(alloc, bound, product);
+                return bounded_product(alloc, &bound, product);
             }
-            copy_bound(alloc, bound)
+            Ok(bound)
         }
-        _ => copy_bound(alloc, bound),
+        _ => Ok(bound),
     }
 }
 
@@ -158,9 +158,9 @@ fn below_number(
         form,
         number,
     };
-    let first = narrower(alloc, &bound)?;
-    let second = narrower(alloc, &first)?;
-    let third = narrower(alloc, &second)?;
+    let first = narrower(alloc, bound)?;
+    let second = narrower(alloc, first)?;
+    let third = narrower(alloc, second)?;
     settled(alloc, third)
 }
 

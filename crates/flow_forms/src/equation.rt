@@ -226,14 +226,14 @@ fn first_product(
 }
 
 // Returns an equation of conversions that keep all bits as one of their own forms.
-fn narrower(alloc: Global, equation: &Equation) -> Result<Equation, NoMemory>
-    ensures { IfOk result (λ e. equation_tree e ≡ narrower_form_equation equation.now.width (form_tree equation.now.form)) }
+fn narrower(alloc: Global, equation: Equation) -> Result<Equation, NoMemory>
+    ensures { IfOk result (λ e. equation_tree e ≡ narrower_form_equation equation.width (form_tree equation.form)) }
 {
     match &equation.form {
         FlowForm::Term(times, product, rest) => {
-            first_product(alloc, equation, *times, rest, product)
+            first_product(alloc, &equation, *times, rest, product)
         }
-        _ => copy_equation(alloc, equation),
+        _ => Ok(equation),
     }
 }
 
@@ -257,8 +257,8 @@ pub fn zero_literal(alloc: Global, width: Width, form: FlowForm) -> Result<FlowL
     ensures { IfOk result (λ l. literal_tree l ≡ zero_form_literal width (form_tree form)) }
 {
     let equation = Equation { width, form };
-    let first = narrower(alloc, &equation)?;
-    let second = narrower(alloc, &first)?;
-    let third = narrower(alloc, &second)?;
+    let first = narrower(alloc, equation)?;
+    let second = narrower(alloc, first)?;
+    let third = narrower(alloc, second)?;
     settled(alloc, third)
 }

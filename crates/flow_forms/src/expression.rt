@@ -43,6 +43,19 @@ fn take(alloc: Global, count: usize, stack: FlowForm) -> Result<Taken, NoMemory>
     Ok(Taken { arguments, rest })
 }
 
+/// Puts the form on a stack.
+pub(crate) fn stacked(
+    alloc: Global,
+    sort: Sort,
+    form: FlowForm,
+    stack: FlowForm,
+) -> Result<FlowForm, FormFault>
+    ensures made { IfOk result (λ f. form_tree f ≡ argument_form sort (form_tree form) (form_tree stack)) }
+    ensures refused { IfErr result (λ e. e ≡ FormFault.NoMemory) }
+{
+    Ok(FlowForm::new_argument(alloc, sort, form, stack)?)
+}
+
 // Puts the form on a stack, or fails with `TooLarge` if it has too many nodes.
 fn pushed(alloc: Global, sort: Sort, form: FlowForm, stack: FlowForm) -> Result<FlowForm, FormFault>
     ensures made { IfOk result (λ f. form_tree f ≡ argument_form sort (form_tree form) (form_tree stack)) }
@@ -50,7 +63,7 @@ fn pushed(alloc: Global, sort: Sort, form: FlowForm, stack: FlowForm) -> Result<
     ensures refused { IfErr result (λ e. e ≡ FormFault.TooLarge → is_small_form (form_tree form) ≡ false) }
 {
     let form = small(form)?;
-    Ok(FlowForm::new_argument(alloc, sort, form, stack)?)
+    stacked(alloc, sort, form, stack)
 }
 
 /// Returns the sort of a variable, or u64 if there is no such variable.
@@ -80,12 +93,13 @@ fn variable(
     forms: &[FlowForm],
     k: usize,
     stack: FlowForm,
-) -> Result<FlowForm, NoMemory>
-    ensures { IfOk result (λ f. form_tree f ≡ argument_form (or_number (slice_get sorts.now k)) (or_zero (slice_get (map form_tree forms.now) k)) (form_tree stack)) }
+) -> Result<FlowForm, FormFault>
+    ensures made { IfOk result (λ f. form_tree f ≡ argument_form (or_number (slice_get sorts.now k)) (or_zero (slice_get (map form_tree forms.now) k)) (form_tree stack)) }
+    ensures refused { IfErr result (λ e. e ≡ FormFault.NoMemory) }
 {
     let sort = sort_at(sorts, k);
     let form = form_at(alloc, forms, k)?;
-    FlowForm::new_argument(alloc, sort, form, stack)
+    stacked(alloc, sort, form, stack)
 }
 
 fn plus(alloc: Global, width: Width, stack: FlowForm) -> Result<FlowForm, FormFault>
@@ -118,7 +132,7 @@ fn times(alloc: Global, width: Width, stack: FlowForm) -> Result<FlowForm, FormF
     let first = stack.popped();
     let second = first.rest.popped();
     let form = checked_product(alloc, width, &first.form, &second.form)?;
-    Ok(FlowForm::new_argument(alloc, Sort::Number(width), form, second.rest)?)
+    stacked(alloc, Sort::Number(width), form, second.rest)
 }
 
 fn conversion(
@@ -134,7 +148,7 @@ fn conversion(
 {
     let top = stack.popped();
     let form = checked_conversion(alloc, signed, from, to, &top.form)?;
-    Ok(FlowForm::new_argument(alloc, Sort::Number(to), form, top.rest)?)
+    stacked(alloc, Sort::Number(to), form, top.rest)
 }
 
 /// Returns the form of a sort that is one cell.
@@ -178,9 +192,9 @@ fn with_node(
     match node {
         ExprNode::Number(width, n) => {
             let form = FlowForm::Constant(width.residue(n));
-            Ok(FlowForm::new_argument(alloc, Sort::Number(width), form, stack)?)
+            stacked(alloc, Sort::Number(width), form, stack)
         }
-        ExprNode::Variable(k) => Ok(variable(alloc, sorts, forms, k, stack)?),
+        ExprNode::Variable(k) => variable(alloc, sorts, forms, k, stack),
         ExprNode::Plus(width) => plus(alloc, width, stack),
         ExprNode::Minus(width) => minus(alloc, width, stack),
         ExprNode::Times(width) => times(alloc, width, stack),

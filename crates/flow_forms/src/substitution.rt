@@ -9,7 +9,7 @@ ghost use Rattle.flow_forms.specs.Substitution.{place_of as place_of_sort, cell_
 use crate::arithmetic::multiple_plus;
 use crate::checked::{checked_conversion, checked_product, small};
 use crate::conversion::is_same_width;
-use crate::expression::{cell_of, form_at, sort_at};
+use crate::expression::{cell_of, form_at, sort_at, stacked};
 use crate::fault::FormFault;
 use crate::form::FlowForm;
 use flow_model::Sort;
@@ -34,13 +34,6 @@ pub fn place_of(sort: Sort) -> Place
     }
 }
 
-// Returns the form as the one argument.
-fn alone(alloc: Global, sort: Sort, form: FlowForm) -> Result<FlowForm, NoMemory>
-    ensures { IfOk result (λ f. form_tree f ≡ cell_in_place Place.AsArgument sort (form_tree form)) }
-{
-    FlowForm::new_argument(alloc, sort, form, FlowForm::NoArguments)
-}
-
 fn in_number(alloc: Global, width: Width, own: Width, form: FlowForm) -> Result<FlowForm, FormFault>
     ensures made { IfOk result (λ f. form_tree f ≡ cell_in_place (Place.InNumber width) (Sort.Number own) (form_tree form)) }
     ensures fits { IfOk result (λ _. cell_fits_in (Place.InNumber width) (Sort.Number own) (form_tree form) ≡ true) }
@@ -61,9 +54,9 @@ fn cell_in(alloc: Global, place: Place, sort: Sort, form: FlowForm) -> Result<Fl
     match (place, sort) {
         (Place::InNumber(width), Sort::Number(own)) => in_number(alloc, width, own, form),
         (Place::InNumber(_), Sort::Opaque(_)) => Ok(form),
-        (Place::AsValue, Sort::Number(_)) => Ok(alone(alloc, sort, form)?),
+        (Place::AsValue, Sort::Number(_)) => stacked(alloc, sort, form, FlowForm::NoArguments),
         (Place::AsValue, Sort::Opaque(_)) => Ok(form),
-        (Place::AsArgument, _) => Ok(alone(alloc, sort, form)?),
+        (Place::AsArgument, _) => stacked(alloc, sort, form, FlowForm::NoArguments),
     }
 }
 
@@ -184,7 +177,8 @@ fn conversion_in(
 
 /// Returns a form with forms in place of its variables, whose sorts are given. Fails with `TooLarge` exactly if the form
 /// or a part of it becomes too large, or too large to be multiplied out.
-#[tactic(auto, using(crate::proofs::Evaluated::no_second))]
+#[tactic(auto, using(crate::proofs::Evaluated::no_second, crate::proofs::Evaluated::first_two))]
+#[cycle(substituted)]
 pub fn substitute(
     alloc: Global,
     sorts: &[Sort],
@@ -199,14 +193,14 @@ pub fn substitute(
     match form {
         FlowForm::Constant(c) => Ok(FlowForm::Constant(*c)),
         FlowForm::Term(times, product, rest) => {
-            let product = substitute(alloc, sorts, forms, place, product)?;
-            let rest = substitute(alloc, sorts, forms, place, rest)?;
+            let (product, rest) = substitute_both(
+                alloc, sorts, forms, place, product, place, rest,
+            )?;
             sum_in(alloc, place, *times, product, rest)
         }
         FlowForm::One => Ok(one_in(place)),
         FlowForm::Factor(cell, rest) => {
-            let cell = substitute(alloc, sorts, forms, place, cell)?;
-            let rest = substitute(alloc, sorts, forms, place, rest)?;
+            let (cell, rest) = substitute_both(alloc, sorts, forms, place, cell, place, rest)?;
             product_in(alloc, place, cell, rest)
         }
         FlowForm::Variable(k) => variable_in(alloc, sorts, forms, place, *k),
@@ -220,9 +214,40 @@ pub fn substitute(
         }
         FlowForm::NoArguments => Ok(FlowForm::NoArguments),
         FlowForm::Argument(sort, part, rest) => {
-            let part = substitute(alloc, sorts, forms, place_of(*sort), part)?;
-            let rest = substitute(alloc, sorts, forms, Place::AsArgument, rest)?;
-            Ok(FlowForm::new_argument(alloc, *sort, part, rest)?)
+            let own = place_of(*sort);
+            let (part, rest) = substitute_both(
+                alloc,
+                sorts,
+                forms,
+                own,
+                part,
+                Place::AsArgument,
+                rest,
+            )?;
+            stacked(alloc, *sort, part, rest)
         }
     }
+}
+
+// Returns both forms with forms in place of their variables, each for its own place.
+#[tactic(auto, using(crate::proofs::Evaluated::no_second))]
+#[cycle(substituted)]
+fn substitute_both(
+    alloc: Global,
+    sorts: &[Sort],
+    forms: &[FlowForm],
+    first_place: Place,
+    first: &FlowForm,
+    second_place: Place,
+    second: &FlowForm,
+) -> Result<(FlowForm, FlowForm), FormFault>
+    ensures first { IfOk result (λ both. form_tree both.0 ≡ substituted sorts.now (map form_tree forms.now) first_place (form_tree first.now)) }
+    ensures second { IfOk result (λ both. form_tree both.1 ≡ substituted sorts.now (map form_tree forms.now) second_place (form_tree second.now)) }
+    ensures first_fits { IfOk result (λ _. substitution_fits sorts.now (map form_tree forms.now) first_place (form_tree first.now) ≡ true) }
+    ensures second_fits { IfOk result (λ _. substitution_fits sorts.now (map form_tree forms.now) second_place (form_tree second.now) ≡ true) }
+    ensures refused { IfErr result (λ e. e ≡ FormFault.TooLarge → (substitution_fits sorts.now (map form_tree forms.now) first_place (form_tree first.now) && substitution_fits sorts.now (map form_tree forms.now) second_place (form_tree second.now)) ≡ false) }
+{
+    let first = substitute(alloc, sorts, forms, first_place, first)?;
+    let second = substitute(alloc, sorts, forms, second_place, second)?;
+    Ok((first, second))
 }
