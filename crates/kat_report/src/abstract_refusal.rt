@@ -2,7 +2,7 @@
 ghost use Rattle.std.specs.Prelude.{◌≡◌, IfOk};
 ghost use Rattle.kat_report.specs.AbstractRefusals.{abstract_fault_word, abstract_fault_line};
 
-use crate::writing::put;
+use crate::writing::{put, put_word};
 use abstraction::AbstractFault;
 use kat_model::NoMemory;
 use std::alloc::Global;
@@ -22,9 +22,8 @@ fn word(fault: &AbstractFault) -> &'static str
 pub fn abstract_fault_line(alloc: Global, fault: &AbstractFault) -> Result<Vec<u8>, NoMemory>
     ensures { IfOk result (λ v. v.items ≡ abstract_fault_line fault.now) }
 {
-    let mut line = Vec::new(alloc);
-    put(&mut line, b"refused: ")?;
-    put(&mut line, word(fault).as_bytes())?;
+    let mut line = b"refused: ".to_vec(alloc)?;
+    put_word(&mut line, word(fault))?;
     put(&mut line, b"\n")?;
     Ok(line)
 }

@@ -1,11 +1,11 @@
 //! The line with the reason why evidence is refused.
-ghost use Rattle.std.specs.Prelude.{◌≡◌, ◌≢◌, IfOk};
-ghost use Rattle.kat_report.specs.Refusals.{evidence_word, evidence_place, evidence_fault_line};
+ghost use Rattle.std.specs.Prelude.{◌≡◌, ◌≢◌, ◌++◌, ◌∷◌, [], IfOk, OnOk};
+ghost use Rattle.kat_report.specs.Refusals.{evidence_word, evidence_place, place_text, evidence_fault_line};
 
+use crate::writing::{put_number, put_word};
 use certificate::EvidenceFault;
 use kat_model::NoMemory;
 use std::alloc::Global;
-use std::fmt::Write;
 
 fn word(fault: &EvidenceFault) -> &'static str
     ensures { result.now ≡ evidence_word fault.now }
@@ -37,6 +37,19 @@ fn place(fault: &EvidenceFault) -> Option<u64>
     }
 }
 
+// Appends the word of a fault, a space and the line number, if any, and a line feed.
+fn put_fault(alloc: Global, line: &mut Vec<u8>, fault: &EvidenceFault) -> Result<(), NoMemory>
+    ensures { OnOk result (line.new.items ≡ line.old.items ++ (evidence_word fault.now ++ place_text (evidence_place fault.now) ++ 10 ∷ [])) }
+{
+    put_word(line, word(fault))?;
+    if let Some(n) = place(fault) {
+        put_word(line, " ")?;
+        put_number(alloc, line, n)?;
+    }
+    line.push(b'\n')?;
+    Ok(())
+}
+
 /// Returns the line with the reason why evidence is refused: `refused: evidence WORD` with the name of the fault, and a
 /// space and the line number, counted from 1, if the fault is in a line. The fault `NoMemory` has no line. Fails only
 /// when out of memory.
@@ -45,10 +58,6 @@ pub fn evidence_fault_line(alloc: Global, fault: &EvidenceFault) -> Result<Vec<u
     ensures { IfOk result (λ line. line.items ≡ evidence_fault_line fault.now) }
 {
     let mut line = b"refused: evidence ".to_vec(alloc)?;
-    line.extend_from_slice(word(fault).as_bytes())?;
-    if let Some(n) = place(fault) {
-        line.extend_from_slice(format!(in alloc; " {n}")?.as_bytes())?;
-    }
-    line.push(b'\n')?;
+    put_fault(alloc, &mut line, fault)?;
     Ok(line)
 }

@@ -2,6 +2,7 @@
 ghost use Rattle.std.specs.Prelude.{◌≡◌, IfOk};
 ghost use Rattle.kat_report.specs.FormRefusals.{form_fault_line};
 
+use crate::writing::numbered_line;
 use kat_model::NoMemory;
 use one_loop::OneLoopFault;
 use std::alloc::Global;
@@ -16,8 +17,7 @@ pub fn form_fault_line(alloc: Global, fault: OneLoopFault) -> Result<Vec<u8>, No
         OneLoopFault::NoMemory => Ok(Vec::new(alloc)),
         OneLoopFault::TooManyVars => Ok(b"refused: TooManyVars\n".to_vec(alloc)?),
         OneLoopFault::TooManyStatements(n) => {
-            let line = format!(in alloc; "refused: TooManyStatements {n}\n")?;
-            Ok(line.as_bytes().to_vec(alloc)?)
+            numbered_line(alloc, b"refused: TooManyStatements ", n)
         }
     }
 }

@@ -1,23 +1,12 @@
 //! The lines with the reasons why `outline` refuses a file or notes, or rejects notes.
-ghost use Rattle.std.specs.Prelude.{◌≡◌, ◌∷◌, [], ◌++◌, IfOk};
-ghost use Rattle.std.specs.Fmt.{decimal};
+ghost use Rattle.std.specs.Prelude.{◌≡◌, IfOk};
 ghost use Rattle.kat_report.specs.OutlineLines.{not_a_triple_line, not_simple_line, notes_fault_line, note_reason_line};
 
+use crate::writing::numbered_line;
 use kat_model::NoMemory;
 use outline_notes::NotesFault;
 use outline_rules::NoteReason;
 use std::alloc::Global;
-use std::fmt::Write;
-
-// Returns the line of words and a number.
-fn numbered_line(alloc: Global, words: &[u8], number: u64) -> Result<Vec<u8>, NoMemory>
-    ensures { IfOk result (λ line. line.items ≡ words.now ++ decimal number ++ 10 ∷ []) }
-{
-    let mut line = words.to_vec(alloc)?;
-    line.extend_from_slice(format!(in alloc; "{number}")?.as_bytes())?;
-    line.push(b'\n')?;
-    Ok(line)
-}
 
 /// Returns the line `refused: NotATriple`: the goal is not a triple of a program.
 pub fn not_a_triple_line() -> &'static [u8]

@@ -4,9 +4,9 @@ ghost use Rattle.std.specs.Fmt.{decimal};
 ghost use Rattle.text_print.specs.Printing.{name_of};
 ghost use Rattle.kat_report.specs.RunTexts.{values_text, outcome_line};
 
+use crate::writing::{put, put_number, put_word};
 use kat_model::NoMemory;
 use std::alloc::Global;
-use std::fmt::Write;
 use text_print::name_of;
 use text_scopes::{Meaning, Scope};
 use while_lang::{Outcome, Store};
@@ -14,10 +14,10 @@ use while_lang::{Outcome, Store};
 fn put_value(alloc: Global, out: &mut Vec<u8>, name: &str, value: u64) -> Result<(), NoMemory>
     ensures { OnOk result (out.new.items ≡ out.old.items ++ (codes " " ++ name.now ++ codes "=" ++ decimal value)) }
 {
-    out.push(b' ')?;
-    out.extend_from_slice(name.as_bytes())?;
-    out.extend_from_slice(format!(in alloc; "={value}")?.as_bytes())?;
-    Ok(())
+    put(out, b" ")?;
+    put_word(out, name)?;
+    put(out, b"=")?;
+    put_number(alloc, out, value)
 }
 
 fn put_values(

@@ -1,5 +1,5 @@
 //! An abstraction as the text of a problem.
-ghost use Rattle.std.specs.Prelude.{◌≡◌, IfOk};
+ghost use Rattle.std.specs.Prelude.{◌≡◌, [], IfOk, OnOk};
 ghost use Rattle.problem_texts.specs.Working.Scopes.{IsPlain};
 ghost use Rattle.kat_report.specs.Shows.{show_text};
 
@@ -12,19 +12,34 @@ use problem_texts::{plain_scope, put_actions, put_goal, put_tests};
 use std::alloc::Global;
 use text_scopes::Scope;
 
+// Writes the text of the problem to an empty list, given a scope with its names.
+fn put_text(
+    alloc: Global,
+    out: &mut Vec<u8>,
+    file: &File,
+    shown: &Abstract,
+    plain: &Scope,
+) -> Result<(), NoMemory>
+    requires empty { out.old.items ≡ [] }
+    requires plain { IsPlain plain.now shown.now.problem.tests shown.now.problem.actions }
+    ensures { OnOk result (out.new.items ≡ show_text file.now.scope shown.now) }
+{
+    let problem = &shown.problem;
+    put_test_comments(alloc, out, &shown.tests, &file.scope)?;
+    put_tests(alloc, out, problem.tests())?;
+    put_action_comments(alloc, out, &shown.actions, &file.scope)?;
+    put_actions(alloc, out, problem.actions())?;
+    put_hyps(alloc, out, &shown.rules, problem, plain)?;
+    put_goal(alloc, out, problem.left(), problem.right(), plain)
+}
+
 // Returns the text of the problem, given a scope with its names.
 fn text_in(alloc: Global, file: &File, shown: &Abstract, plain: &Scope) -> Result<Vec<u8>, NoMemory>
     requires { IsPlain plain.now shown.now.problem.tests shown.now.problem.actions }
     ensures { IfOk result (λ v. v.items ≡ show_text file.now.scope shown.now) }
 {
-    let problem = &shown.problem;
     let mut out = Vec::new(alloc);
-    put_test_comments(alloc, &mut out, &shown.tests, &file.scope)?;
-    put_tests(alloc, &mut out, problem.tests())?;
-    put_action_comments(alloc, &mut out, &shown.actions, &file.scope)?;
-    put_actions(alloc, &mut out, problem.actions())?;
-    put_hyps(alloc, &mut out, &shown.rules, problem, plain)?;
-    put_goal(alloc, &mut out, problem.left(), problem.right(), plain)?;
+    put_text(alloc, &mut out, file, shown, plain)?;
     Ok(out)
 }
 

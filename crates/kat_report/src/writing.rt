@@ -1,5 +1,5 @@
 //! Appending to a text.
-ghost use Rattle.std.specs.Prelude.{◌≡◌, ◌++◌, OnOk};
+ghost use Rattle.std.specs.Prelude.{◌≡◌, ◌++◌, ◌∷◌, [], IfOk, OnOk};
 ghost use Rattle.std.specs.Fmt.{decimal};
 
 use kat_model::NoMemory;
@@ -37,6 +37,15 @@ pub(crate) fn put_numbered(
     ensures { OnOk result (out.new.items ≡ out.old.items ++ (word.now ++ decimal number)) }
 {
     put_word(out, word)?;
-    out.extend_from_slice(format!(in alloc; "{number}")?.as_bytes())?;
-    Ok(())
+    put_number(alloc, out, number as u64)
+}
+
+/// Returns the line of words and a number.
+pub(crate) fn numbered_line(alloc: Global, words: &[u8], number: u64) -> Result<Vec<u8>, NoMemory>
+    ensures { IfOk result (λ line. line.items ≡ words.now ++ decimal number ++ 10 ∷ []) }
+{
+    let mut line = words.to_vec(alloc)?;
+    put_number(alloc, &mut line, number)?;
+    put(&mut line, b"\n")?;
+    Ok(line)
 }
