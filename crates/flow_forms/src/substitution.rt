@@ -71,8 +71,7 @@ fn unchecked_sum(
 {
     match place {
         Place::InNumber(width) => multiple_plus(alloc, width, times, product, rest),
-        Place::AsValue => FlowForm::new_term(alloc, times, product, rest),
-        Place::AsArgument => FlowForm::new_term(alloc, times, product, rest),
+        Place::AsValue | Place::AsArgument => FlowForm::new_term(alloc, times, product, rest),
     }
 }
 
@@ -96,8 +95,7 @@ fn one_in(place: Place) -> FlowForm
 {
     match place {
         Place::InNumber(_) => FlowForm::Constant(1),
-        Place::AsValue => FlowForm::One,
-        Place::AsArgument => FlowForm::One,
+        Place::AsValue | Place::AsArgument => FlowForm::One,
     }
 }
 
@@ -122,8 +120,7 @@ fn product_in(
 {
     match place {
         Place::InNumber(width) => checked_product(alloc, width, &cell, &rest),
-        Place::AsValue => one_factor(alloc, cell, rest),
-        Place::AsArgument => one_factor(alloc, cell, rest),
+        Place::AsValue | Place::AsArgument => one_factor(alloc, cell, rest),
     }
 }
 
