@@ -161,7 +161,6 @@ fn put_part(
 }
 
 /// Writes the terms of a form with their signs, then its constant.
-#[tactic(auto, using(crate::proofs::SignedSums::signed_more))]
 #[cycle(signed)]
 pub(crate) fn put_signed(
     alloc: Global,
@@ -208,7 +207,6 @@ fn still_first(width: Width, side: bool, first: bool, term: &Term) -> bool
 }
 
 // Writes the parts of a form with this sign.
-#[tactic(auto, using(crate::proofs::SignedSums::half_more))]
 fn put_half(
     alloc: Global,
     out: &mut Vec<u8>,

@@ -47,18 +47,23 @@ fn mark_all_parts(marks: &mut [bool], nodes: &[TestNode]) {
     }
 }
 
-// Returns the primitive tests that the tests of pairs name.
-fn asked_tests(alloc: Global, cert: &Cert) -> Result<Vec<usize>, NoMemory> {
-    let mut marks = vec![in alloc; false; cert.test_nodes().len()]?;
-    mark_pair_tests(&mut marks, cert);
-    mark_all_parts(&mut marks, cert.test_nodes());
+// Returns the primitive tests at the marked places.
+fn marked_prims(alloc: Global, nodes: &[TestNode], marks: &[bool]) -> Result<Vec<usize>, NoMemory> {
     let mut prims = Vec::new(alloc);
-    for (node, mark) in cert.test_nodes().iter().zip(&marks) {
+    for (node, mark) in nodes.iter().zip(marks) {
         if let (TestNode::Prim(k), true) = (node, *mark) {
             prims.push(*k)?;
         }
     }
     Ok(prims)
+}
+
+// Returns the primitive tests that the tests of pairs name.
+fn asked_tests(alloc: Global, cert: &Cert) -> Result<Vec<usize>, NoMemory> {
+    let mut marks = vec![in alloc; false; cert.test_nodes().len()]?;
+    mark_pair_tests(&mut marks, cert);
+    mark_all_parts(&mut marks, cert.test_nodes());
+    marked_prims(alloc, cert.test_nodes(), &marks)
 }
 
 // Marks the long hypotheses, and the short ones that depend, after each action or without one, only on tests that the

@@ -29,5 +29,5 @@ pub(crate) fn put_numbered(
     ensures { OnOk result (out.new.items ≡ out.old.items ++ (text.now ++ decimal number)) }
 {
     put(out, text)?;
-    put(out, format!(in alloc; "{number}")?.as_bytes())
+    put_number(alloc, out, number as u64)
 }
