@@ -10,25 +10,25 @@ use Rattle.kat_model.specs.Stores.{modulus, Store, holds}
 use Rattle.kat_model.specs.Relations.{RelatesIn, Same}
 use Rattle.kat_model.proofs.Places.{place_of_member}
 use Rattle.linear_forms.specs.Atomic.{Atomic}
-use Rattle.file_parts.specs.Files.{FileParts, GoalTree, equal, triple, prog_side}
-use Rattle.file_parts.specs.Concrete.{AsksOfProgs, IsStoreOf, EndAlike, MeetsTriple, GoalAgrees}
-use Rattle.file_parts.specs.Ranges.{IsProgInRange, IsGoalInRange}
+use Rattle.while_lang.specs.Files.{FileParts, GoalTree, equal, triple, prog_side}
+use Rattle.while_lang.specs.Concrete.{AsksOfProgs, IsStoreOf, EndAlike, MeetsTriple, GoalAgrees}
+use Rattle.while_lang.specs.Ranges.{IsProgInRange, IsGoalInRange}
 use Rattle.while_lang.specs.Programs.{ProgTree}
 use Rattle.abstraction.specs.Abstracts.{AbstractParts, test_rows_of, action_rows_of, file_problem, abstract_parts, abstract_of, HasNumbersInRange}
-use Rattle.abstract_tables.specs.Comparisons.{Assignment, goal_comparisons, goal_assignments, cond_comparisons, prog_comparisons, prog_assignments}
-use Rattle.abstract_tables.specs.Goals.{goal_sides}
+use Rattle.abstraction.specs.Comparisons.{Assignment, goal_comparisons, goal_assignments, cond_comparisons, prog_comparisons, prog_assignments}
+use Rattle.abstraction.specs.Goals.{goal_sides}
 use Rattle.abstraction.specs.Laws.{DerivedHold, AgreesWhereSame}
-use Rattle.abstract_tables.specs.Rounds.{file_comparisons, tables_of}
+use Rattle.abstraction.specs.Rounds.{file_comparisons, tables_of}
 use Rattle.abstraction.specs.StoreFrames.{row_holds, Sets}
-use Rattle.abstract_tables.specs.Tables.{file_assignments}
+use Rattle.abstraction.specs.Tables.{file_assignments}
 use Rattle.abstraction.specs.declared.rows.ActionRow.{ActionRow}
 use Rattle.abstraction.specs.declared.rows.ActionRow.TheVariants as action
 use Rattle.abstraction.specs.declared.rows.TestRow.TheVariants as test
 use Rattle.abstraction.proofs.DerivedHypotheses.{abstract_parts_of}
 use Rattle.kat_model.proofs.PathTables.{FitsProblem, same_in_frame}
-use Rattle.abstract_tables.proofs.ProgramRuns.{ends_as_related, holds_read, fails_read}
+use Rattle.abstraction.proofs.ProgramRuns.{ends_as_related, holds_read, fails_read}
 use Rattle.abstraction.proofs.RowTruths.{length-rows, tables_with, frame_with, two_within, three_within, cond_read, prog_read}
-use Rattle.abstract_tables.proofs.GoalRows.{goal_comparisons_within, goal_assignments_within}
+use Rattle.abstraction.proofs.GoalRows.{goal_comparisons_within, goal_assignments_within}
 
 -- ---- goals over tables that have their rows
 

@@ -1,6 +1,6 @@
 -- The meaning of a returned abstraction over stores.
 use Rattle.std.proofs.Common.{Result, Ok, Err, IfOk}
-use Rattle.file_parts.specs.Files.{FileParts}
+use Rattle.while_lang.specs.Files.{FileParts}
 use Rattle.abstraction.specs.declared.fault.AbstractFault.{AbstractFault}
 use Rattle.abstraction.specs.Abstracts.{AbstractParts, HasNumbersInRange, IsAbstraction}
 use Rattle.abstraction.specs.Laws.{DerivedHold, AgreesWhereSame}

@@ -11,12 +11,12 @@ use Rattle.linear_forms.specs.Atomic.{Atomic}
 use Rattle.linear_forms.specs.CondForm.{CondForm}
 use Rattle.linear_arithmetic.proofs.StoredValues.{modulus_above_one}
 use Rattle.linear_arithmetic.proofs.Truths.{substituted_holds}
-use Rattle.abstract_hypotheses.specs.declared.rule.Rule.TheVariants.{Assign}
-use Rattle.abstract_tables.specs.Comparisons.{Assignment}
-use Rattle.abstract_tables.specs.Tables.{Tables}
-use Rattle.abstract_tables.specs.Tests.{form_test}
-use Rattle.abstract_hypotheses.specs.Facts.{Hypothesis, TestRowOf}
-use Rattle.abstract_hypotheses.specs.Derived.{ActionRowOf, test_rows, keeps_before, assignment_facts}
+use Rattle.abstraction.specs.declared.rule.Rule.TheVariants.{Assign}
+use Rattle.abstraction.specs.Comparisons.{Assignment}
+use Rattle.abstraction.specs.Tables.{Tables}
+use Rattle.abstraction.specs.Tests.{form_test}
+use Rattle.abstraction.specs.Facts.{Hypothesis, TestRowOf}
+use Rattle.abstraction.specs.Derived.{ActionRowOf, test_rows, keeps_before, assignment_facts}
 use Rattle.kat_model.proofs.RelatesNothing.{around_action}
 use Rattle.abstraction.proofs.TestRows.{IsTestRow, holds_at, fails_at, form_test_holds}
 use Rattle.abstraction.proofs.FactsHold.{HoldsIn}

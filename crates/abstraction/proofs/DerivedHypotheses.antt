@@ -8,18 +8,18 @@ use Rattle.kat_model.specs.Relations.{Frame}
 use Rattle.kat_model.specs.declared.limits.TheConstants.{MAX_TESTS, MAX_ACTIONS, MAX_TERM_NODES}
 use Rattle.kat_model.specs.Problems.{problem_size}
 use Rattle.linear_arithmetic.proofs.StoredValues.{modulus_above_one}
-use Rattle.file_parts.specs.Files.{FileParts}
+use Rattle.while_lang.specs.Files.{FileParts}
 use Rattle.abstraction.specs.declared.fault.AbstractFault.TheVariants.{TooManyTests, TooManyActions, ProblemTooLarge}
-use Rattle.abstract_tables.specs.Tables.{Tables, first_comparisons, file_assignments}
-use Rattle.abstract_tables.specs.Rounds.{tables_of}
-use Rattle.abstract_hypotheses.specs.Facts.{Hypothesis, TestRowOf, fact_one, fact_two, fact_three, fact_four, fact_five, fact_six}
-use Rattle.abstract_hypotheses.specs.Derived.{stated_from, assignment_facts, test_rows, action_rows, of_pairs, derived, hypotheses}
+use Rattle.abstraction.specs.Tables.{Tables, first_comparisons, file_assignments}
+use Rattle.abstraction.specs.Rounds.{tables_of}
+use Rattle.abstraction.specs.Facts.{Hypothesis, TestRowOf, fact_one, fact_two, fact_three, fact_four, fact_five, fact_six}
+use Rattle.abstraction.specs.Derived.{stated_from, assignment_facts, test_rows, action_rows, of_pairs, derived, hypotheses}
 use Rattle.abstraction.specs.Abstracts.{AbstractParts, file_problem, abstract_parts, abstract_of, HasNumbersInRange}
 use Rattle.abstraction.specs.StoreFrames.{Sets, store_frame}
 use Rattle.abstraction.specs.Laws.{DerivedHold}
-use Rattle.abstract_tables.proofs.EachElement.{All-flat_map}
+use Rattle.abstraction.proofs.EachElement.{All-flat_map}
 use Rattle.abstraction.proofs.EachDerived.{All-of_pairs, All-slice_get_past}
-use Rattle.abstract_tables.proofs.TableForms.{assignments_in_range, comparisons_atomic}
+use Rattle.abstraction.proofs.TableForms.{assignments_in_range, comparisons_atomic}
 use Rattle.kat_model.proofs.RelatesNothing.{RelatesNone}
 use Rattle.abstraction.proofs.TestRows.{IsTestRow}
 use Rattle.abstraction.proofs.FactsHold.{HoldsIn, fact_one_holds, fact_two_holds, fact_three_holds, fact_four_holds, fact_five_holds, fact_six_holds}

@@ -2,8 +2,8 @@
 use Rattle.std.proofs.Common.{◌≡◌, ℕ, zero, suc, ◌≤◌, List, [], ◌∷◌, ◌++◌, length, flat_map, slice_get, All, Some, subst, arith}
 use Rattle.std.proofs.lemmas.List.Elements.{All-get_or, All-weaker}
 use Rattle.std.proofs.lemmas.Option.{slice_get_within, get_or_from_slice_get}
-use Rattle.abstract_hypotheses.specs.Derived.{of_pairs}
-use Rattle.abstract_tables.proofs.EachElement.{All-flat_map}
+use Rattle.abstraction.specs.Derived.{of_pairs}
+use Rattle.abstraction.proofs.EachElement.{All-flat_map}
 
 module _ {X : Type 0} (P : X → Type 0) where
   pub All-slice_get : (xs : List X) (k : ℕ) (x : X) → All P xs → slice_get xs k ≡ Some x → P x

@@ -9,13 +9,13 @@ use Rattle.linear_forms.specs.Forms.{FormTree, constant, var_term, form_of_var}
 use Rattle.linear_forms.specs.Atomic.TheVariants.{Zero, Less}
 use Rattle.text_scopes.specs.ScopeParts.{empty_scope}
 use Rattle.while_lang.specs.Programs.{empty, assign_then}
-use Rattle.file_parts.specs.Files.{prog_side, GoalTree, triple, FileParts}
-use Rattle.abstract_hypotheses.specs.declared.rule.Rule.{Rule}
-use Rattle.abstract_hypotheses.specs.declared.rule.Rule.TheVariants.{Assign, F1, F2, F3, F4, F5, F6}
+use Rattle.while_lang.specs.Files.{prog_side, GoalTree, triple, FileParts}
+use Rattle.abstraction.specs.declared.rule.Rule.{Rule}
+use Rattle.abstraction.specs.declared.rule.Rule.TheVariants.{Assign, F1, F2, F3, F4, F5, F6}
 use Rattle.abstraction.specs.declared.rows.TestRow.TheVariants.{Compare}
-use Rattle.abstract_tables.specs.Rounds.{tables_of}
-use Rattle.abstract_hypotheses.specs.Facts.{Hypothesis, fact_one, fact_two, fact_three, fact_four, fact_five, fact_six}
-use Rattle.abstract_hypotheses.specs.Derived.{derived}
+use Rattle.abstraction.specs.Rounds.{tables_of}
+use Rattle.abstraction.specs.Facts.{Hypothesis, fact_one, fact_two, fact_three, fact_four, fact_five, fact_six}
+use Rattle.abstraction.specs.Derived.{derived}
 use Rattle.abstraction.specs.Abstracts.{test_rows_of, abstract_parts, abstract_of}
 
 abbrev x : FormTree

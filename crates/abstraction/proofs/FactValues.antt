@@ -10,7 +10,7 @@ use Rattle.linear_forms.specs.Values.{form_value}
 use Rattle.linear_forms.specs.Comparisons.{canonical}
 use Rattle.linear_arithmetic.proofs.Polynomials.{form_value-form_sum}
 use Rattle.linear_arithmetic.proofs.Truths.{form_value_below, zero-canonical, zero-form_difference, constant_below_sum, apart-form_difference}
-use Rattle.abstract_hypotheses.specs.Facts.{is_nonzero, are_less}
+use Rattle.abstraction.specs.Facts.{is_nonzero, are_less}
 
 -- a constant other than 0
 nonzero_constant : (f : FormTree) → is_nonzero f ≡ true → (c : ℕ) × (f ≡ constant c) × (c ≢ 0)

@@ -8,13 +8,13 @@ use Rattle.linear_forms.specs.Forms.{FormTree, constant, var_term, product_term}
 use Rattle.linear_forms.specs.Arithmetic.{form_sum, form_difference}
 use Rattle.linear_forms.specs.Comparisons.{substituted}
 use Rattle.linear_forms.specs.Atomic.TheVariants.{Zero, Less}
-use Rattle.abstract_hypotheses.specs.declared.rule.Rule.{Rule}
-use Rattle.abstract_tables.specs.Tables.{Tables}
-use Rattle.abstract_tables.specs.Tests.{form_test}
-use Rattle.abstract_hypotheses.specs.Facts.{Hypothesis, TestRowOf, fact_if, fact_one, fact_two, fact_three, fact_four, decided_by, fact_five, fact_six, excludes, implies}
-use Rattle.abstract_hypotheses.specs.Derived.{ActionRowOf, stated_from, keeps_before, assignment_facts, test_rows, action_rows, of_pairs, derived, hypotheses}
-use Rattle.abstract_tables.proofs.TestRanges.{OptionInRange, all_tests, all_actions, form_test_in}
-use Rattle.file_parts.proofs.RangesGrow.{IsInRange-more}
+use Rattle.abstraction.specs.declared.rule.Rule.{Rule}
+use Rattle.abstraction.specs.Tables.{Tables}
+use Rattle.abstraction.specs.Tests.{form_test}
+use Rattle.abstraction.specs.Facts.{Hypothesis, TestRowOf, fact_if, fact_one, fact_two, fact_three, fact_four, decided_by, fact_five, fact_six, excludes, implies}
+use Rattle.abstraction.specs.Derived.{ActionRowOf, stated_from, keeps_before, assignment_facts, test_rows, action_rows, of_pairs, derived, hypotheses}
+use Rattle.abstraction.proofs.TestRanges.{OptionInRange, all_tests, all_actions, form_test_in}
+use Rattle.while_lang.proofs.RangesGrow.{IsInRange-more}
 
 -- the property holds for all members of a list
 abbrev pub AllOf : {X : Type 0} → (X → Type 0) → List X → Type 0

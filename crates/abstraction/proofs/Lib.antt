@@ -1,3 +1,17 @@
+pub mod SameRows
+pub mod StatementRows
+pub mod GatheredRows
+pub mod AppendedRows
+pub mod FlowLists
+pub mod TestRanges
+pub mod EachElement
+pub mod TableForms
+pub mod GoalRows
+pub mod ProgramRuns
+pub mod ConstantForms
+pub mod NumberedRows
+pub mod SharedTests
+pub mod JoinedHypotheses
 pub mod MovedRows
 pub mod ShownRows
 pub mod HypothesisRanges

@@ -10,29 +10,29 @@ use Rattle.kat_model.specs.Stores.{modulus, Store}
 use Rattle.kat_model.specs.Steps.{truth}
 use Rattle.kat_model.specs.Relations.{RelatesIn, Same}
 use Rattle.kat_model.proofs.Places.{place_of_member}
-use Rattle.file_parts.specs.Files.{FileParts, SideTree, term_side, prog_side, GoalTree, equal, below, triple}
-use Rattle.file_parts.specs.Concrete.{IsStoreOf}
-use Rattle.file_parts.specs.Ranges.{IsSideInRange, IsGoalInRange}
+use Rattle.while_lang.specs.Files.{FileParts, SideTree, term_side, prog_side, GoalTree, equal, below, triple}
+use Rattle.while_lang.specs.Concrete.{IsStoreOf}
+use Rattle.while_lang.specs.Ranges.{IsSideInRange, IsGoalInRange}
 use Rattle.abstraction.specs.declared.rows.ActionRow.{ActionRow}
 use Rattle.abstraction.specs.declared.rows.ActionRow.TheVariants as action
 use Rattle.abstraction.specs.declared.rows.TestRow.TheVariants as test
 use Rattle.abstraction.specs.Abstracts.{AbstractParts, test_rows_of, action_rows_of, file_problem, abstract_parts, abstract_of, HasNumbersInRange}
-use Rattle.abstract_tables.specs.Comparisons.{cond_comparisons, side_comparisons, goal_comparisons, side_assignments, goal_assignments}
-use Rattle.abstract_hypotheses.specs.Derived.{stated_from, derived as derived_hyps}
-use Rattle.abstract_hypotheses.specs.Facts.{Hypothesis}
-use Rattle.abstract_tables.specs.Goals.{side_term, goal_sides}
+use Rattle.abstraction.specs.Comparisons.{cond_comparisons, side_comparisons, goal_comparisons, side_assignments, goal_assignments}
+use Rattle.abstraction.specs.Derived.{stated_from, derived as derived_hyps}
+use Rattle.abstraction.specs.Facts.{Hypothesis}
+use Rattle.abstraction.specs.Goals.{side_term, goal_sides}
 use Rattle.abstraction.specs.Readings.{Reading, holds_by, row_by, StepsBy, KeepsStated, SideLeads, GoalHoldsBy}
-use Rattle.abstract_tables.specs.Rounds.{file_comparisons, tables_of}
-use Rattle.abstract_tables.specs.Tables.{file_assignments}
-use Rattle.abstract_tables.specs.Tests.{cond_test}
+use Rattle.abstraction.specs.Rounds.{file_comparisons, tables_of}
+use Rattle.abstraction.specs.Tables.{file_assignments}
+use Rattle.abstraction.specs.Tests.{cond_test}
 use Rattle.abstraction.proofs.DerivedHypotheses.{derived_relate_none, past_stated, abstract_parts_of}
-use Rattle.abstract_tables.proofs.GoalRows.{goal_comparisons_within, goal_assignments_within}
+use Rattle.abstraction.proofs.GoalRows.{goal_comparisons_within, goal_assignments_within}
 use Rattle.kat_model.proofs.PathTables.{FitsProblem, same_in_frame}
 use Rattle.abstraction.proofs.ReadingRuns.{frame_by, cond_by, leads_as_related}
 use Rattle.kat_model.proofs.RelatesNothing.{RelatesNone}
 use Rattle.abstraction.proofs.RowTruths.{length-rows, two_within, three_within}
 use Rattle.abstraction.proofs.StoreRows.{are_rows_with, are_action_rows}
-use Rattle.abstract_tables.proofs.TableForms.{assignments_in_range, comparisons_atomic}
+use Rattle.abstraction.proofs.TableForms.{assignments_in_range, comparisons_atomic}
 
 -- the terms of the first hypotheses are those that are stated
 stated_has : (k n : ℕ) (hs : List Term) (later : List Hypothesis) (h : Term) → k < length hs → slice_get (map (λ y. y.term) (stated_from n hs ++ later)) k ≡ Some h → Has hs h

@@ -17,14 +17,14 @@ use Rattle.linear_arithmetic.proofs.Truths.{comparison_form_holds}
 use Rattle.while_lang.specs.Programs.{ProgTree, empty, skip_then, abort_then, assert_then, act_then, assign_then, branch_then, loop_then}
 use Rattle.while_lang.specs.Encoding.{stmt_terms, encoded}
 use Rattle.while_lang.proofs.Choices.{chosen_parts, parts_chosen}
-use Rattle.file_parts.specs.Files.{FileParts}
-use Rattle.file_parts.specs.Concrete.{IsStoreOf}
-use Rattle.file_parts.specs.Ranges.{IsCondInRange, IsProgInRange}
+use Rattle.while_lang.specs.Files.{FileParts}
+use Rattle.while_lang.specs.Concrete.{IsStoreOf}
+use Rattle.while_lang.specs.Ranges.{IsCondInRange, IsProgInRange}
 use Rattle.abstraction.specs.Abstracts.{test_rows_of, action_rows_of}
-use Rattle.abstract_tables.specs.Comparisons.{Assignment, cond_comparisons, prog_comparisons, prog_assignments}
+use Rattle.abstraction.specs.Comparisons.{Assignment, cond_comparisons, prog_comparisons, prog_assignments}
 use Rattle.abstraction.specs.Readings.{Reading, holds_by, LeadsBy, row_by, StepsBy}
-use Rattle.abstract_tables.specs.Tests.{cond_test, assignment_action, prog_flow}
-use Rattle.abstract_tables.proofs.ProgramRuns.{guarded_relates, relates_guarded}
+use Rattle.abstraction.specs.Tests.{cond_test, assignment_action, prog_flow}
+use Rattle.abstraction.proofs.ProgramRuns.{guarded_relates, relates_guarded}
 use Rattle.abstraction.proofs.RowTruths.{tables_with, assigned, two_within, three_within, named_truth, form_truth, assigned_row, named_row, assigned_store}
 
 module _ (f : FileParts) (cs : List Atomic) (xs : List Assignment) (r : Reading) where

@@ -23,22 +23,22 @@ use Rattle.linear_arithmetic.proofs.StoredValues.{value_below, form_value-normal
 use Rattle.linear_arithmetic.proofs.Truths.{comparison_form_holds}
 use Rattle.while_lang.specs.Programs.{ProgTree, empty, skip_then, abort_then, assert_then, act_then, assign_then, branch_then, loop_then}
 use Rattle.while_lang.proofs.StoreValues.{set_is_store}
-use Rattle.file_parts.specs.Files.{FileParts}
-use Rattle.file_parts.specs.Concrete.{IsStoreOf}
-use Rattle.file_parts.specs.Ranges.{IsCondInRange, IsProgInRange}
+use Rattle.while_lang.specs.Files.{FileParts}
+use Rattle.while_lang.specs.Concrete.{IsStoreOf}
+use Rattle.while_lang.specs.Ranges.{IsCondInRange, IsProgInRange}
 use Rattle.abstraction.specs.Abstracts.{test_rows_of, action_rows_of}
-use Rattle.abstract_tables.specs.Comparisons.{Assignment, atomics, cond_comparisons, prog_comparisons, prog_assignments}
+use Rattle.abstraction.specs.Comparisons.{Assignment, atomics, cond_comparisons, prog_comparisons, prog_assignments}
 use Rattle.abstraction.specs.StoreFrames.{row_holds, Sets}
 use Rattle.linear_forms.specs.Sameness.{is_same_comparison}
-use Rattle.abstract_tables.specs.Tables.{Tables, is_same_assignment}
-use Rattle.abstract_tables.specs.Tests.{test_number, form_test, assignment_action}
+use Rattle.abstraction.specs.Tables.{Tables, is_same_assignment}
+use Rattle.abstraction.specs.Tests.{test_number, form_test, assignment_action}
 use Rattle.abstraction.specs.declared.rows.ActionRow.TheVariants as action
 use Rattle.abstraction.specs.declared.rows.TestRow.{TestRow}
 use Rattle.abstraction.specs.declared.rows.TestRow.TheVariants as test
 use Rattle.linear_arithmetic.proofs.Sameness.{is_same_comparison-true, is_same_comparison-same}
-use Rattle.abstract_tables.proofs.SameRows.{is_same_assignment-true, is_same_assignment-same}
+use Rattle.abstraction.proofs.SameRows.{is_same_assignment-true, is_same_assignment-same}
 use Rattle.kat_model.proofs.MemberPlaces.{position_of_member}
-use Rattle.abstract_tables.proofs.ProgramRuns.{IsCondRead, IsAssignRead, IsProgRead}
+use Rattle.abstraction.proofs.ProgramRuns.{IsCondRead, IsAssignRead, IsProgRead}
 
 -- ---- rows: the declared ones, and then those of a list
 

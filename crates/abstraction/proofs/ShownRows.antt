@@ -8,14 +8,14 @@ use Rattle.kat_model.specs.Problems.{problem_size}
 use Rattle.abstraction.specs.declared.fault.AbstractFault.{AbstractFault}
 use Rattle.abstraction.specs.declared.fault.AbstractFault.TheVariants.{TooManyTests, TooManyActions, ProblemTooLarge}
 use Rattle.linear_forms.specs.Atomic.{Atomic}
-use Rattle.file_parts.specs.Files.{FileParts}
+use Rattle.while_lang.specs.Files.{FileParts}
 use Rattle.abstraction.specs.declared.rows.ActionRow.{ActionRow}
 use Rattle.abstraction.specs.declared.rows.ActionRow.TheVariants as action
 use Rattle.abstraction.specs.declared.rows.TestRow.{TestRow}
 use Rattle.abstraction.specs.declared.rows.TestRow.TheVariants as test
-use Rattle.abstract_tables.specs.Comparisons.{Assignment}
-use Rattle.abstract_tables.specs.Tables.{Tables, first_comparisons, file_assignments}
-use Rattle.abstract_tables.specs.Rounds.{tables_of}
+use Rattle.abstraction.specs.Comparisons.{Assignment}
+use Rattle.abstraction.specs.Tables.{Tables, first_comparisons, file_assignments}
+use Rattle.abstraction.specs.Rounds.{tables_of}
 use Rattle.abstraction.specs.Abstracts.{AbstractParts, abstract_of, abstract_parts, file_problem}
 use Rattle.abstraction.specs.ShownTables.{declared_tests, row_comparisons, declared_actions, row_assignments, shown_tables}
 

@@ -14,12 +14,12 @@ use Rattle.linear_forms.specs.Atomic.{Atomic}
 use Rattle.abstraction.specs.declared.rows.ActionRow.TheVariants as action
 use Rattle.abstraction.specs.declared.rows.TestRow.{TestRow}
 use Rattle.abstraction.specs.declared.rows.TestRow.TheVariants as test
-use Rattle.abstract_tables.specs.Comparisons.{Assignment}
-use Rattle.abstract_tables.specs.Tables.{Tables}
-use Rattle.abstract_hypotheses.specs.Derived.{test_rows, action_rows}
+use Rattle.abstraction.specs.Comparisons.{Assignment}
+use Rattle.abstraction.specs.Tables.{Tables}
+use Rattle.abstraction.specs.Derived.{test_rows, action_rows}
 use Rattle.abstraction.specs.Abstracts.{test_rows_of, action_rows_of}
 use Rattle.abstraction.specs.StoreFrames.{row_holds}
-use Rattle.abstract_tables.proofs.TableForms.{IsAssignment}
+use Rattle.abstraction.proofs.TableForms.{IsAssignment}
 use Rattle.abstraction.proofs.TestRows.{IsTestRow}
 use Rattle.abstraction.proofs.AssignmentFacts.{IsActionRow}
 

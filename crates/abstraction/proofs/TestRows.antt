@@ -12,10 +12,10 @@ use Rattle.linear_forms.specs.Atomic.{Atomic}
 use Rattle.linear_forms.specs.CondForm.{CondForm}
 use Rattle.linear_forms.specs.CondForm.TheVariants.{True, False, Pos, Neg}
 use Rattle.linear_forms.specs.Sameness.{is_same_comparison}
-use Rattle.abstract_tables.specs.Tables.{Tables}
-use Rattle.abstract_tables.specs.Tests.{test_number, form_test}
-use Rattle.abstract_hypotheses.specs.Facts.{TestRowOf}
-use Rattle.abstract_hypotheses.specs.Derived.{test_rows}
+use Rattle.abstraction.specs.Tables.{Tables}
+use Rattle.abstraction.specs.Tests.{test_number, form_test}
+use Rattle.abstraction.specs.Facts.{TestRowOf}
+use Rattle.abstraction.specs.Derived.{test_rows}
 use Rattle.linear_arithmetic.proofs.Sameness.{is_same_comparison-true}
 
 -- a row of a comparison: its forms are well formed, and the test with its number is true exactly when the comparison

@@ -7,20 +7,20 @@ use Rattle.kat_model.specs.Problems.{IsInRange, IsProblem, problem_size}
 use Rattle.kat_model.specs.Stores.{modulus}
 use Rattle.kat_model.specs.declared.limits.TheConstants.{MAX_TESTS, MAX_ACTIONS, MAX_TERM_NODES}
 use Rattle.kat_model.proofs.Faults.{problem_has_no_fault}
-use Rattle.file_parts.specs.Files.{FileParts, SideTree, term_side, prog_side, GoalTree, equal, below, triple}
-use Rattle.file_parts.specs.Ranges.{IsSideInRange, IsGoalInRange}
-use Rattle.file_parts.proofs.RangesGrow.{IsInRange-more}
+use Rattle.while_lang.specs.Files.{FileParts, SideTree, term_side, prog_side, GoalTree, equal, below, triple}
+use Rattle.while_lang.specs.Ranges.{IsSideInRange, IsGoalInRange}
+use Rattle.while_lang.proofs.RangesGrow.{IsInRange-more}
 use Rattle.abstraction.specs.declared.fault.AbstractFault.{AbstractFault}
 use Rattle.abstraction.specs.declared.fault.AbstractFault.TheVariants.{NoMemory, TooManyTests, TooManyActions, ProblemTooLarge}
-use Rattle.abstract_tables.specs.Comparisons.{side_assignments, goal_assignments}
-use Rattle.abstract_tables.specs.Tables.{Tables, is_same_assignment, first_comparisons, file_assignments}
-use Rattle.abstract_tables.specs.Rounds.{tables_of}
-use Rattle.abstract_tables.specs.Goals.{side_term, goal_sides}
+use Rattle.abstraction.specs.Comparisons.{side_assignments, goal_assignments}
+use Rattle.abstraction.specs.Tables.{Tables, is_same_assignment, first_comparisons, file_assignments}
+use Rattle.abstraction.specs.Rounds.{tables_of}
+use Rattle.abstraction.specs.Goals.{side_term, goal_sides}
 use Rattle.abstraction.specs.Abstracts.{AbstractParts, abstract_of, abstract_parts, file_problem, IsAbstraction, HasNumbersInRange}
 use Rattle.abstraction.specs.Working.FileTables.{IsWithinLimits}
-use Rattle.unique_rows.proofs.CappedTables.{first_rows_some}
-use Rattle.abstract_tables.proofs.AppendedRows.{rounds_length}
-use Rattle.abstract_tables.proofs.TestRanges.{all_tests, all_actions, cond_test_in, encoded_in}
+use Rattle.kat_model.proofs.CappedTables.{first_rows_some}
+use Rattle.abstraction.proofs.AppendedRows.{rounds_length}
+use Rattle.abstraction.proofs.TestRanges.{all_tests, all_actions, cond_test_in, encoded_in}
 use Rattle.abstraction.proofs.HypothesisRanges.{hypotheses_in}
 
 module _ (t : Tables) (vars : ℕ) where

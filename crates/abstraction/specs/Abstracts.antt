@@ -4,19 +4,19 @@ use Rattle.std.specs.List.{range_with_len}
 use Rattle.kat_model.specs.declared.expression.Width.{Width}
 use Rattle.kat_model.specs.declared.limits.TheConstants.{MAX_TESTS, MAX_ACTIONS, MAX_TERM_NODES}
 use Rattle.kat_model.specs.Problems.{ProblemParts, AreInRange, problem_size}
-use Rattle.file_parts.specs.Files.{FileParts, GoalTree}
-use Rattle.file_parts.specs.Ranges.{IsGoalInRange}
+use Rattle.while_lang.specs.Files.{FileParts, GoalTree}
+use Rattle.while_lang.specs.Ranges.{IsGoalInRange}
 use Rattle.abstraction.specs.declared.rows.ActionRow.{ActionRow}
 use Rattle.abstraction.specs.declared.rows.ActionRow.TheVariants as action
 use Rattle.abstraction.specs.declared.rows.TestRow.{TestRow}
 use Rattle.abstraction.specs.declared.rows.TestRow.TheVariants as test
-use Rattle.abstract_hypotheses.specs.declared.rule.Rule.{Rule}
+use Rattle.abstraction.specs.declared.rule.Rule.{Rule}
 use Rattle.abstraction.specs.declared.fault.AbstractFault.{AbstractFault}
 use Rattle.abstraction.specs.declared.fault.AbstractFault.TheVariants.{NoMemory, TooManyTests, TooManyActions, ProblemTooLarge}
-use Rattle.abstract_tables.specs.Tables.{Tables, first_comparisons, file_assignments}
-use Rattle.abstract_tables.specs.Rounds.{tables_of}
-use Rattle.abstract_tables.specs.Goals.{goal_sides}
-use Rattle.abstract_hypotheses.specs.Derived.{hypotheses}
+use Rattle.abstraction.specs.Tables.{Tables, first_comparisons, file_assignments}
+use Rattle.abstraction.specs.Rounds.{tables_of}
+use Rattle.abstraction.specs.Goals.{goal_sides}
+use Rattle.abstraction.specs.Derived.{hypotheses}
 
 -- the problem; the meaning of each test and action, by their numbers; the rule of each hypothesis; the width of numbers
 pub record AbstractParts : Type 0 where

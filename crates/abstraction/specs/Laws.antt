@@ -3,8 +3,8 @@ use Rattle.std.specs.Prelude.{◌≡◌, ◌≤◌, ℕ, length, slice_get, Some
 use Rattle.kat_model.specs.Trees.{Term}
 use Rattle.kat_model.specs.Stores.{Store}
 use Rattle.kat_model.specs.Relations.{Same}
-use Rattle.file_parts.specs.Files.{FileParts}
-use Rattle.file_parts.specs.Concrete.{IsStoreOf, IsConcrete, Agrees}
+use Rattle.while_lang.specs.Files.{FileParts}
+use Rattle.while_lang.specs.Concrete.{IsStoreOf, IsConcrete, Agrees}
 use Rattle.abstraction.specs.Abstracts.{AbstractParts}
 use Rattle.abstraction.specs.StoreFrames.{Moves}
 use Rattle.abstraction.specs.Readings.{Reading, KeepsStated, GoalHoldsBy}

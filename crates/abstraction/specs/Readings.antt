@@ -11,8 +11,8 @@ use Rattle.linear_forms.specs.Values.{form_value}
 use Rattle.linear_forms.specs.Comparisons.{atomic_holds}
 use Rattle.while_lang.specs.Programs.{ProgTree, empty, skip_then, abort_then, assert_then, act_then, assign_then, branch_then, loop_then}
 use Rattle.while_lang.specs.Runs.{Chosen}
-use Rattle.file_parts.specs.Files.{FileParts, SideTree, term_side, prog_side, GoalTree, equal, below, triple}
-use Rattle.file_parts.specs.Concrete.{IsStoreOf}
+use Rattle.while_lang.specs.Files.{FileParts, SideTree, term_side, prog_side, GoalTree, equal, below, triple}
+use Rattle.while_lang.specs.Concrete.{IsStoreOf}
 use Rattle.abstraction.specs.declared.rows.ActionRow.{ActionRow}
 use Rattle.abstraction.specs.declared.rows.ActionRow.TheVariants as action
 use Rattle.abstraction.specs.declared.rows.TestRow.{TestRow}

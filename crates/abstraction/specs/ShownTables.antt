@@ -5,8 +5,8 @@ use Rattle.abstraction.specs.declared.rows.ActionRow.{ActionRow}
 use Rattle.abstraction.specs.declared.rows.ActionRow.TheVariants as action
 use Rattle.abstraction.specs.declared.rows.TestRow.{TestRow}
 use Rattle.abstraction.specs.declared.rows.TestRow.TheVariants as test
-use Rattle.abstract_tables.specs.Comparisons.{Assignment}
-use Rattle.abstract_tables.specs.Tables.{Tables}
+use Rattle.abstraction.specs.Comparisons.{Assignment}
+use Rattle.abstraction.specs.Tables.{Tables}
 use Rattle.abstraction.specs.Abstracts.{AbstractParts}
 
 -- the number of declared tests of a table, and the comparisons of the table

@@ -5,8 +5,8 @@ use Rattle.kat_model.specs.Stores.{modulus, Store}
 use Rattle.kat_model.specs.Relations.{Frame, RelatesIn}
 use Rattle.linear_forms.specs.Values.{form_value}
 use Rattle.linear_forms.specs.Comparisons.{atomic_holds}
-use Rattle.file_parts.specs.Files.{FileParts}
-use Rattle.file_parts.specs.Concrete.{IsStoreOf}
+use Rattle.while_lang.specs.Files.{FileParts}
+use Rattle.while_lang.specs.Concrete.{IsStoreOf}
 use Rattle.abstraction.specs.declared.rows.ActionRow.{ActionRow}
 use Rattle.abstraction.specs.declared.rows.ActionRow.TheVariants as action
 use Rattle.abstraction.specs.declared.rows.TestRow.{TestRow}

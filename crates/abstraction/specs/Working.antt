@@ -1,1 +1,5 @@
+pub mod StatementFlows
+pub mod ConstantForms
+pub mod PairFacts
+pub mod PairTests
 pub mod FileTables

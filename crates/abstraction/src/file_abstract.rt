@@ -3,24 +3,27 @@ ghost use Rattle.std.specs.Prelude.{◌≡◌, ◌++◌, [], ◌∷◌, map, len
 ghost use Rattle.std.specs.List.{range_with_len};
 ghost use Rattle.kat_model.specs.Trees.{kat_tree};
 ghost use Rattle.goal_forms.specs.Sides.{side_trees};
-ghost use Rattle.file_parts.specs.Trees.{goal_tree};
-ghost use Rattle.abstract_tables.specs.Comparisons.{Assignment};
-ghost use Rattle.abstract_hypotheses.specs.Facts.{Hypothesis};
+ghost use Rattle.while_lang.specs.Trees.{goal_tree};
+ghost use Rattle.abstraction.specs.Comparisons.{Assignment};
+ghost use Rattle.abstraction.specs.Facts.{Hypothesis};
 ghost use Rattle.abstraction.specs.Laws.{DerivedHold, AgreesWhereSame};
 ghost use Rattle.abstraction.specs.Abstracts.{with_goal, HasNumbersInRange, IsAbstraction};
 ghost use Rattle.abstraction.specs.Working.FileTables.{parts_with, IsWithinLimits};
 
+use crate::facts::RuledTerm;
 use crate::fault::AbstractFault;
 use crate::file_tables::file_tables;
+use crate::goals::goal_sides;
+use crate::hypotheses::hypotheses_of;
 use crate::problem::Abstract;
 use crate::rows::{ActionRow, TestRow};
-use abstract_hypotheses::{Rule, RuledTerm, hypotheses_of};
-use abstract_tables::{AssignedForm, RowTables, goal_sides};
-use file_parts::{File, Goal};
+use crate::rule::Rule;
+use crate::tables::{AssignedForm, RowTables};
 use goal_forms::Sides;
 use kat_model::{Kat, NoMemory, Problem};
 use linear_forms::Atomic;
 use std::alloc::Global;
+use while_lang::{File, Goal};
 
 fn declared_tests(alloc: Global, count: usize) -> Result<Vec<TestRow>, NoMemory>
     ensures { IfOk result (λ v. v.items ≡ map TestRow.Named (range_with_len 0 count)) }

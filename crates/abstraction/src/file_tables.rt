@@ -2,18 +2,21 @@
 ghost use Rattle.std.specs.Prelude.{◌≡◌, ◌+◌, ◌-◌, ◌≤◌, length, [], IfOk, IfErr, Err};
 ghost use Rattle.kat_model.specs.Stores.{modulus};
 ghost use Rattle.kat_model.specs.declared.limits.TheConstants.{MAX_TESTS, MAX_ACTIONS};
-ghost use Rattle.file_parts.specs.Trees.{goal_tree};
-ghost use Rattle.abstract_tables.specs.Tables.{first_comparisons, file_assignments};
-ghost use Rattle.abstract_tables.specs.Rounds.{tables_of};
+ghost use Rattle.while_lang.specs.Trees.{goal_tree};
+ghost use Rattle.abstraction.specs.Tables.{first_comparisons, file_assignments};
+ghost use Rattle.abstraction.specs.Rounds.{tables_of};
 ghost use Rattle.abstraction.specs.Abstracts.{with_goal};
 ghost use Rattle.abstraction.specs.Working.FileTables.{IsTestTable, IsActionTable, IsTables};
 
+use crate::assignments::first_assignments;
+use crate::comparisons::first_comparisons;
 use crate::fault::AbstractFault;
-use abstract_tables::{AssignedForm, RowTables, add_rounds, first_assignments, first_comparisons};
-use file_parts::{File, Goal};
+use crate::rounds::add_rounds;
+use crate::tables::{AssignedForm, RowTables};
 use kat_model::{MAX_ACTIONS, MAX_TESTS};
 use linear_forms::Atomic;
 use std::alloc::Global;
+use while_lang::{File, Goal};
 
 // Returns the comparisons of the goal, unless there are too many.
 fn test_table(alloc: Global, file: &File, goal: &Goal) -> Result<Vec<Atomic>, AbstractFault>

@@ -1,7 +1,7 @@
 //! Laws of abstractions. Each function does nothing: its contract is the law.
 ghost use Rattle.std.specs.Prelude.{◌≡◌, Ok};
-ghost use Rattle.file_parts.specs.Files.{FileParts};
-ghost use Rattle.abstract_tables.specs.Rounds.{tables_of};
+ghost use Rattle.while_lang.specs.Files.{FileParts};
+ghost use Rattle.abstraction.specs.Rounds.{tables_of};
 ghost use Rattle.abstraction.specs.Abstracts.{AbstractParts, HasNumbersInRange, abstract_of};
 ghost use Rattle.abstraction.specs.ShownTables.{shown_tables};
 ghost use Rattle.abstraction.specs.Laws.{DerivedHold, AgreesWhereSame, HoldsByReadings};

@@ -1,16 +1,26 @@
 //! The abstraction of a problem file: programs over variables become terms over tests and actions, with the known
-//! hypotheses about assignments and comparisons.
+//! hypotheses about assignments and comparisons. The tests and actions of a goal have tables, over whose rows its
+//! conditions and programs are terms; each hypothesis over these tables has the rule by which it holds.
 #![tactic(auto)]
 
+mod assignments;
+mod comparisons;
+mod conditions;
+mod facts;
 mod fault;
 mod file_abstract;
 mod file_tables;
+mod flows;
+mod goals;
+mod hypotheses;
 mod laws;
 mod problem;
+mod rounds;
 mod rows;
+mod rule;
 mod shown;
+mod tables;
 
-pub use abstract_hypotheses::Rule;
 pub use fault::AbstractFault;
 pub use file_abstract::{abstracted, abstracted_for};
 pub use laws::{
@@ -18,4 +28,5 @@ pub use laws::{
 };
 pub use problem::Abstract;
 pub use rows::{ActionRow, TestRow};
+pub use rule::Rule;
 pub use shown::{flow_of, test_of};

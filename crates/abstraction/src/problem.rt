@@ -2,7 +2,7 @@
 ghost use Rattle.std.specs.Prelude.{◌≡◌};
 
 use crate::rows::{ActionRow, TestRow};
-use abstract_hypotheses::Rule;
+use crate::rule::Rule;
 use kat_model::{Problem, Width};
 use std::marker::Model;
 

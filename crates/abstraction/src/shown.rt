@@ -4,17 +4,18 @@ ghost use Rattle.std.specs.List.{position_from};
 ghost use Rattle.kat_model.specs.Expressions.{cond_tree};
 ghost use Rattle.kat_model.specs.Trees.{test_tree};
 ghost use Rattle.linear_forms.specs.Sameness.{is_same_comparison};
-ghost use Rattle.abstract_tables.specs.Tables.{is_same_assignment};
-ghost use Rattle.abstract_tables.specs.Tests.{cond_test, prog_flow};
+ghost use Rattle.abstraction.specs.Tables.{is_same_assignment};
+ghost use Rattle.abstraction.specs.Tests.{cond_test, prog_flow};
 ghost use Rattle.abstraction.specs.ShownTables.{declared_tests, declared_actions, row_comparisons, row_assignments, shown_tables};
 
+use crate::conditions::cond_test;
+use crate::flows::prog_flow;
 use crate::problem::Abstract;
 use crate::rows::{ActionRow, TestRow};
-use abstract_tables::{AssignedForm, Numbering, cond_test, prog_flow};
-use kat_model::{Cond, NoMemory, Test, Width};
+use crate::tables::{AssignedForm, Numbering};
+use kat_model::{Cond, NoMemory, TableRow, Test, Width};
 use linear_forms::Atomic;
 use std::alloc::Global;
-use unique_rows::TableRow;
 use while_lang::{Flows, Prog};
 
 fn declared_tests(rows: &[TestRow]) -> usize

@@ -10,9 +10,9 @@ use Rattle.cert_checker.specs.declared.answer.Reason.{Reason}
 use Rattle.cert_checker.specs.declared.answer.Reason.TheVariants.{FirstPair, Output, Missing, MissingTo, Shape, HypBroken, EndsAgree, TestNode, TermNode}
 use Rattle.cert_checker.specs.declared.places.Place.{Place}
 use Rattle.cert_checker.specs.Answers.{Turn, turn_of, IsEarlier, FailsBy}
-use Rattle.cert_matching.specs.AtomOrder.{IsLess}
+use Rattle.cert_checker.specs.AtomOrder.{IsLess}
 use Rattle.cert_checker.specs.Working.Places.{IsAmong, IsFirstOf, IsLeastOf, Passes, reason_at, place_reason, turn_at, turn_number}
-use Rattle.cert_matching.proofs.LeastFailures.{less_trans}
+use Rattle.cert_checker.proofs.LeastFailures.{less_trans}
 use Rattle.cert_checker.proofs.OneAnswer.{turns_total, same_length, to_length}
 use Rattle.cert_checker.proofs.PairPlaces.{place_turn}
 

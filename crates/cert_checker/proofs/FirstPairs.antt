@@ -23,14 +23,14 @@ use Rattle.certificate.specs.declared.nodes.Style.TheVariants.{Plain, UpTo, Unde
 use Rattle.certificate.specs.PairParts.{PairParts, only_sets}
 use Rattle.certificate.specs.Certs.{CertParts, IsPairOf, HasItsTest, nodes_of}
 use Rattle.certificate.specs.Accepted.{set_pairs, test_of, tested_pair_of, tested_pairs}
-use Rattle.cert_steps.specs.NodeTables.{TableParts, AreTables, TablesGrow, IsTest, IsTerm, HasValues, term_at, holds_at, nodes_in}
-use Rattle.cert_steps.specs.Targets.{AreEntries, StandFor, chosen}
-use Rattle.cert_steps.proofs.GrowingTables.{grows_trans}
-use Rattle.cert_steps.proofs.StepSets.{stand_kept, stand_same}
-use Rattle.cert_steps.proofs.TargetSets.{holds_kept}
+use Rattle.cert_questions.specs.NodeTables.{TableParts, AreTables, TablesGrow, IsTest, IsTerm, HasValues, term_at, holds_at, nodes_in}
+use Rattle.cert_questions.specs.Targets.{AreEntries, StandFor, chosen}
+use Rattle.cert_questions.proofs.GrowingTables.{grows_trans}
+use Rattle.cert_questions.proofs.StepSets.{stand_kept, stand_same}
+use Rattle.cert_questions.proofs.TargetSets.{holds_kept}
 use Rattle.cert_checker.specs.Answers.{Begins}
 use Rattle.cert_questions.specs.Cases.{Extends, undecided}
-use Rattle.cert_matching.specs.LeastFailures.{IsFirstFailure}
+use Rattle.cert_checker.specs.LeastFailures.{IsFirstFailure}
 use Rattle.cert_questions.specs.Roots.{compared, counted_short}
 use Rattle.cert_questions.specs.Questions.{ActionPassParts, QuestionParts, IsPosed, IsAskedOf, AreNamed, Counts, AreMatchedIn, AreMatchedBy, MatchAt}
 use Rattle.cert_questions.specs.Passes.{PassParts, IsPass, PassGrows, IsActionPass, IsAllowed}

@@ -1,3 +1,16 @@
+pub mod CountedPairs
+pub mod Coverage
+pub mod Covered
+pub mod Covering
+pub mod Halves
+pub mod KnownMoves
+pub mod LeastFailures
+pub mod ListedPairs
+pub mod ReachedTerms
+pub mod Saturating
+pub mod StepAnswers
+pub mod StepStates
+pub mod FoundPairs
 pub mod EarlierPlaces
 pub mod FirstPairs
 pub mod FirstReasons

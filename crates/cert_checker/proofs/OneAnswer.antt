@@ -35,9 +35,9 @@ use Rattle.cert_checker.specs.declared.answer.Reason.{Reason}
 use Rattle.cert_checker.specs.declared.answer.Reason.TheVariants.{FirstPair, Output, Missing, MissingTo, Shape, HypBroken, EndsAgree, TestNode, TermNode}
 use Rattle.cert_checker.specs.declared.answer.Answer.TheVariants.{Accepted, Rejected}
 use Rattle.cert_checker.specs.Answers.{Shows, Turn, turn_of, IsEarlier, Begins, OutputsHold, StepHolds, MoveHolds, FailsBy, FailsFirstBy, IsFoundBy, finding_reason}
-use Rattle.cert_matching.specs.AtomOrder.{IsLess}
+use Rattle.cert_checker.specs.AtomOrder.{IsLess}
 use Rattle.cert_checker.specs.Laws.{ShownIsSo, HasOneAnswer}
-use Rattle.cert_matching.proofs.LeastFailures.{less_total}
+use Rattle.cert_checker.proofs.LeastFailures.{less_total}
 
 three_ways : (m n : ℕ) → (m < n) ⊎ ((m ≡ n) ⊎ (n < m))
 three_ways m n = grind arith

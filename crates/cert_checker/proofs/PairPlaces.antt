@@ -15,11 +15,11 @@ use Rattle.certificate.specs.Accepted.{tested_pair_of, tested_pairs}
 use Rattle.cert_checker.specs.declared.answer.Reason.{Reason}
 use Rattle.cert_checker.specs.declared.answer.Reason.TheVariants.{FirstPair, Output, Missing, MissingTo, Shape, HypBroken, EndsAgree, TestNode, TermNode}
 use Rattle.cert_checker.specs.Answers.{Turn, turn_of, IsEarlier, OutputsHold, StepHolds, MoveHolds, FailsBy}
-use Rattle.cert_matching.specs.AtomOrder.{IsLess}
+use Rattle.cert_checker.specs.AtomOrder.{IsLess}
 use Rattle.cert_questions.specs.Cases.{Extends, undecided}
-use Rattle.cert_matching.specs.LeastFailures.{IsFirstFailure}
+use Rattle.cert_checker.specs.LeastFailures.{IsFirstFailure}
 use Rattle.cert_checker.specs.Working.Places.{IsAmong, IsFirstOf, TurnHolds, turn_number, reason_at}
-use Rattle.cert_matching.proofs.Halves.{less_append, less_behind}
+use Rattle.cert_checker.proofs.Halves.{less_append, less_behind}
 
 -- every atom of length n extends n undecided tests
 pub undecided_extends : (n : ℕ) (x : Atom) → length x ≡ n → Extends (undecided n) x

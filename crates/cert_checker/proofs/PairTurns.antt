@@ -16,10 +16,10 @@ use Rattle.certificate.specs.declared.nodes.Style.TheVariants.{Plain, UpTo, Unde
 use Rattle.certificate.specs.PairParts.{PairParts, only_sets}
 use Rattle.certificate.specs.Certs.{HasItsTest, nodes_of}
 use Rattle.certificate.specs.Accepted.{set_pairs, test_of, tested_pair_of, tested_pairs}
-use Rattle.cert_steps.specs.NodeTables.{TableParts, TablesGrow, term_at, nodes_in}
-use Rattle.cert_steps.specs.Targets.{StandFor, chosen, set_leads_to}
-use Rattle.cert_steps.proofs.StepSets.{stand_kept}
-use Rattle.cert_matching.specs.LeastFailures.{IsFirstFailure}
+use Rattle.cert_questions.specs.NodeTables.{TableParts, TablesGrow, term_at, nodes_in}
+use Rattle.cert_questions.specs.Targets.{StandFor, chosen, set_leads_to}
+use Rattle.cert_questions.proofs.StepSets.{stand_kept}
+use Rattle.cert_checker.specs.LeastFailures.{IsFirstFailure}
 use Rattle.cert_questions.specs.Cases.{undecided}
 use Rattle.cert_questions.specs.Roots.{compared, counted_short}
 use Rattle.cert_questions.specs.Questions.{ActionPassParts, QuestionParts, AreNamed, IsPosed, IsAskedOf, Counts, AreMatchedIn, MatchAt, test_holds}

@@ -9,7 +9,7 @@ use Rattle.cert_checker.specs.declared.places.Place.{Place}
 use Rattle.cert_checker.specs.contracts.places.PlaceOrd.TheImpl.{ghosts}
 use Rattle.cert_checker.specs.contracts.places.PlaceOrd.TheImpl.Laws.{total-law}
 use Rattle.cert_checker.specs.Answers.{IsEarlier}
-use Rattle.cert_matching.specs.AtomOrder.{IsLess}
+use Rattle.cert_checker.specs.AtomOrder.{IsLess}
 use Rattle.cert_checker.specs.Working.Places.{IsLeastOf, turn_at, turn_number}
 
 -- ---- the order of each part

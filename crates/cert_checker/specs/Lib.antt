@@ -1,4 +1,5 @@
-pub use Rattle.cert_matching.specs.AtomOrder
+pub mod AtomOrder
+pub mod LeastFailures
+pub mod Working
 pub mod Answers
 pub mod Laws
-pub mod Working

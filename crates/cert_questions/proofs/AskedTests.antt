@@ -18,8 +18,8 @@ use Rattle.kat_model.proofs.NumberKeys.{all_of, Adds, bound_of, bound_above, bou
 use Rattle.term_nodes.specs.declared.TestNode.{TestNode}
 use Rattle.term_nodes.specs.Nodes.{test_parts}
 use Rattle.term_nodes.proofs.Parts.{IsTestOver-part}
-use Rattle.cert_steps.specs.NodeTables.{TableParts, AreTables, IsTest}
-use Rattle.cert_steps.specs.Targets.{AreEntries}
+use Rattle.cert_questions.specs.NodeTables.{TableParts, AreTables, IsTest}
+use Rattle.cert_questions.specs.Targets.{AreEntries}
 use Rattle.cert_questions.specs.Cases.{AreAsked}
 
 -- ---- collecting tests

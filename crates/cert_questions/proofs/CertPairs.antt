@@ -14,7 +14,7 @@ use Rattle.certificate.specs.declared.nodes.Style.TheVariants.{Plain, UpTo, Unde
 use Rattle.certificate.specs.PairParts.{PairParts, only_sets}
 use Rattle.certificate.specs.Certs.{CertParts, IsCert, IsPairOf, HasItsTest, nodes_of, number_pairs}
 use Rattle.certificate.specs.Accepted.{set_pairs, test_of, tested_pair_of, tested_pairs}
-use Rattle.cert_steps.specs.NodeTables.{TableParts, TablesGrow, IsTest, tables_of, nodes_in}
+use Rattle.cert_questions.specs.NodeTables.{TableParts, TablesGrow, IsTest, tables_of, nodes_in}
 use Rattle.cert_questions.specs.Passes.{PassParts, IsPass}
 use Rattle.cert_questions.proofs.RootRanges.{terms_stay}
 

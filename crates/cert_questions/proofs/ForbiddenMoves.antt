@@ -11,12 +11,12 @@ use Rattle.kat_model.specs.AllowedMoves.{IsAllowedAtom, IsAllowedMove}
 use Rattle.kat_model.proofs.Lists.{has_any, any_has, has_map, map_has, has_flat_map, flat_map_has}
 use Rattle.kat_model.specs.Problems.{ProblemParts}
 use Rattle.certificate.specs.Certs.{CertParts}
-use Rattle.cert_steps.specs.NodeTables.{TableParts, IsTest, HasValues, term_at, holds_at}
-use Rattle.cert_steps.specs.Targets.{AreEntries, StandFor, AreAcceptances, set_leads_to}
+use Rattle.cert_questions.specs.NodeTables.{TableParts, IsTest, HasValues, term_at, holds_at}
+use Rattle.cert_questions.specs.Targets.{AreEntries, StandFor, AreAcceptances, set_leads_to}
 use Rattle.cert_questions.specs.Roots.{counted_short}
 use Rattle.cert_questions.specs.Passes.{AreForbidden, AddsMoves, IsAllowed, forbidden_of}
-use Rattle.cert_steps.proofs.ChosenTargets.{chosen_has, has_chosen}
-use Rattle.cert_steps.proofs.StepLists.{accept_at}
+use Rattle.cert_questions.proofs.ChosenTargets.{chosen_has, has_chosen}
+use Rattle.cert_questions.proofs.StepLists.{accept_at}
 
 -- no pair has both tests true
 abbrev pub IsFree : TableParts → List (ℕ × ℕ) → Atom → Atom → Type 0

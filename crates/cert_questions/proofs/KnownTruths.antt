@@ -13,7 +13,7 @@ use Rattle.term_nodes.specs.Nodes.{IsTestOver, test_parts}
 use Rattle.term_nodes.specs.NodeTrees.{test_tree_in}
 use Rattle.term_nodes.proofs.Parts.{IsTestOver-more}
 use Rattle.term_nodes.proofs.TestTrees.{test_tree_at-node}
-use Rattle.cert_steps.specs.NodeTables.{TableParts, AreTables, IsWithin, holds_at, nodes_in}
+use Rattle.cert_questions.specs.NodeTables.{TableParts, AreTables, IsWithin, holds_at, nodes_in}
 use Rattle.cert_questions.specs.declared.known.TestCase.{TestCase}
 use Rattle.cert_questions.specs.declared.known.Truth.{Truth}
 use Rattle.cert_questions.specs.declared.known.Truth.TheVariants.{Known, Undecided}

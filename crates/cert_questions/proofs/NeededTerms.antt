@@ -7,8 +7,8 @@ use Rattle.kat_model.proofs.Numbers.{below_next}
 use Rattle.kat_model.proofs.Places.{has_at, place_of_member}
 use Rattle.certificate.specs.PairParts.{PairParts}
 use Rattle.certificate.specs.Certs.{CertParts}
-use Rattle.cert_steps.specs.NodeTables.{TableParts}
-use Rattle.cert_steps.specs.Marks.{IsMarked, IsClosure}
+use Rattle.cert_questions.specs.NodeTables.{TableParts}
+use Rattle.cert_questions.specs.Marks.{IsMarked, IsClosure}
 use Rattle.cert_questions.specs.Passes.{AreNeeded}
 
 -- the terms of the short hypotheses and of the first n pairs are marked

@@ -5,8 +5,8 @@ use Rattle.std.proofs.lemmas.List.{take_more}
 use Rattle.kat_model.specs.Members.{Has}
 use Rattle.kat_model.proofs.Lists.{has_append}
 use Rattle.certificate.specs.PairParts.{PairParts}
-use Rattle.cert_steps.specs.Targets.{guard_of}
-use Rattle.cert_steps.proofs.ChosenTargets.{guard_member}
+use Rattle.cert_questions.specs.Targets.{guard_of}
+use Rattle.cert_questions.proofs.ChosenTargets.{guard_member}
 use Rattle.cert_questions.specs.declared.known.TestCase.{TestCase}
 use Rattle.cert_questions.specs.declared.known.Truth.{Truth}
 use Rattle.cert_questions.specs.declared.known.Truth.TheVariants.{Known, Undecided as UndecidedBy}

@@ -9,13 +9,13 @@ use Rattle.kat_model.proofs.Places.{slice_get-append_left}
 use Rattle.term_nodes.specs.declared.TestNode.{TestNode}
 use Rattle.term_nodes.specs.NumberSets.{are_below, terms_of}
 use Rattle.certificate.specs.Certs.{CertParts, IsCert}
-use Rattle.cert_steps.specs.NodeTables.{TableParts, TablesGrow, TestsGrow, tables_of, HasValues, holds_at, nodes_in}
-use Rattle.cert_steps.specs.Marks.{IsMarked}
-use Rattle.cert_steps.specs.Targets.{AreAcceptances}
-use Rattle.cert_steps.proofs.ClosingMarks.{closed_kept}
-use Rattle.cert_steps.proofs.GrowingTables.{grows_trans, grows_itself}
-use Rattle.cert_steps.proofs.StepLists.{all_accept, all_step, grows_longer}
-use Rattle.cert_steps.proofs.TargetSets.{test_within, holds_kept}
+use Rattle.cert_questions.specs.NodeTables.{TableParts, TablesGrow, TestsGrow, tables_of, HasValues, holds_at, nodes_in}
+use Rattle.cert_questions.specs.Marks.{IsMarked}
+use Rattle.cert_questions.specs.Targets.{AreAcceptances}
+use Rattle.cert_questions.proofs.ClosingMarks.{closed_kept}
+use Rattle.cert_questions.proofs.GrowingTables.{grows_trans, grows_itself}
+use Rattle.cert_questions.proofs.StepLists.{all_accept, all_step, grows_longer}
+use Rattle.cert_questions.proofs.TargetSets.{test_within, holds_kept}
 use Rattle.cert_questions.specs.Cases.{AreAsked}
 use Rattle.cert_questions.specs.Indices.{AreIndexed}
 use Rattle.cert_questions.specs.Roots.{AreRoots, counted_short}

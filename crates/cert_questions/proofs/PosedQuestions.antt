@@ -8,9 +8,9 @@ use Rattle.term_nodes.proofs.Parts.{below_more}
 use Rattle.certificate.specs.declared.nodes.Style.TheVariants.{Plain, UpTo}
 use Rattle.certificate.specs.PairParts.{PairParts}
 use Rattle.certificate.specs.Certs.{HasItsTest}
-use Rattle.cert_steps.specs.NodeTables.{TableParts, TablesGrow, IsTest}
-use Rattle.cert_steps.specs.Targets.{AreEntries, AreSteps}
-use Rattle.cert_steps.proofs.GrowingTables.{grows_trans}
+use Rattle.cert_questions.specs.NodeTables.{TableParts, TablesGrow, IsTest}
+use Rattle.cert_questions.specs.Targets.{AreEntries, AreSteps}
+use Rattle.cert_questions.proofs.GrowingTables.{grows_trans}
 use Rattle.cert_questions.specs.Indices.{IndexParts, AreIndexed}
 use Rattle.cert_questions.specs.Questions.{ActionPassParts, QuestionParts, IsQuestion, AreNamed, IsPosed, IsAskedOf}
 use Rattle.cert_questions.specs.Passes.{PassParts, IsPass, IsActionPass}

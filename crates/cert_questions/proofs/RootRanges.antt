@@ -17,11 +17,11 @@ use Rattle.term_nodes.proofs.Prefixes.{IsPrefix-within}
 use Rattle.term_nodes.proofs.Parts.{below_has, has_below, below_more}
 use Rattle.certificate.specs.declared.nodes.Style.{Style}
 use Rattle.certificate.specs.declared.nodes.Style.TheVariants.{Plain, UpTo, Under}
-use Rattle.cert_steps.specs.NodeTables.{TableParts, TablesGrow, IsTerm, term_at, nodes_in}
+use Rattle.cert_questions.specs.NodeTables.{TableParts, TablesGrow, IsTerm, term_at, nodes_in}
 use Rattle.cert_questions.specs.Roots.{AreClosedBelow, AreClosedNumbers, AreSideNumbers, AreRoots, compared, counted_short}
 use Rattle.hypothesis_kinds.proofs.LongProblems.{long_is_problem}
-use Rattle.cert_steps.proofs.GrowingTables.{grows_trans}
-use Rattle.cert_steps.proofs.StepLists.{grows_longer}
+use Rattle.cert_questions.proofs.GrowingTables.{grows_trans}
+use Rattle.cert_questions.proofs.StepLists.{grows_longer}
 
 -- ---- ranges
 

@@ -2,12 +2,12 @@
 use Rattle.std.proofs.Common.{◌≡◌, ℕ, ◌<◌, List, ◌∷◌, length, get_or, [], refl, sym, ap, ◌∙◌, Bool, true, false, ◌||◌}
 use Rattle.std.proofs.Math.Bool.{or-false}
 use Rattle.kat_model.specs.Steps.{Atom, out, set_out}
-use Rattle.cert_steps.specs.NodeTables.{TableParts, TestsGrow, IsTest, HasValues, term_at, holds_at, nodes_in}
-use Rattle.cert_steps.specs.Targets.{AreAcceptances}
+use Rattle.cert_questions.specs.NodeTables.{TableParts, TestsGrow, IsTest, HasValues, term_at, holds_at, nodes_in}
+use Rattle.cert_questions.specs.Targets.{AreAcceptances}
 use Rattle.term_nodes.specs.NumberSets.{terms_of}
-use Rattle.cert_steps.proofs.TargetSets.{holds_kept}
-use Rattle.cert_steps.proofs.GrowingTables.{tests_trans}
-use Rattle.cert_steps.proofs.StepLists.{accept_at}
+use Rattle.cert_questions.proofs.TargetSets.{holds_kept}
+use Rattle.cert_questions.proofs.GrowingTables.{tests_trans}
+use Rattle.cert_questions.proofs.StepLists.{accept_at}
 
 -- the guard is true where a processed member accepts; the other members are left
 pub record IsAccepting (first now : TableParts) (guard : ℕ) (rest all : List ℕ) : Type 0 where

@@ -8,7 +8,7 @@ use Rattle.std.proofs.lemmas.Bool.{true≢false}
 use Rattle.std.proofs.lemmas.List.{append-nil}
 use Rattle.std.proofs.lemmas.Option.{same_Some}
 use Rattle.kat_model.specs.Members.{Has, IsSubset}
-use Rattle.cert_steps.specs.Targets.{guard_of}
+use Rattle.cert_questions.specs.Targets.{guard_of}
 use Rattle.cert_questions.specs.declared.known.Truth.{Truth}
 use Rattle.cert_questions.specs.declared.known.Truth.TheVariants.{Known, Undecided as UndecidedBy}
 use Rattle.cert_questions.specs.declared.sides.TargetSide.{TargetSide}

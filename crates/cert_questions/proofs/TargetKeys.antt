@@ -9,7 +9,7 @@ use Rattle.std.specs.Ordering.{nat_cmp, is_eq}
 use Rattle.std.proofs.lemmas.Bool.{true≢false, eqb-true, eq-eqb, ltb-true}
 use Rattle.std.proofs.lemmas.Map.Keys.{sorted_head, sorted_tail}
 use Rattle.kat_model.specs.Members.{Has}
-use Rattle.cert_steps.specs.Targets.{guard_of}
+use Rattle.cert_questions.specs.Targets.{guard_of}
 use Rattle.cert_questions.specs.declared.known.Truth.{Truth}
 use Rattle.cert_questions.specs.Cases.{known_of, falsely}
 use Rattle.cert_questions.specs.Sides.{open_targets, has_too}

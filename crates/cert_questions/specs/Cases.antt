@@ -5,7 +5,7 @@ use Rattle.kat_model.specs.Steps.{Atom}
 use Rattle.term_nodes.specs.declared.TestNode.{TestNode}
 use Rattle.term_nodes.specs.declared.TestNode.TheVariants.{False, True, Prim, Not, And, Or}
 use Rattle.term_nodes.specs.Nodes.{test_parts}
-use Rattle.cert_steps.specs.NodeTables.{TableParts, IsTest, holds_at}
+use Rattle.cert_questions.specs.NodeTables.{TableParts, IsTest, holds_at}
 use Rattle.cert_questions.specs.declared.known.Truth.{Truth}
 use Rattle.cert_questions.specs.declared.known.Truth.TheVariants.{Known, Undecided}
 

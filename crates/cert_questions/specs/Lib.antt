@@ -1,3 +1,6 @@
+pub mod NodeTables
+pub mod Marks
+pub mod Targets
 pub mod Ranges
 pub mod Roots
 pub mod Cases
@@ -7,3 +10,4 @@ pub mod Passes
 pub mod Sides
 pub mod Waiting
 pub mod Moves
+pub mod Working

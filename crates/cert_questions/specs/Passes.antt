@@ -10,9 +10,9 @@ use Rattle.term_nodes.specs.NumberSets.{are_below}
 use Rattle.certificate.specs.declared.nodes.Style.TheVariants.{UpTo}
 use Rattle.certificate.specs.PairParts.{PairParts}
 use Rattle.certificate.specs.Certs.{CertParts, IsCert}
-use Rattle.cert_steps.specs.NodeTables.{TableParts, TablesGrow, tables_of, IsTest, HasValues, holds_at}
-use Rattle.cert_steps.specs.Marks.{IsMarked, AreClosed}
-use Rattle.cert_steps.specs.Targets.{AreAcceptances, AreSteps, StandFor}
+use Rattle.cert_questions.specs.NodeTables.{TableParts, TablesGrow, tables_of, IsTest, HasValues, holds_at}
+use Rattle.cert_questions.specs.Marks.{IsMarked, AreClosed}
+use Rattle.cert_questions.specs.Targets.{AreAcceptances, AreSteps, StandFor}
 use Rattle.cert_questions.specs.declared.pass.PassNumbers.{PassNumbers}
 use Rattle.cert_questions.specs.Cases.{AreAsked}
 use Rattle.cert_questions.specs.Indices.{IndexParts, AreIndexed}

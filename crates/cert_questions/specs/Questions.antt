@@ -12,8 +12,8 @@ use Rattle.term_nodes.specs.NodeLists.{NodeParts}
 use Rattle.term_nodes.specs.NumberSets.{set_pairs_of, IsNumberSet}
 use Rattle.certificate.specs.PairParts.{PairParts, only_sets}
 use Rattle.certificate.specs.Accepted.{test_of, tested_pair_of}
-use Rattle.cert_steps.specs.NodeTables.{TableParts, AreTables, IsTest, IsTerm, term_at, holds_at, nodes_in}
-use Rattle.cert_steps.specs.Targets.{AreEntries, chosen}
+use Rattle.cert_questions.specs.NodeTables.{TableParts, AreTables, IsTest, IsTerm, term_at, holds_at, nodes_in}
+use Rattle.cert_questions.specs.Targets.{AreEntries, chosen}
 use Rattle.cert_questions.specs.Cases.{AreAsked, AreKnown}
 use Rattle.cert_questions.specs.Indices.{IndexParts, AreIndexed}
 use Rattle.cert_questions.specs.declared.known.TestCase.{TestCase}

@@ -8,7 +8,7 @@ use Rattle.kat_model.specs.Degrees.{short_hyps, closed_long}
 use Rattle.term_nodes.specs.NumberSets.{are_below, terms_of}
 use Rattle.certificate.specs.declared.nodes.Style.{Style}
 use Rattle.certificate.specs.declared.nodes.Style.TheVariants.{Plain, UpTo, Under}
-use Rattle.cert_steps.specs.NodeTables.{TableParts, IsTerm, term_at, nodes_in}
+use Rattle.cert_questions.specs.NodeTables.{TableParts, IsTerm, term_at, nodes_in}
 
 -- the closed sides that a style compares: in the style of tests, those for the long hypotheses
 abbrev pub compared : Style → ProblemParts → Closed

@@ -5,7 +5,7 @@ use Rattle.std.specs.List.Sorted.{IsStrictlySortedBy}
 use Rattle.std.specs.Map.{keys_of}
 use Rattle.std.specs.Ordering.{nat_cmp}
 use Rattle.kat_model.specs.Members.{Has}
-use Rattle.cert_steps.specs.Targets.{guard_of}
+use Rattle.cert_questions.specs.Targets.{guard_of}
 use Rattle.cert_questions.specs.Cases.{known_of, truly, falsely}
 use Rattle.cert_questions.specs.declared.known.Truth.{Truth}
 use Rattle.cert_questions.specs.declared.known.Truth.TheVariants.{Known, Undecided as UndecidedBy}

@@ -6,10 +6,10 @@ ghost use Rattle.std.specs.Ordering.{nat_cmp};
 ghost use Rattle.kat_model.specs.Members.{Has, IsSubset};
 ghost use Rattle.term_nodes.specs.Nodes.{test_parts};
 ghost use Rattle.certificate.specs.PairParts.{PairParts};
-ghost use Rattle.cert_steps.specs.NodeTables.{IsTest};
+ghost use Rattle.cert_questions.specs.NodeTables.{IsTest};
 ghost use Rattle.cert_questions.specs.Cases.{AreAsked};
 
-use cert_steps::Tables;
+use crate::tables::Tables;
 use certificate::{Pair, TestNode};
 use kat_model::NoMemory;
 use std::collections::BTreeSet;

@@ -3,11 +3,11 @@
 ghost use Rattle.std.specs.Prelude.{◌≡◌, ◌≤◌, ◌+◌, ℕ, length, IfOk, OnOk};
 ghost use Rattle.kat_model.specs.Members.{Has};
 ghost use Rattle.term_nodes.specs.Nodes.{IsTestOver};
-ghost use Rattle.cert_steps.specs.NodeTables.{IsWithin};
+ghost use Rattle.cert_questions.specs.NodeTables.{IsWithin};
 ghost use Rattle.cert_questions.specs.Cases.{known_of, known_test, known_not, known_and, known_node, truly, undecided, AreAsked, AreKnown};
 
 use crate::question::Question;
-use cert_steps::Tables;
+use crate::tables::Tables;
 use certificate::TestNode;
 use kat_model::NoMemory;
 use std::alloc::Global;

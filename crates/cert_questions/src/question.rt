@@ -1,7 +1,8 @@
 //! The conditions on pairs.
 use crate::asked::with_parts;
+use crate::derivatives::Targets;
 use crate::index::PairIndex;
-use cert_steps::{Tables, Targets};
+use crate::tables::Tables;
 use certificate::{Pair, Style};
 use kat_model::NoMemory;
 use std::collections::BTreeSet;
@@ -89,8 +90,8 @@ impl<'a> Model for Question<'a> {
 
 impl<'a> Question<'a> {
     ghost use Rattle.std.specs.Prelude.{◌≡◌, ℕ, IfOk};
-    ghost use Rattle.cert_steps.specs.NodeTables.{IsTest};
-    ghost use Rattle.cert_steps.specs.Targets.{AreEntries};
+    ghost use Rattle.cert_questions.specs.NodeTables.{IsTest};
+    ghost use Rattle.cert_questions.specs.Targets.{AreEntries};
     ghost use Rattle.cert_questions.specs.Questions.{AreNamed, IsAskedOf};
 
     /// Builds the question of the pass about two sets with these targets, under a test.

@@ -1,10 +1,10 @@
 //! The short hypotheses that are likely to matter to pairs under tests: after each action, and if they have no action,
 //! they depend only on tests that the tests of pairs name. With fewer hypotheses there are fewer cases.
 ghost use Rattle.std.specs.Prelude.{◌≡◌};
-ghost use Rattle.cert_steps.specs.NodeTables.{ArePrimsBelow, tables_of};
+ghost use Rattle.cert_questions.specs.NodeTables.{ArePrimsBelow, tables_of};
 
 use crate::asked::{add_pair_tests, with_parts};
-use cert_steps::Tables;
+use crate::tables::Tables;
 use certificate::{Cert, TestNode};
 use kat_model::NoMemory;
 use std::alloc::Global;

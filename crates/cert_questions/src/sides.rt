@@ -2,8 +2,8 @@
 ghost use Rattle.std.specs.Prelude.{◌≡◌, IfOk};
 ghost use Rattle.cert_questions.specs.Sides.{has_too as has_too', is_sure as is_sure', IsTargetSide};
 
+use crate::derivatives::Targets;
 use crate::known::{Truth, is_true, value_of};
-use cert_steps::Targets;
 use kat_model::NoMemory;
 use std::alloc::Global;
 

@@ -3,10 +3,10 @@ ghost use Rattle.std.specs.Prelude.{◌≡◌, None, MatchOption, IfSome};
 ghost use Rattle.cert_questions.specs.Sides.{IsWaitedBy, IsWaitedByOne, AreTargetSides};
 ghost use Rattle.cert_questions.specs.Waiting.{IsWaited, AreTestsSettled};
 
+use crate::derivatives::Targets;
 use crate::known::{TestCase, Truth, test_value, value_of};
 use crate::question::Question;
 use crate::sides::{TargetSides, is_sure};
-use cert_steps::Targets;
 
 fn has_surely_all(targets: &Targets, terms: &[usize], known: &[Truth]) -> bool {
     terms.iter().all(|term| is_sure(targets, *term, known))

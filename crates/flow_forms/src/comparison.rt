@@ -5,9 +5,8 @@ ghost use Rattle.flow_forms.specs.Comparisons.{comparison_tree, literal_tree, op
 
 use crate::form::{FlowForm, copy_both};
 use crate::order::{bits, same_form};
-use kat_model::{NoMemory, Width};
+use kat_model::{NoMemory, TableRow, Width};
 use std::alloc::Global;
-use unique_rows::TableRow;
 
 /// A comparison: that a form of a width is 0, that the first form of a width is less than the second as unsigned
 /// numbers, or that two opaque values are the same.

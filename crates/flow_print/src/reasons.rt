@@ -3,11 +3,11 @@ ghost use Rattle.std.specs.Prelude.{◌≡◌, ◌∷◌, ◌++◌, [], if◌the
 ghost use Rattle.problem_texts.specs.CommentedTexts.{comments_text, commented_hyps};
 ghost use Rattle.problem_texts.specs.Questions.{plain_name};
 ghost use Rattle.problem_texts.specs.Working.Scopes.{IsPlain};
-ghost use Rattle.flow_facts.specs.HypothesisViews.{flow_rule};
+ghost use Rattle.flow_questions.specs.HypothesisViews.{flow_rule};
 ghost use Rattle.flow_print.specs.ReasonTexts.{two_tests, three_tests, reason_text, is_same_reason, is_new as is_new_reason, reason_before, comments_before, comments_from};
 
 use crate::writing::{put, put_numbered};
-use flow_facts::FlowRule;
+use flow_questions::FlowRule;
 use kat_model::{NoMemory, Problem};
 use problem_texts::put_hyp;
 use std::alloc::Global;

@@ -27,7 +27,7 @@ use Rattle.flow_problem.proofs.AssignmentsHold.{Hold, hold_both, action_facts_ho
 use Rattle.flow_problem.proofs.FlowFactsHold.{order_fact_holds, equality_fact_holds, three_way_fact_holds, next_number_fact_holds}
 use Rattle.flow_problem.proofs.IntervalsHold.{two_interval_fact_holds, three_interval_fact_holds}
 use Rattle.flow_problem.proofs.SplitEdges.{Refines, refines_itself, split_all_refine, refined_ways, AreWithin, split_all_within, cell_tests_are, cell_tests_there}
-use Rattle.unique_rows.proofs.RowMembers.{with_all_new_has}
+use Rattle.kat_model.proofs.RowMembers.{with_all_new_has}
 use Rattle.flow_problem.proofs.TableMembers.{rounds_keep, action_met, row_there}
 
 -- ---- hypotheses

@@ -11,7 +11,7 @@ use Rattle.flow_forms.specs.Comparisons.{FlowComparisonTree, is_same_comparison}
 use Rattle.flow_ways.specs.Sorted.{IsSortedGraph}
 use Rattle.flow_ways.specs.Stops.{stop_from, IsSettled}
 use Rattle.flow_ways.specs.Liveness.{IsLive}
-use Rattle.unique_rows.specs.UniqueRows.{with_all_new}
+use Rattle.kat_model.specs.UniqueRows.{with_all_new}
 use Rattle.flow_problem.specs.Edges.{FlowActionTree, Edge, Marks, is_same_action, way_edges}
 use Rattle.flow_problem.specs.Points.{FlowProblem}
 use Rattle.flow_problem.specs.EdgeTerms.{edge_comparisons, edge_actions, place_block, graph_term, all_edges}

@@ -1,3 +1,10 @@
+pub mod CappedHypotheses
+pub mod ArcFacts
+pub mod FactsByList
+pub mod IntervalSteps
+pub mod AssignedForms
+pub mod GrownTables
+pub mod ActionFacts
 pub mod TermRanges
 pub mod FactRanges
 pub mod WholeRanges

@@ -24,8 +24,8 @@ use Rattle.flow_places.proofs.PlaceMarks.{range_pushed, filter-pushed}
 use Rattle.flow_places.proofs.Reaching.{length-marks}
 use Rattle.flow_problem.specs.Edges.{Edge, edge_of, way_edges}
 use Rattle.flow_problem.specs.PlacedProblems.{graph_marks}
-use Rattle.flow_edges.specs.EdgeTables.{table_marks}
-use Rattle.flow_edges.proofs.EdgesOfTables.{table_edges as edges_of_tables}
+use Rattle.flow_tables.specs.EdgeTables.{table_marks}
+use Rattle.flow_tables.proofs.EdgesOfTables.{table_edges as edges_of_tables}
 use Rattle.flow_questions.specs.Asked.{HasManyWays, HasLargeForm, ways_at}
 use Rattle.flow_questions.specs.Working.Placed.{of_place_fault, of_way_fault, AllAre, SomeIs, table_edges, table_ways, AreFew, HasWayFault, IsSound, HasGraphFault}
 

@@ -14,16 +14,16 @@ use Rattle.flow_problem.specs.Edges.{FlowActionTree, Edge}
 use Rattle.flow_problem.specs.EdgeTerms.{graph_term}
 use Rattle.flow_problem.specs.FlowFacts.{FlowHypothesis as Hypothesis, flow_hypotheses}
 use Rattle.flow_problem.specs.FlowProblems.{first_tests, edges_before, edges_after, flow_actions, flow_tests, flow_parts}
-use Rattle.flow_edges.specs.declared.action.FlowAction.{FlowAction}
-use Rattle.flow_edges.specs.EdgeViews.{flow_action}
+use Rattle.flow_tables.specs.declared.action.FlowAction.{FlowAction}
+use Rattle.flow_tables.specs.EdgeViews.{flow_action}
 use Rattle.flow_terms.specs.Rows.{rows_fit}
 use Rattle.flow_terms.specs.declared.fault.TermFault.{TermFault}
 use Rattle.flow_terms.specs.declared.fault.TermFault.TheVariants as term
 use Rattle.flow_tables.specs.GraphRows.{row_edges, edge_rows}
-use Rattle.flow_facts.specs.declared.hypothesis.FlowHypothesis.{FlowHypothesis}
-use Rattle.flow_facts.specs.HypothesisViews.{flow_rule, flow_hypothesis}
-use Rattle.flow_hypotheses.specs.declared.fault.HypothesisFault.{HypothesisFault}
-use Rattle.flow_hypotheses.specs.declared.fault.HypothesisFault.TheVariants as hypothesis
+use Rattle.flow_questions.specs.declared.hypothesis.FlowHypothesis.{FlowHypothesis}
+use Rattle.flow_questions.specs.HypothesisViews.{flow_rule, flow_hypothesis}
+use Rattle.flow_questions.specs.declared.hypothesis_fault.HypothesisFault.{HypothesisFault}
+use Rattle.flow_questions.specs.declared.hypothesis_fault.HypothesisFault.TheVariants as hypothesis
 use Rattle.flow_questions.specs.declared.placed.PlacedEdges.{PlacedEdges}
 use Rattle.flow_questions.specs.declared.parts.Tables.{Tables}
 use Rattle.flow_questions.specs.declared.hypotheses.Reasons.{Reasons}

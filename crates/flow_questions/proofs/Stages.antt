@@ -7,13 +7,13 @@ use Rattle.kat_model.specs.declared.limits.TheConstants.{MAX_TESTS, MAX_ACTIONS}
 use Rattle.flow_model.specs.Graphs.{Graph}
 use Rattle.flow_model.specs.Polish.{graph_of}
 use Rattle.flow_forms.specs.Comparisons.{FlowComparisonTree, is_same_comparison}
-use Rattle.unique_rows.specs.UniqueRows.{with_all_new}
+use Rattle.kat_model.specs.UniqueRows.{with_all_new}
 use Rattle.flow_places.specs.Places.{places}
 use Rattle.flow_problem.specs.Edges.{FlowActionTree, Edge, is_same_action, way_edges}
 use Rattle.flow_problem.specs.EdgeTerms.{edge_comparisons, edge_actions, all_edges}
 use Rattle.flow_problem.specs.FlowProblems.{first_tests, edges_with, edges_before, edges_after, flow_actions}
 use Rattle.flow_problem.specs.PlacedProblems.{graph_marks}
-use Rattle.flow_edges.specs.declared.edge.FlowEdge.{FlowEdge}
+use Rattle.flow_tables.specs.declared.edge.FlowEdge.{FlowEdge}
 use Rattle.flow_tables.specs.GraphRows.{row_edges}
 use Rattle.flow_tables.specs.declared.fault.TableFault.{TableFault}
 use Rattle.flow_tables.specs.declared.fault.TableFault.TheVariants as table

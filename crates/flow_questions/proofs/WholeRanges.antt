@@ -11,7 +11,7 @@ use Rattle.flow_model.specs.declared.sort.Sort.{Sort}
 use Rattle.flow_model.specs.Graphs.{Graph}
 use Rattle.flow_forms.specs.Comparisons.{FlowComparisonTree, is_same_comparison}
 use Rattle.flow_forms.proofs.SameComparisons.{one_comparison}
-use Rattle.unique_rows.proofs.RowMembers.{with_all_new_has}
+use Rattle.kat_model.proofs.RowMembers.{with_all_new_has}
 use Rattle.flow_places.specs.Places.{places}
 use Rattle.flow_places.specs.Loops.{HasUncutLoop}
 use Rattle.flow_problem.specs.Edges.{FlowActionTree, Edge, is_idle, is_same_action, way_edges}

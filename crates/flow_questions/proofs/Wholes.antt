@@ -14,8 +14,8 @@ use Rattle.flow_problem.specs.Points.{FlowProblem}
 use Rattle.flow_problem.specs.FlowFacts.{FlowHypothesis, flow_hypotheses}
 use Rattle.flow_problem.specs.FlowProblems.{first_tests, flow_actions, flow_parts, whole_problem, problem_by}
 use Rattle.flow_problem.specs.PlacedProblems.{IsFlowProblem}
-use Rattle.flow_edges.specs.EdgeViews.{flow_action}
-use Rattle.flow_facts.specs.HypothesisViews.{flow_rule}
+use Rattle.flow_tables.specs.EdgeViews.{flow_action}
+use Rattle.flow_questions.specs.HypothesisViews.{flow_rule}
 use Rattle.flow_questions.specs.declared.fault.FlowFault.TheVariants.{NoMemory, UncutLoop, TooManyPaths, TooLarge, TooManyTests, TooManyActions, ProblemTooLarge}
 use Rattle.flow_questions.specs.declared.hypotheses.Reasons.{Reasons}
 use Rattle.flow_questions.specs.declared.parts.Tables.{Tables}

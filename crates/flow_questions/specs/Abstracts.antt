@@ -1,7 +1,7 @@
 -- The problem of a question as definitions see it.
 use Rattle.std.specs.Prelude.{map}
 use Rattle.flow_forms.specs.Comparisons.{comparison_tree}
-use Rattle.flow_edges.specs.EdgeViews.{flow_action}
+use Rattle.flow_tables.specs.EdgeViews.{flow_action}
 use Rattle.flow_problem.specs.Points.{FlowProblem}
 use Rattle.flow_questions.specs.declared.question.FlowAbstract.{FlowAbstract}
 

@@ -1,3 +1,10 @@
+pub mod CappedLists
+pub mod HypothesisViews
+pub mod Completions
+pub mod IntervalViews
+pub mod FactLists
+pub mod LiteralsWith
+pub mod ActionLists
 pub mod Asked
 pub mod Abstracts
 pub mod Working

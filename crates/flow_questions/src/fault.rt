@@ -3,7 +3,7 @@ ghost use Rattle.std.specs.Prelude.{◌≡◌};
 ghost use Rattle.flow_questions.specs.declared.fault.FlowFault.TheVariants.{NoMemory as NoRoom};
 ghost use Rattle.flow_questions.specs.Working.Placed.{of_place_fault, of_way_fault, of_table_fault, of_split_fault, of_term_fault, of_hypothesis_fault};
 
-use flow_hypotheses::HypothesisFault;
+use crate::hypothesis_fault::HypothesisFault;
 use flow_places::PlaceFault;
 use flow_splits::SplitFault;
 use flow_symbolic::WayFault;

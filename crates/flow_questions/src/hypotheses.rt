@@ -1,15 +1,15 @@
 //! The hypotheses of a question.
 ghost use Rattle.std.specs.Prelude.{◌≡◌, ◌++◌, [], ◌∷◌, map, IfOk, IfErr, OnOk};
 ghost use Rattle.kat_model.specs.Trees.{kat_tree};
-ghost use Rattle.flow_facts.specs.HypothesisViews.{flow_rule, flow_hypothesis};
+ghost use Rattle.flow_questions.specs.HypothesisViews.{flow_rule, flow_hypothesis};
 ghost use Rattle.flow_questions.specs.Asked.{HasFault};
 ghost use Rattle.flow_questions.specs.Working.Stages.{asked_by, HasTables, HasReasons};
 
 use crate::edges::Question;
 use crate::fault::FlowFault;
+use crate::hypothesis::{FlowHypothesis, FlowRule};
 use crate::parts::Tables;
-use flow_facts::{FlowHypothesis, FlowRule};
-use flow_hypotheses::hypotheses;
+use crate::problem_hypotheses::hypotheses;
 use kat_model::{Kat, NoMemory};
 use std::alloc::Global;
 

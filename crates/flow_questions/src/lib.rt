@@ -1,13 +1,29 @@
-//! The problem of a question of two flow graphs.
+//! The problem of a question of two flow graphs, with its hypotheses: what assignments say of tests, and facts between
+//! tests. In a round, what parallel assignments make of tests gives further tests.
 #![tactic(auto)]
 
+mod after;
+mod assigned_forms;
+mod assignment;
+mod completion;
 mod edges;
+mod facts;
 mod fault;
 mod hypotheses;
+mod hypothesis;
+mod hypothesis_fault;
+mod interval;
+mod interval_facts;
 mod parts;
 mod placed;
+mod problem_hypotheses;
 mod question;
+mod rounds;
+mod sameness;
 mod split;
+mod terms;
+mod variables;
 
 pub use fault::FlowFault;
+pub use hypothesis::{FlowHypothesis, FlowRule};
 pub use question::{FlowAbstract, problem_of};

@@ -11,10 +11,9 @@ ghost use Rattle.flow_questions.specs.Working.Stages.{asked_by, KeepsLimits, Has
 use crate::edges::Question;
 use crate::fault::FlowFault;
 use crate::placed::PlacedEdges;
-use flow_edges::FlowAction;
+use crate::rounds::with_rounds;
 use flow_forms::FlowComparison;
-use flow_rounds::with_rounds;
-use flow_tables::{action_rows, graph_term};
+use flow_tables::{FlowAction, action_rows, graph_term};
 use flow_terms::TermFault;
 use kat_model::Kat;
 use std::alloc::Global;

@@ -8,10 +8,10 @@ ghost use Rattle.flow_tables.specs.GraphRows.{row_edges};
 ghost use Rattle.flow_questions.specs.Working.Placed.{AllAre, table_edges, AreFew, HasWayFault, HasEdges, IsSound, HasGraphFault};
 
 use crate::fault::FlowFault;
-use flow_edges::{FlowEdge, edges_from};
 use flow_model::{Block, Sort};
 use flow_places::{live_sets, places};
 use flow_symbolic::WayFault;
+use flow_tables::{FlowEdge, edges_from};
 use kat_model::NoMemory;
 use std::alloc::Global;
 

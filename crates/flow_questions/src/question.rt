@@ -1,8 +1,8 @@
 //! The problem of a question.
 ghost use Rattle.std.specs.Prelude.{◌≡◌, map, IfOk, IfErr};
 ghost use Rattle.flow_forms.specs.Comparisons.{comparison_tree};
-ghost use Rattle.flow_edges.specs.EdgeViews.{flow_action};
-ghost use Rattle.flow_facts.specs.HypothesisViews.{flow_rule};
+ghost use Rattle.flow_tables.specs.EdgeViews.{flow_action};
+ghost use Rattle.flow_questions.specs.HypothesisViews.{flow_rule};
 ghost use Rattle.flow_problem.specs.FlowFacts.{flow_hypotheses};
 ghost use Rattle.flow_problem.specs.PlacedProblems.{IsFlowProblem};
 ghost use Rattle.flow_questions.specs.Asked.{asked, question_of, HasFault, HasNoFault};
@@ -12,11 +12,11 @@ ghost use Rattle.flow_questions.specs.Working.Stages.{asked_by, KeepsLimits, Has
 use crate::edges::{PairEdges, Question, pair_edges};
 use crate::fault::FlowFault;
 use crate::hypotheses::{Reasons, reasons_of};
+use crate::hypothesis::FlowRule;
 use crate::parts::{Sides, Tables, sides_of, tables_of};
-use flow_edges::FlowAction;
-use flow_facts::FlowRule;
 use flow_forms::FlowComparison;
 use flow_model::{Block, Sort};
+use flow_tables::FlowAction;
 use kat_model::Problem;
 use std::alloc::Global;
 

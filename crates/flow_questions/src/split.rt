@@ -7,10 +7,10 @@ ghost use Rattle.flow_tables.specs.GraphRows.{row_edges};
 ghost use Rattle.flow_questions.specs.Working.Splits.{AreShort, HasLongRow};
 
 use crate::placed::{PlacedEdges, push_row};
-use flow_edges::FlowEdge;
 use flow_forms::FlowComparison;
 use flow_model::Sort;
 use flow_splits::{SplitFault, split_edges};
+use flow_tables::FlowEdge;
 use std::alloc::Global;
 
 // Splits the edges from each place by tests.

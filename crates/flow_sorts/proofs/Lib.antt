@@ -1,3 +1,5 @@
+pub mod TreeFits
+pub mod OneOutcome
 pub mod Holding
 pub mod SortedNodes
 pub mod SortedGraphs

@@ -8,7 +8,7 @@ use Rattle.flow_model.specs.declared.graph.Block.{Block}
 use Rattle.flow_text.specs.declared.reading.FlowFile.{FlowFile}
 use Rattle.flow_text.specs.FileViews.{graphs_of, file_parts}
 use Rattle.flow_text.specs.Texts.{IsFlowText}
-use Rattle.flow_whole.specs.WholeGraphs.{IsWholeGraph}
+use Rattle.flow_sorts.specs.WholeGraphs.{IsWholeGraph}
 use Rattle.flow_sorts.proofs.ReadGraphs.{graph_whole}
 use Rattle.flow_sorts.proofs.SortedFiles.{AreGood, flow_graphs_good}
 

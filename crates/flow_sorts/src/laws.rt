@@ -5,8 +5,9 @@ ghost use Rattle.flow_text.specs.Checking.{FlowFileParts, pair_of};
 ghost use Rattle.flow_text.specs.Texts.{IsFlowText};
 ghost use Rattle.flow_text.specs.FileViews.{file_parts};
 ghost use Rattle.flow_text.specs.declared.reading.FlowFile.{FlowFile};
-ghost use Rattle.flow_whole.specs.WholeGraphs.{IsWholeGraph};
+ghost use Rattle.flow_sorts.specs.WholeGraphs.{IsWholeGraph};
 ghost use Rattle.flow_problem.specs.PlacedProblems.{IsFlowPair};
+ghost use Rattle.flow_sorts.specs.Laws.{WholeOutcomes};
 
 /// Both graphs of the goal of a flow file have a block, and each of their expressions has the sort that its place
 /// requires.
@@ -22,4 +23,10 @@ pub fn graphs_are_whole()
 /// The names of the variables and of the functions of a flow file may be comments: they are UTF-8 without a line feed.
 pub fn names_are_lines()
     ensures { (text : List ℕ) (f : FlowFileParts) → IsFlowText text f → All IsComment f.variable_names × All IsComment f.function_names }
+{}
+
+/// If each expression and each condition of a graph is one tree, all ways from a place, their number, and whether a form
+/// on them is too large, are those of the graph as trees.
+pub fn whole_graphs_have_one_outcome()
+    ensures { WholeOutcomes }
 {}

@@ -4,17 +4,17 @@ ghost use Rattle.std.specs.List.{list_any, list_all};
 ghost use Rattle.flow_forms.specs.Forms.{form_tree};
 ghost use Rattle.flow_symbolic.specs.ActionTrees.{set_tree};
 ghost use Rattle.flow_symbolic.specs.WayTrees.{sorted_form};
-ghost use Rattle.flow_edges.specs.EdgeViews.{flow_action};
+ghost use Rattle.flow_tables.specs.EdgeViews.{flow_action};
 ghost use Rattle.flow_problem.specs.Splits.{set_has as set_has_cell, action_reads as action_reads_cell, number_fits, set_fits, sets_fit, action_fits, set_with as with_set, sets_with, with_cell_number, action_with as with_action};
 ghost use Rattle.flow_splits.specs.CellTests.{cell_test_tree};
 ghost use Rattle.flow_splits.specs.Numbers.{HasNumber, has_in, result_with as with_result, result_fits, number_action as action_if_read};
 
 use crate::cell::{has_cell, is_same_cell};
 use crate::number::{Split, with_number};
-use flow_edges::FlowAction;
 use flow_forms::{FlowForm, FormFault};
 use flow_model::Sort;
 use flow_symbolic::{SortedForm, own_form};
+use flow_tables::FlowAction;
 use kat_model::NoMemory;
 use std::alloc::Global;
 

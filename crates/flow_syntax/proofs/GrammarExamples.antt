@@ -1,6 +1,6 @@
 -- The grammar is light, so each reading ends, and the program's table of actions is that of the productions.
 use Rattle.std.specs.Prelude.{◌≡◌, refl, true}
-use Rattle.text_reader.specs.Weights.{are_light}
+use Rattle.flow_syntax.specs.Weights.{are_light}
 use Rattle.flow_syntax.specs.declared.listing.TheConstants.{ACTIONS}
 use Rattle.flow_syntax.specs.Productions.{rules_of, productions, rules, weights, listed_actions}
 

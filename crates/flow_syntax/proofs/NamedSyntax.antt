@@ -5,15 +5,15 @@ use Rattle.kat_model.specs.declared.limits.TheConstants.{MAX_OPEN}
 use Rattle.text_tokens.specs.declared.fault.TextFault.{TextFault}
 use Rattle.text_tokens.specs.declared.fault.TextFault.TheVariants.{NoMemory}
 use Rattle.text_grammar.proofs.NamedFaults.{IsNamedFault, IsNamed}
-use Rattle.text_reader.specs.declared.rule.TheConstants.{NUMBER, WIDE_NUMBER, OPEN_ROUND}
-use Rattle.text_reader.specs.declared.rule.Mark.{Mark}
-use Rattle.text_reader.specs.declared.rule.Part.{Part}
-use Rattle.text_reader.specs.declared.rule.Part.TheVariants.{Token, Opening, Closing, Phrase}
-use Rattle.text_reader.specs.declared.rule.Start.TheVariants.{Take, Open, Group, Otherwise}
-use Rattle.text_reader.specs.declared.rule.Step.{Step}
-use Rattle.text_reader.specs.Rules.{RuleParts, rule_parts, chosen}
-use Rattle.text_reader.specs.Moves.{State, state, Move, finished, moved, refused, mismatch, taking, opening, stepped, predicted, move}
-use Rattle.text_reader.specs.Derivations.{IsFirstFault}
+use Rattle.flow_syntax.specs.declared.rule.TheConstants.{NUMBER, WIDE_NUMBER, OPEN_ROUND}
+use Rattle.flow_syntax.specs.declared.rule.Mark.{Mark}
+use Rattle.flow_syntax.specs.declared.rule.Part.{Part}
+use Rattle.flow_syntax.specs.declared.rule.Part.TheVariants.{Token, Opening, Closing, Phrase}
+use Rattle.flow_syntax.specs.declared.rule.Start.TheVariants.{Take, Open, Group, Otherwise}
+use Rattle.flow_syntax.specs.declared.rule.Step.{Step}
+use Rattle.flow_syntax.specs.Rules.{RuleParts, rule_parts, chosen}
+use Rattle.flow_syntax.specs.Moves.{State, state, Move, finished, moved, refused, mismatch, taking, opening, stepped, predicted, move}
+use Rattle.flow_syntax.specs.Derivations.{IsFirstFault}
 
 abbrev IsNamedMove : Move → Type 0
 IsNamedMove finished = Unit {0}

@@ -2,9 +2,9 @@
 -- text holds of them.
 use Rattle.std.proofs.Common.{ℕ, zero, suc, List, [], ◌∷◌, drop, Option, Some, None, slice_get, subst}
 use Rattle.text_tokens.specs.TokenParts.{TokenParts}
-use Rattle.text_reader.specs.declared.rule.Step.{Step}
-use Rattle.text_reader.specs.declared.rule.Step.TheVariants.{Shift, Apply, Match, Close}
-use Rattle.text_reader.specs.Values.{taken_by, with_leaf, step_values, values}
+use Rattle.flow_syntax.specs.declared.rule.Step.{Step}
+use Rattle.flow_syntax.specs.declared.rule.Step.TheVariants.{Shift, Apply, Match, Close}
+use Rattle.flow_syntax.specs.Values.{taken_by, with_leaf, step_values, values}
 use Rattle.flow_syntax.specs.declared.action.Action.{Action}
 use Rattle.flow_syntax.specs.declared.action.Action.TheVariants.{Names, Exprs, Conds, Bodies, Items}
 use Rattle.flow_syntax.specs.declared.action.NameAction.{NameAction}

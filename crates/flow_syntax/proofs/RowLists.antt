@@ -1,7 +1,7 @@
 -- The rules of the first rows of a table.
 use Rattle.std.proofs.Common.{◌≡◌, ◌<◌, ℕ, ◌+◌, List, [], ◌∷◌, ◌++◌, length, map, take, get_or, sym, ap, ◌∙◌}
 use Rattle.std.proofs.lemmas.List.{take_more, map-append}
-use Rattle.text_reader.specs.Rules.{RuleParts}
+use Rattle.flow_syntax.specs.Rules.{RuleParts}
 use Rattle.flow_syntax.specs.declared.grammar.RuleRow.{RuleRow}
 use Rattle.flow_syntax.specs.Working.Rows.{row_parts}
 

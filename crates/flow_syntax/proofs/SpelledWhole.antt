@@ -1,13 +1,13 @@
 -- What tokens spell is whole: each production keeps it.
 use Rattle.std.proofs.Common.{◌≡◌, ◌<◌, ℕ, zero, suc, List, [], ◌∷◌, ◌++◌, length, map, nat_eq, if◌then◌else◌, Some, slice_get, subst, lit<, refl}
 use Rattle.text_tokens.specs.TokenParts.{TokenParts}
-use Rattle.text_reader.specs.declared.rule.Part.{Part}
-use Rattle.text_reader.specs.declared.rule.Part.TheVariants.{Token, Opening, Closing, Phrase}
-use Rattle.text_reader.specs.declared.rule.Start.{Start}
-use Rattle.text_reader.specs.Rules.{rule_parts}
-use Rattle.text_reader.specs.Values.{values}
-use Rattle.text_reader.proofs.Leftmost.{derivation_leftmost}
-use Rattle.text_reader.proofs.KeptValues.{started, Keeps, values_fit}
+use Rattle.flow_syntax.specs.declared.rule.Part.{Part}
+use Rattle.flow_syntax.specs.declared.rule.Part.TheVariants.{Token, Opening, Closing, Phrase}
+use Rattle.flow_syntax.specs.declared.rule.Start.{Start}
+use Rattle.flow_syntax.specs.Rules.{rule_parts}
+use Rattle.flow_syntax.specs.Values.{values}
+use Rattle.flow_syntax.proofs.Leftmost.{derivation_leftmost}
+use Rattle.flow_syntax.proofs.KeptValues.{started, Keeps, values_fit}
 use Rattle.flow_syntax.specs.declared.phrase.TheConstants.{FILE, FIRST_BLOCK, MORE_BLOCKS, BODY, RESULTS, CONDITION, MORE_CONJUNCTIONS, CONJUNCTION, MORE_LITERALS, LITERAL, EXPRESSION, MORE_SUMMANDS, PRODUCT, MORE_FACTORS, FACTOR, CALL, ARGUMENTS, MORE_EXPRESSIONS}
 use Rattle.flow_syntax.specs.Terminals.{mark_of}
 use Rattle.flow_syntax.specs.Syntax.{both, either, ItemSyntax}

@@ -3,10 +3,10 @@ use Rattle.std.proofs.Common.{◌≡◌, ℕ, List, length, map, sym, ◌∙◌}
 use Rattle.std.proofs.lemmas.List.{length-map}
 use Rattle.text_tokens.specs.declared.token.Token.{Token}
 use Rattle.text_tokens.specs.TokenParts.{TokenParts, parts_of_token, parts_of_tokens}
-use Rattle.text_reader.specs.declared.rule.Step.{Step}
-use Rattle.text_reader.specs.Derivations.{Derives}
-use Rattle.text_reader.specs.Values.{count_taken, values}
-use Rattle.text_reader.proofs.ValuesMade.{derived_taken}
+use Rattle.flow_syntax.specs.declared.rule.Step.{Step}
+use Rattle.flow_syntax.specs.Derivations.{Derives}
+use Rattle.flow_syntax.specs.Values.{count_taken, values}
+use Rattle.flow_syntax.proofs.ValuesMade.{derived_taken}
 use Rattle.flow_syntax.specs.declared.phrase.TheConstants.{FILE}
 use Rattle.flow_syntax.specs.Terminals.{mark_of}
 use Rattle.flow_syntax.specs.Syntax.{ItemSyntax}

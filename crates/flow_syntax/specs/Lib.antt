@@ -1,3 +1,9 @@
+pub mod Rules
+pub mod Moves
+pub mod Derivations
+pub mod Weights
+pub mod Values
+pub mod Working
 pub mod Terminals
 pub mod Syntax
 pub mod Actions
@@ -5,4 +11,3 @@ pub mod SyntaxViews
 pub mod Productions
 pub mod Spelling
 pub mod Sizes
-pub mod Working

@@ -1,10 +1,10 @@
 -- The grammar of flow files: for each phrase its productions, each with its action, in the order in which they are tried.
 use Rattle.std.specs.Prelude.{ℕ, List, [], ◌∷◌, ◌++◌, map, Option, Some, None, slice_get}
-use Rattle.text_reader.specs.declared.rule.TheConstants.{NUMBER, OPEN_ROUND, CLOSE_ROUND}
-use Rattle.text_reader.specs.declared.rule.Part.TheVariants.{Token, Opening, Closing, Phrase}
-use Rattle.text_reader.specs.declared.rule.Start.TheVariants.{Take, Open, Group, Otherwise}
-use Rattle.text_reader.specs.Rules.{RuleParts, rule_parts}
-use Rattle.text_reader.specs.Values.{Actions}
+use Rattle.flow_syntax.specs.declared.rule.TheConstants.{NUMBER, OPEN_ROUND, CLOSE_ROUND}
+use Rattle.flow_syntax.specs.declared.rule.Part.TheVariants.{Token, Opening, Closing, Phrase}
+use Rattle.flow_syntax.specs.declared.rule.Start.TheVariants.{Take, Open, Group, Otherwise}
+use Rattle.flow_syntax.specs.Rules.{RuleParts, rule_parts}
+use Rattle.flow_syntax.specs.Values.{Actions}
 use Rattle.flow_syntax.specs.declared.phrase.TheConstants.{FILE, NAMES, MORE_NAMES, SORT_NAME, PARAMETERS, MORE_SORTS, FIRST_BLOCK, MORE_BLOCKS, BODY, RESULTS, CONDITION, MORE_CONJUNCTIONS, CONJUNCTION, MORE_LITERALS, LITERAL, RELATION, CONTINUES, EXPRESSION, MORE_SUMMANDS, PRODUCT, MORE_FACTORS, FACTOR, CALL, ARGUMENTS, MORE_EXPRESSIONS}
 use Rattle.flow_syntax.specs.declared.terminal.TheConstants.{ABORT, AND, ASSERT, BANG, BECOMES, BLOCK, COMMA, CURLY_CLOSE, CURLY_OPEN, CUT, ELSE, EQ, EQUAL, FALSE, FUN, GE, GOTO, GRAPH, GT, IF, LE, LT, MINUS, NAME, NE, OR, PLUS, RETURN, ROUNDS, S16, S32, S64, S8, SEMICOLON, SGE, SGT, SLE, SLT, SORT, SPLIT, STAR, TRUE, U16, U32, U64, U8, VAR}
 use Rattle.flow_syntax.specs.declared.action.Action.{Action}

@@ -1,9 +1,9 @@
 -- What tokens spell.
 use Rattle.std.specs.Prelude.{◌≡◌, ℕ, List, map}
 use Rattle.text_tokens.specs.TokenParts.{TokenParts}
-use Rattle.text_reader.specs.declared.rule.Step.{Step}
-use Rattle.text_reader.specs.Derivations.{Derives}
-use Rattle.text_reader.specs.Values.{values}
+use Rattle.flow_syntax.specs.declared.rule.Step.{Step}
+use Rattle.flow_syntax.specs.Derivations.{Derives}
+use Rattle.flow_syntax.specs.Values.{values}
 use Rattle.flow_syntax.specs.declared.phrase.TheConstants.{FILE}
 use Rattle.flow_syntax.specs.Terminals.{mark_of}
 use Rattle.flow_syntax.specs.Syntax.{ItemSyntax}

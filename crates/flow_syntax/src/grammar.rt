@@ -1,14 +1,14 @@
 //! The grammar as data: a row for each rule.
 ghost use Rattle.std.specs.Prelude.{◌≡◌, map, IfOk};
-ghost use Rattle.text_reader.specs.Rules.{parts_of_rules};
+ghost use Rattle.flow_syntax.specs.Rules.{parts_of_rules};
 ghost use Rattle.flow_syntax.specs.Productions.{rules, weights};
 ghost use Rattle.flow_syntax.specs.Working.Rows.{row_parts};
 
 use crate::phrase::*;
+use crate::rule::{CLOSE_ROUND, Grammar, NUMBER, OPEN_ROUND, Part, Rule, Start, push_rule};
 use crate::terminal::*;
 use kat_model::NoMemory;
 use std::alloc::Global;
-use text_reader::{CLOSE_ROUND, Grammar, NUMBER, OPEN_ROUND, Part, Rule, Start, push_rule};
 
 /// A rule: the phrase that it makes, how it begins, and the parts that follow.
 struct RuleRow {

@@ -5,6 +5,7 @@ ghost use Rattle.flow_syntax.specs.Productions.{act};
 ghost use Rattle.flow_syntax.specs.SyntaxViews.{stack_syntax};
 
 use crate::action::Action;
+use crate::building::Building;
 use crate::listing::ACTIONS;
 use crate::making_bodies::make_bodies;
 use crate::making_conds::make_conds;
@@ -15,7 +16,6 @@ use crate::stack::push;
 use crate::value::Value;
 use kat_model::NoMemory;
 use std::alloc::Global;
-use text_reader::Building;
 use text_tokens::Token;
 
 fn make(alloc: Global, action: Action, stack: &mut Vec<Value>) -> Result<(), NoMemory>

@@ -5,14 +5,14 @@ ghost use Rattle.flow_syntax.specs.Syntax.{a_block};
 ghost use Rattle.flow_syntax.specs.SyntaxViews.{stack_syntax, statement_syntax, jump_syntax, block_syntax};
 
 use crate::action::BodyAction;
-use crate::lists::{append, append_block};
+use crate::lists::append_block;
 use crate::stack::{
     push, skip, take_blocks, take_body, take_cond, take_expr_list, take_exprs, take_token,
     take_token_list,
 };
 use crate::value::Value;
 use crate::written::{Block, Jump, Statement};
-use kat_model::NoMemory;
+use kat_model::{NoMemory, append};
 use std::alloc::Global;
 
 // Puts a statement before those of the body on top of the stack.

@@ -4,11 +4,10 @@ ghost use Rattle.flow_syntax.specs.Actions.{items, first, rest, items_in, items_
 ghost use Rattle.flow_syntax.specs.SyntaxViews.{stack_syntax, item_syntax};
 
 use crate::action::ItemAction;
-use crate::lists::append;
 use crate::stack::{push, skip, take_blocks, take_items, take_token, take_tokens};
 use crate::value::Value;
 use crate::written::Item;
-use kat_model::NoMemory;
+use kat_model::{NoMemory, append};
 use std::alloc::Global;
 
 // Puts an item before those on top of the stack.

@@ -1,17 +1,18 @@
 //! From a text to its derivation.
 ghost use Rattle.std.specs.Prelude.{◌≡◌, ◌≤◌, length, map, IfOk, IfErr};
 ghost use Rattle.text_tokens.specs.TokenParts.{parts_of_tokens};
-ghost use Rattle.text_reader.specs.Derivations.{Derives, IsReaderFault};
+ghost use Rattle.flow_syntax.specs.Derivations.{Derives, IsReaderFault};
 ghost use Rattle.flow_syntax.specs.declared.phrase.TheConstants.{FILE};
 ghost use Rattle.flow_syntax.specs.Terminals.{mark_of};
 ghost use Rattle.flow_syntax.specs.Productions.{rules};
 
 use crate::grammar::grammar;
 use crate::phrase::FILE;
+use crate::reading::read;
+use crate::rule::{Mark, Step};
 use crate::terminal::terminal_of;
 use kat_model::NoMemory;
 use std::alloc::Global;
-use text_reader::{Mark, Step, read};
 use text_tokens::{TextFault, Token};
 
 fn marks(alloc: Global, toks: &[Token]) -> Result<Vec<Mark>, NoMemory>

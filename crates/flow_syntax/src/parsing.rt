@@ -1,19 +1,19 @@
 //! Reads the items of a text.
 ghost use Rattle.std.specs.Prelude.{◌≡◌, map, IfOk, IfErr};
 ghost use Rattle.text_tokens.specs.TokenParts.{parts_of_tokens};
-ghost use Rattle.text_reader.specs.Derivations.{IsReaderFault};
+ghost use Rattle.flow_syntax.specs.Derivations.{IsReaderFault};
 ghost use Rattle.flow_syntax.specs.declared.phrase.TheConstants.{FILE};
 ghost use Rattle.flow_syntax.specs.Terminals.{mark_of};
 ghost use Rattle.flow_syntax.specs.Productions.{rules};
 ghost use Rattle.flow_syntax.specs.SyntaxViews.{items_syntax};
 ghost use Rattle.flow_syntax.specs.Spelling.{AreSpelled};
 
+use crate::building::build;
 use crate::making::Parts;
 use crate::marks::derivation;
 use crate::stack::take_items;
 use crate::written::Item;
 use std::alloc::Global;
-use text_reader::build;
 use text_tokens::{TextFault, Token};
 
 /// Returns the items that the tokens of a text of `end` bytes spell, from the last to the first, or the first fault of

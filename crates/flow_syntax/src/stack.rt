@@ -5,10 +5,10 @@ ghost use Rattle.text_tokens.specs.TokenParts.{parts_of_token};
 ghost use Rattle.flow_syntax.specs.Actions.{first, second, rest, past_two, is_no_call, token_in, tokens_in, expr_in, exprs_in, operators_in, operands_in, cond_in, statements_in, jump_in, blocks_in, items_in};
 ghost use Rattle.flow_syntax.specs.SyntaxViews.{tokens_syntax, expr_syntax, exprs_syntax, cond_syntax, statements_syntax, jump_syntax, blocks_syntax, items_syntax, value_syntax, stack_syntax};
 
-use crate::lists::{append, append_expr, append_token};
+use crate::lists::{append_expr, append_token};
 use crate::value::Value;
 use crate::written::{Block, CondNode, Item, Jump, Node, Statement};
-use kat_model::NoMemory;
+use kat_model::{NoMemory, append};
 use std::alloc::Global;
 use text_tokens::Token;
 

@@ -1,2 +1,4 @@
+pub mod EdgesOfTables
+mod SameActions
 mod TableRows
 pub mod GraphRows

@@ -4,10 +4,10 @@ use Rattle.std.specs.Prelude.{unwrap_or}
 use Rattle.std.specs.List.{flat_map, position}
 use Rattle.std.proofs.lemmas.List.{length-map}
 use Rattle.std.proofs.lemmas.List.Concat.{flat_map-append}
-use Rattle.unique_rows.specs.UniqueRows.{with_all_new, with_all_new_within}
+use Rattle.kat_model.specs.UniqueRows.{with_all_new, with_all_new_within}
 use Rattle.flow_problem.specs.EdgeTerms.{row_number}
-use Rattle.unique_rows.proofs.MappedRows.{position-map}
-use Rattle.unique_rows.proofs.CappedTables.{with_all_new_within-append, first_rows, too_many_rows}
+use Rattle.kat_model.proofs.MappedRows.{position-map}
+use Rattle.kat_model.proofs.CappedTables.{with_all_new_within-append, first_rows, too_many_rows}
 
 module _ {Y : Type 0} (same : Y → Y → Bool) (n : ℕ) where
   pub first_then : (old mid new xs ys : List Y) → mid ≡ with_all_new_within n same old xs → new ≡ with_all_new_within n same mid ys → new ≡ with_all_new_within n same old (xs ++ ys)

@@ -7,8 +7,8 @@ use Rattle.flow_forms.specs.Comparisons.{FlowComparisonTree}
 use Rattle.flow_problem.specs.Edges.{FlowActionTree, Edge}
 use Rattle.flow_problem.specs.EdgeTerms.{edge_term, comes_to, is_end}
 use Rattle.flow_terms.specs.Rows.{TermRow}
-use Rattle.flow_edges.specs.declared.edge.FlowEdge.{FlowEdge}
-use Rattle.flow_edges.specs.EdgeViews.{flow_edge}
+use Rattle.flow_tables.specs.declared.edge.FlowEdge.{FlowEdge}
+use Rattle.flow_tables.specs.EdgeViews.{flow_edge}
 
 -- the edges from one place
 abbrev pub row_edges : Vec FlowEdge Global → List Edge

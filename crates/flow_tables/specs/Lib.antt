@@ -1,1 +1,3 @@
+pub mod EdgeViews
+pub mod EdgeTables
 pub mod GraphRows

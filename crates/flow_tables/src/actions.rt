@@ -2,16 +2,17 @@
 ghost use Rattle.std.specs.Prelude.{◌≡◌, ◌<◌, ◌≤◌, [], ◌++◌, map, length, vec_len, IfOk, IfErr, OnOk};
 ghost use Rattle.std.specs.List.{flat_map};
 ghost use Rattle.kat_model.specs.declared.limits.TheConstants.{MAX_ACTIONS};
-ghost use Rattle.unique_rows.specs.UniqueRows.{with_new_within, with_all_new, with_all_new_within};
+ghost use Rattle.kat_model.specs.UniqueRows.{with_new_within, with_all_new, with_all_new_within};
 ghost use Rattle.flow_problem.specs.Edges.{is_same_action};
 ghost use Rattle.flow_problem.specs.EdgeTerms.{edge_actions};
-ghost use Rattle.flow_edges.specs.EdgeViews.{flow_action};
+ghost use Rattle.flow_tables.specs.EdgeViews.{flow_action};
 ghost use Rattle.flow_tables.specs.GraphRows.{row_edges};
 
+use crate::action::{FlowAction, is_idle};
+use crate::edge::FlowEdge;
 use crate::edge_table::{EdgeTable, add_graphs};
 use crate::fault::TableFault;
 use crate::rows::is_left_out;
-use flow_edges::{FlowAction, FlowEdge, is_idle};
 use kat_model::{MAX_ACTIONS, NoMemory};
 use std::alloc::Global;
 
@@ -35,7 +36,7 @@ impl EdgeTable for Vec<FlowAction> {
     ghost use Rattle.kat_model.specs.declared.limits.TheConstants.{MAX_ACTIONS};
     ghost use Rattle.flow_problem.specs.Edges.{FlowActionTree, is_same_action};
     ghost use Rattle.flow_problem.specs.EdgeTerms.{edge_actions};
-    ghost use Rattle.flow_edges.specs.EdgeViews.{flow_action};
+    ghost use Rattle.flow_tables.specs.EdgeViews.{flow_action};
 
     ghost Row = { FlowActionTree };
 

@@ -4,14 +4,14 @@ ghost use Rattle.std.specs.List.{flat_map};
 ghost use Rattle.kat_model.specs.declared.limits.TheConstants.{MAX_TESTS};
 ghost use Rattle.flow_forms.specs.Comparisons.{comparison_tree, is_same_comparison};
 ghost use Rattle.flow_ways.specs.CondTrees.{cond_tree};
-ghost use Rattle.unique_rows.specs.UniqueRows.{with_new_within, with_all_new, with_all_new_within};
+ghost use Rattle.kat_model.specs.UniqueRows.{with_new_within, with_all_new, with_all_new_within};
 ghost use Rattle.flow_problem.specs.EdgeTerms.{comparisons_of, edge_comparisons};
 ghost use Rattle.flow_tables.specs.GraphRows.{row_edges};
 
+use crate::edge::FlowEdge;
 use crate::edge_table::{EdgeTable, add_graphs};
 use crate::fault::TableFault;
 use crate::rows::is_left_out;
-use flow_edges::FlowEdge;
 use flow_forms::FlowComparison;
 use flow_ways::FlowCond;
 use kat_model::{MAX_TESTS, NoMemory};

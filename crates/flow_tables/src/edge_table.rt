@@ -1,11 +1,11 @@
 //! Tables of what edges have, to which the edges of two graphs are added in turn.
 ghost use Rattle.std.specs.Prelude.{◌≡◌, ◌++◌, map, OnOk};
 ghost use Rattle.std.specs.List.{flat_map};
-ghost use Rattle.unique_rows.specs.UniqueRows.{with_all_new_within};
-ghost use Rattle.flow_edges.specs.EdgeViews.{flow_edge};
+ghost use Rattle.kat_model.specs.UniqueRows.{with_all_new_within};
+ghost use Rattle.flow_tables.specs.EdgeViews.{flow_edge};
 ghost use Rattle.flow_tables.specs.GraphRows.{row_edges};
 
-use flow_edges::FlowEdge;
+use crate::edge::FlowEdge;
 use kat_model::NoMemory;
 use std::alloc::Global;
 

@@ -2,7 +2,7 @@
 ghost use Rattle.std.specs.Prelude.{◌≡◌, ◌||◌, nat_lt, length};
 ghost use Rattle.std.specs.List.{list_any};
 
-use unique_rows::{TableRow, has_row};
+use kat_model::{TableRow, has_row};
 
 /// Returns whether a row is left out: the table has it already or has more than `most` rows.
 pub(crate) fn is_left_out<T: TableRow>(rows: &[T], most: usize, row: &T) -> bool

@@ -5,14 +5,14 @@ ghost use Rattle.flow_forms.specs.Comparisons.{comparison_tree, is_same_comparis
 ghost use Rattle.flow_ways.specs.CondTrees.{cond_tree};
 ghost use Rattle.flow_problem.specs.Edges.{is_same_action};
 ghost use Rattle.flow_problem.specs.EdgeTerms.{row_number, test_of_cond as test_for, action_terms, edge_term as term_of};
-ghost use Rattle.flow_edges.specs.EdgeViews.{flow_action, flow_edge};
+ghost use Rattle.flow_tables.specs.EdgeViews.{flow_action, flow_edge};
 
-use flow_edges::{FlowAction, FlowEdge, is_idle};
+use crate::action::{FlowAction, is_idle};
+use crate::edge::FlowEdge;
 use flow_forms::FlowComparison;
 use flow_ways::FlowCond;
-use kat_model::{Kat, NoMemory, Test, seq_of};
+use kat_model::{Kat, NoMemory, Test, place_of, seq_of};
 use std::alloc::Global;
-use unique_rows::place_of;
 
 // The number of a comparison among the tests.
 fn test_number(tests: &[FlowComparison], comparison: &FlowComparison) -> usize

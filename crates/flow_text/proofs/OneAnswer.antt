@@ -7,11 +7,11 @@ use Rattle.text_tokens.specs.Lex.{Lexes, IsFault}
 use Rattle.text_tokens.proofs.Readings.{one_lexing}
 use Rattle.text_grammar.specs.Parsed.{Makes}
 use Rattle.text_grammar.specs.Lexemes.{Lexeme}
-use Rattle.text_reader.specs.declared.rule.Step.{Step}
-use Rattle.text_reader.specs.Derivations.{Derives, IsFirstFault, IsReaderFault}
-use Rattle.text_reader.specs.Values.{values}
-use Rattle.text_reader.proofs.Leading as leading
-use Rattle.text_reader.proofs.Ending.{some_end}
+use Rattle.flow_syntax.specs.declared.rule.Step.{Step}
+use Rattle.flow_syntax.specs.Derivations.{Derives, IsFirstFault, IsReaderFault}
+use Rattle.flow_syntax.specs.Values.{values}
+use Rattle.flow_syntax.proofs.Leading as leading
+use Rattle.flow_syntax.proofs.Ending.{some_end}
 use Rattle.problem_file.specs.FirstFaults as base
 use Rattle.problem_file.specs.Laws.{HaveOneAnswer}
 use Rattle.problem_file.proofs.TextAnswers.{Tells, one_answer}

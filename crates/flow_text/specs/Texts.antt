@@ -4,7 +4,7 @@ use Rattle.text_tokens.specs.declared.fault.TextFault.{TextFault}
 use Rattle.text_tokens.specs.declared.fault.TextFault.TheVariants.{NoMemory, BadToken}
 use Rattle.text_tokens.specs.TokenParts.{TokenParts}
 use Rattle.text_tokens.specs.Lex.{Lexes, FirstBad}
-use Rattle.text_reader.specs.Derivations.{IsFirstFault}
+use Rattle.flow_syntax.specs.Derivations.{IsFirstFault}
 use Rattle.problem_file.specs.FirstFaults.{IsNoText}
 use Rattle.flow_syntax.specs.declared.phrase.TheConstants.{FILE}
 use Rattle.flow_text.specs.declared.reading.FlowFile.{FlowFile}

@@ -9,14 +9,13 @@ ghost use Rattle.flow_syntax.specs.Syntax as spelled;
 ghost use Rattle.flow_text.specs.ScopeViews.{sight_parts};
 ghost use Rattle.flow_syntax.specs.SyntaxViews.{tokens_syntax, exprs_syntax, cond_syntax, statement_syntax, statements_syntax};
 
-use crate::lists::append;
 use crate::meaning::Meaning;
 use crate::resolve_cond::resolve_cond;
 use crate::resolve_expr::resolve_expr;
 use crate::sight::{Sight, sort_at};
 use flow_model::{ExprNode, Sort};
 use flow_syntax::{CondNode, Node, Statement};
-use kat_model::NoMemory;
+use kat_model::{NoMemory, append};
 use std::alloc::Global;
 use text_tokens::{TextFault, Token};
 

@@ -12,12 +12,11 @@ ghost use Rattle.flow_syntax.specs.SyntaxViews.{exprs_syntax, cond_syntax, jump_
 
 use crate::check::{check_statements, resolve_all};
 use crate::limits::MAX_BLOCKS;
-use crate::lists::append;
 use crate::resolve_cond::resolve_cond;
 use crate::sight::Sight;
 use flow_model::{Jump as CheckedJump, Sort};
 use flow_syntax::{Block, CondNode, Jump, Node};
-use kat_model::NoMemory;
+use kat_model::{NoMemory, append};
 use std::alloc::Global;
 use std::collections::BTreeMap;
 use text_tokens::{TextFault, Token};

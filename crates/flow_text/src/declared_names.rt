@@ -4,9 +4,8 @@ ghost use Rattle.text_tokens.specs.TokenParts.{bytes_of};
 ghost use Rattle.flow_syntax.specs.SyntaxViews.{tokens_syntax, item_syntax, items_syntax};
 ghost use Rattle.flow_text.specs.DeclaredNames.{variables_in, functions_in, variable_names, function_names};
 
-use crate::lists::append;
 use flow_syntax::Item;
-use kat_model::NoMemory;
+use kat_model::{NoMemory, append};
 use std::alloc::Global;
 use text_tokens::Token;
 

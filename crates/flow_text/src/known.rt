@@ -11,13 +11,12 @@ ghost use Rattle.flow_syntax.specs.SyntaxViews.{tokens_syntax, blocks_syntax, it
 
 use crate::check_blocks::check_graph;
 use crate::limits::MAX_PARAMETERS;
-use crate::lists::append;
 use crate::meaning::Meaning;
 use crate::scope::Scope;
 use crate::sight::{sight_of_all, width_named};
 use flow_model::Sort;
 use flow_syntax::{Block, Item, nodes_with, spelled_number};
-use kat_model::MAX_ROUNDS;
+use kat_model::{MAX_ROUNDS, append};
 use std::alloc::Global;
 use text_tokens::{TextFault, Token};
 

@@ -7,7 +7,6 @@ mod declared_names;
 mod known;
 mod laws;
 mod limits;
-mod lists;
 mod meaning;
 mod names;
 mod reading;

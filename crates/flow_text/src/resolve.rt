@@ -8,13 +8,12 @@ ghost use Rattle.flow_text.specs.ScopeViews.{function_of, sight_parts};
 ghost use Rattle.flow_syntax.specs.SyntaxViews.{node_syntax, expr_syntax};
 ghost use Rattle.flow_text.specs.Working.Wanting.{wanted_syntax, wanted_stack, Gives};
 
-use crate::lists::append;
 use crate::meaning::Meaning;
 use crate::scope::Function;
 use crate::sight::{Sight, function_at, sort_at, sort_or_u64, width_named};
 use flow_model::{ExprNode, Sort};
 use flow_syntax::{Node, spelled_number};
-use kat_model::{NoMemory, Width};
+use kat_model::{NoMemory, Width, append};
 use std::alloc::Global;
 use text_tokens::{TextFault, Token};
 

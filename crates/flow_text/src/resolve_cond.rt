@@ -7,12 +7,11 @@ ghost use Rattle.flow_text.specs.Resolving.{rel_named, sort_of_sides, signed_rel
 ghost use Rattle.flow_text.specs.ScopeViews.{sight_parts};
 ghost use Rattle.flow_syntax.specs.SyntaxViews.{cond_node_syntax, cond_syntax, expr_syntax};
 
-use crate::lists::append;
 use crate::resolve_expr::resolve_expr;
 use crate::sight::Sight;
 use flow_model::Sort;
 use flow_syntax::{CondNode, Node};
-use kat_model::{Rel, Width};
+use kat_model::{Rel, Width, append};
 use std::alloc::Global;
 use text_tokens::{TextFault, Token};
 

@@ -9,12 +9,11 @@ ghost use Rattle.flow_text.specs.ResultViews.{result_sorts};
 ghost use Rattle.flow_syntax.specs.SyntaxViews.{exprs_syntax, jump_syntax, block_syntax, blocks_syntax};
 
 use crate::known::WrittenGraph;
-use crate::lists::append;
 use crate::scope::Scope;
 use crate::sight::{Sight, sort_or_u64};
 use flow_model::Sort;
 use flow_syntax::{Block, Jump, Node, first_name};
-use kat_model::NoMemory;
+use kat_model::{NoMemory, append};
 use std::alloc::Global;
 
 /// The sorts of results, as far as they are known: `None` before the first `return`.

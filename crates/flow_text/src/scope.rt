@@ -7,11 +7,10 @@ ghost use Rattle.flow_syntax.specs.SyntaxViews.{tokens_syntax};
 ghost use Rattle.flow_text.specs.ScopeViews.{scope_parts};
 
 use crate::limits::{MAX_FUNCTIONS, MAX_SORTS, MAX_VARIABLES};
-use crate::lists::append;
 use crate::meaning::Meaning;
 use crate::names::Names;
 use flow_model::Sort;
-use kat_model::NoMemory;
+use kat_model::{NoMemory, append};
 use std::alloc::Global;
 use text_tokens::{TextFault, Token};
 

@@ -7,7 +7,7 @@ use Rattle.text_tokens.specs.Pieces.{Piece, symbol, gap, spelled}
 use Rattle.text_scopes.specs.declared.meaning.Meaning.{Meaning}
 use Rattle.text_print.specs.Printing.{cond_of, cond_text, in_round}
 use Rattle.text_print.proofs.PieceTexts.{cond_spells, test_spells}
-use Rattle.gkat_terms.specs.Expressions.{GkatTree, test, act, product, choice, loop}
+use Rattle.gkat_front.specs.Expressions.{GkatTree, test, act, product, choice, loop}
 use Rattle.gkat_front.specs.Printing.{is_loop, guard_text, gkat_text, guard_pieces, gkat_pieces}
 
 -- the pieces spell the text, whatever pieces follow

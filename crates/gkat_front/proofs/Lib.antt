@@ -1,3 +1,6 @@
+pub mod GuardedForms
+pub mod PairBounds
+pub mod GuardedExpressions
 pub mod GkatSteps
 pub mod GkatSoundness
 pub mod GkatCompleteness

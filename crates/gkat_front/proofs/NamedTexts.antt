@@ -20,7 +20,7 @@ use Rattle.text_scopes.specs.Building.{cond_trees}
 use Rattle.text_scopes.specs.Measuring.{cond_extents}
 use Rattle.while_lang.specs.Blocks.{enter}
 use Rattle.problem_file.specs.Items.{declaration_by}
-use Rattle.gkat_terms.specs.Expressions.{GkatTree, gkat_size}
+use Rattle.gkat_front.specs.Expressions.{GkatTree, gkat_size}
 use Rattle.gkat_front.specs.GkatActions.{GkatActions}
 use Rattle.gkat_front.specs.GkatWalks.{GkatAim, whole, factors_after, GkatParser, guard_by, round_by, unit_by, loop_by, factor_by, product_by, choice_by, gkat_by, gkat_within, parse_gkat}
 use Rattle.gkat_front.specs.GkatScans.{scanning_expr}

@@ -32,7 +32,7 @@ use Rattle.text_print.proofs.PrintedConds.{IsCondOf, cond_back}
 use Rattle.text_print.proofs.PrintedTerms.{test_of_cond, no_comparison}
 use Rattle.while_lang.specs.Blocks.{enter}
 use Rattle.while_lang.proofs.ScannedBlocks.{enters}
-use Rattle.gkat_terms.specs.Expressions.{GkatTree, test, act, product, choice, loop}
+use Rattle.gkat_front.specs.Expressions.{GkatTree, test, act, product, choice, loop}
 use Rattle.gkat_front.specs.GkatMaking.{named_by, making_expr}
 use Rattle.gkat_front.specs.GkatPhrases.{Guard, GkatSymbol, factor, unit, GkatPhrase, one_product, two_products, one_factor, more_factors, once, repeated, zero_unit, one_unit, name_unit, guard_unit, round_unit, guard_onto, gkat_onto, GuardObeys, GkatObeys, GuardFits, GkatFits}
 use Rattle.gkat_front.specs.GkatFolds.{fold_guard, fold_gkat, cond_fold}

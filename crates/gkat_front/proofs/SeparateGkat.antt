@@ -8,7 +8,7 @@ use Rattle.text_scopes.specs.declared.meaning.Meaning.TheVariants.{Test, Action}
 use Rattle.text_scopes.specs.ScopeParts.{ScopeParts}
 use Rattle.text_print.specs.Printing.{cond_of}
 use Rattle.text_print.proofs.Separate.{EndsWords, Separate, blank_ends, round_ends, open_alone, close_alone, product_separate, rounded_separate, word_separate, bracket_separate}
-use Rattle.gkat_terms.specs.Expressions.{GkatTree, test, act, product, choice, loop}
+use Rattle.gkat_front.specs.Expressions.{GkatTree, test, act, product, choice, loop}
 use Rattle.gkat_front.specs.Printing.{is_loop, guard_pieces, gkat_pieces, GkatIsNamed}
 
 caret_ends : (ps : List Piece) → EndsWords (symbol (codes "^") ∷ ps)

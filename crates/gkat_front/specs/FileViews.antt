@@ -1,5 +1,5 @@
 -- The contents of a file of the program.
-use Rattle.gkat_terms.specs.Expressions.{gkat_tree}
+use Rattle.gkat_front.specs.Expressions.{gkat_tree}
 use Rattle.gkat_front.specs.Files.{GkatFileParts}
 use Rattle.gkat_front.specs.declared.file.GkatFile.{GkatFile}
 

@@ -7,7 +7,7 @@ use Rattle.text_tokens.specs.declared.fault.TextFault.TheVariants.{DoubleName, T
 use Rattle.text_grammar.specs.Parsed.{◌>>=◌}
 use Rattle.text_scopes.specs.declared.meaning.Meaning.TheVariants.{Test, Action}
 use Rattle.text_scopes.specs.ScopeParts.{ScopeParts, meaning, empty_scope, declared}
-use Rattle.gkat_terms.specs.Expressions.{GkatTree, gkat_size}
+use Rattle.gkat_front.specs.Expressions.{GkatTree, gkat_size}
 
 -- the contents of a text: its names, the numbers of tests and actions that it declares, and two expressions
 pub record GkatFileParts : Type 0 where

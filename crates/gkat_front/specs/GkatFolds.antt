@@ -11,7 +11,7 @@ use Rattle.text_scopes.specs.ScopeParts.{ScopeParts}
 use Rattle.text_scopes.specs.Measuring.{extents}
 use Rattle.text_scopes.specs.Building.{trees}
 use Rattle.while_lang.specs.Blocks.{enter}
-use Rattle.gkat_terms.specs.Expressions.{GkatTree}
+use Rattle.gkat_front.specs.Expressions.{GkatTree}
 use Rattle.gkat_front.specs.GkatActions.{GkatActions}
 use Rattle.gkat_front.specs.GkatMaking.{making_expr}
 use Rattle.gkat_front.specs.GkatPhrases.{Guard, GkatSymbol, expr, factors, GkatPhrase, one_product, two_products, one_factor, more_factors, once, repeated, zero_unit, one_unit, name_unit, guard_unit, round_unit}

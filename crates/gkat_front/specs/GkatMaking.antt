@@ -16,7 +16,7 @@ use Rattle.text_scopes.specs.declared.meaning.Meaning.TheVariants.{Test, Action}
 use Rattle.text_scopes.specs.ScopeParts.{ScopeParts, meaning}
 use Rattle.text_scopes.specs.Measuring.{cond_extents}
 use Rattle.text_scopes.specs.Building.{cond_trees}
-use Rattle.gkat_terms.specs.Expressions.{GkatTree, test, act, choice, loop, gkat_product}
+use Rattle.gkat_front.specs.Expressions.{GkatTree, test, act, choice, loop, gkat_product}
 use Rattle.gkat_front.specs.GkatActions.{GkatActions}
 
 -- the condition at the start as a test, measured before it is built, or the first fault of its names

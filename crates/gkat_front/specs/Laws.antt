@@ -7,7 +7,7 @@ use Rattle.text_tokens.specs.Pieces.{Piece, spelled as bytes_of, parts_from}
 use Rattle.text_grammar.specs.Lexemes.{Lexeme, lexeme_of}
 use Rattle.text_scopes.specs.declared.meaning.Meaning.{Meaning}
 use Rattle.text_scopes.specs.ScopeParts.{ScopeParts}
-use Rattle.gkat_terms.specs.Expressions.{GkatTree}
+use Rattle.gkat_front.specs.Expressions.{GkatTree}
 use Rattle.gkat_front.specs.GkatPhrases.{expr, IsGkatPhrase}
 use Rattle.gkat_front.specs.GkatFolds.{gkat_of}
 use Rattle.gkat_front.specs.Files.{start}

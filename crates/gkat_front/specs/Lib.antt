@@ -1,3 +1,5 @@
+pub mod Expressions
+pub mod Working
 pub mod GkatActions
 pub mod GkatWalks
 pub mod GkatScans
@@ -14,4 +16,3 @@ pub mod FileFolds
 pub mod Reads
 pub mod Printing
 pub mod Laws
-pub mod Working

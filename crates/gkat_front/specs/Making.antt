@@ -3,7 +3,7 @@ use Rattle.std.specs.Prelude.{List, Result, Ok}
 use Rattle.text_tokens.specs.declared.fault.TextFault.{TextFault}
 use Rattle.text_grammar.specs.Lexemes.{Lexeme}
 use Rattle.text_grammar.specs.Parsed.{◌>>=◌}
-use Rattle.gkat_terms.specs.Expressions.{GkatTree}
+use Rattle.gkat_front.specs.Expressions.{GkatTree}
 use Rattle.gkat_front.specs.GkatWalks.{whole, parse_gkat}
 use Rattle.gkat_front.specs.GkatScans.{scanning_expr}
 use Rattle.gkat_front.specs.GkatMaking.{making_expr}

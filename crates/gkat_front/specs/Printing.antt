@@ -6,7 +6,7 @@ use Rattle.text_scopes.specs.declared.meaning.Meaning.{Meaning}
 use Rattle.text_scopes.specs.declared.meaning.Meaning.TheVariants.{Action}
 use Rattle.text_scopes.specs.ScopeParts.{ScopeParts, IsNameOf}
 use Rattle.text_print.specs.Printing.{cond_of, cond_text, test_text, cond_pieces, test_pieces, in_round, CondIsNamed, cond_nesting, test_nesting}
-use Rattle.gkat_terms.specs.Expressions.{GkatTree, test, act, product, choice, loop}
+use Rattle.gkat_front.specs.Expressions.{GkatTree, test, act, product, choice, loop}
 
 -- whether the expression is a loop
 abbrev pub is_loop : GkatTree → Bool

@@ -1,5 +1,5 @@
 //! The contents of a text of GKAT.
-use gkat_terms::Gkat;
+use crate::gkat::Gkat;
 use text_scopes::Scope;
 
 /// The contents of a text of GKAT: its names, the numbers of tests and actions that it declares, and the two

@@ -2,6 +2,8 @@
 ghost use Rattle.problem_file.specs.Laws.{HaveOneAnswer};
 ghost use Rattle.gkat_front.specs.Reads.{Reads, FirstFault};
 ghost use Rattle.gkat_front.specs.Laws.{TextsAreScanned, TextsAreMade, PrintedReadsBack};
+ghost use Rattle.kat_model.specs.Guarded.{IsGuarded};
+ghost use Rattle.gkat_front.specs.Expressions.{GkatTree, kat_of};
 
 /// The syntax test accepts exactly the items of the grammar in which nothing is too deep or too wide.
 pub fn texts_are_scanned()
@@ -22,4 +24,9 @@ pub fn have_one_answer()
 /// the limits.
 pub fn printed_expressions_read_back()
     ensures { PrintedReadsBack }
+{}
+
+/// The term of an expression is guarded, so the bound on pairs for guarded terms applies to expressions.
+pub fn expressions_are_guarded()
+    ensures { (e : GkatTree) → IsGuarded (kat_of e) }
 {}

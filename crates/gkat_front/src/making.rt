@@ -2,11 +2,12 @@
 ghost use Rattle.std.specs.Prelude.{◌≡◌};
 ghost use Rattle.text_grammar.specs.Parsed.{Makes};
 ghost use Rattle.kat_model.specs.Trees.{test_tree};
-ghost use Rattle.gkat_terms.specs.Expressions.{gkat_tree};
+ghost use Rattle.gkat_front.specs.Expressions.{gkat_tree};
 ghost use Rattle.gkat_front.specs.GkatMaking.{named_by, making_expr};
 
+use crate::gkat::Gkat;
 use crate::gkat_reading::GkatReading;
-use gkat_terms::{Gkat, gkat_product};
+use crate::products::gkat_product;
 use kat_model::{Test, test_without_comparisons};
 use std::alloc::Global;
 use text_scopes::{Meaning, Scope, build_cond, measure_cond};
@@ -39,7 +40,7 @@ impl GkatReading for MakeExpr<'_> {
 
     ghost use Rattle.std.specs.Prelude.{List, map};
     ghost use Rattle.kat_model.specs.Trees.{TestTree};
-    ghost use Rattle.gkat_terms.specs.Expressions.{GkatTree};
+    ghost use Rattle.gkat_front.specs.Expressions.{GkatTree};
 
     ghost C = { TestTree };
 

@@ -3,10 +3,10 @@ ghost use Rattle.std.specs.Prelude.{◌≡◌, [], ◌++◌, codes, OnOk, IfOk};
 ghost use Rattle.kat_model.specs.Trees.{test_tree};
 ghost use Rattle.text_tokens.specs.Pieces.{spelled};
 ghost use Rattle.text_print.specs.Printing.{name_of};
-ghost use Rattle.gkat_terms.specs.Expressions.{test, gkat_tree};
+ghost use Rattle.gkat_front.specs.Expressions.{test, gkat_tree};
 ghost use Rattle.gkat_front.specs.Printing.{is_loop, guard_text, gkat_text, gkat_pieces};
 
-use gkat_terms::Gkat;
+use crate::gkat::Gkat;
 use kat_model::{NoMemory, Test};
 use std::alloc::Global;
 use text_print::{put_name, put_test};

@@ -2,10 +2,10 @@
 ghost use Rattle.problem_file.specs.Working.Numbers.{AreNumbered};
 
 use crate::file::GkatFile;
+use crate::gkat::Gkat;
 use crate::item_reading::{GkatDeclared, GkatItemReading};
 use crate::making::MakeExpr;
 use crate::walk::read_expr;
-use gkat_terms::Gkat;
 use kat_model::{MAX_ACTIONS, MAX_TERM_NODES, MAX_TESTS};
 use std::alloc::Global;
 use text_scopes::{Meaning, Scope};
@@ -120,7 +120,7 @@ impl GkatReader {
 impl GkatItemReading for GkatReader {
     type Expr = Gkat;
 
-    ghost use Rattle.gkat_terms.specs.Expressions.{GkatTree, gkat_tree};
+    ghost use Rattle.gkat_front.specs.Expressions.{GkatTree, gkat_tree};
     ghost use Rattle.gkat_front.specs.Files.{GkatState};
     ghost use Rattle.gkat_front.specs.Making.{making};
     ghost use Rattle.gkat_front.specs.Working.States.{state_of};

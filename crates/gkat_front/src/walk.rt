@@ -2,22 +2,14 @@
 ghost use Rattle.std.specs.Prelude.{◌≡◌, length, drop};
 ghost use Rattle.text_grammar.specs.Lexemes.{lexemes};
 ghost use Rattle.text_grammar.specs.Parsed.{Reads, Goes};
-ghost use Rattle.text_grammar.specs.Working.Ends.{with_end};
 ghost use Rattle.gkat_front.specs.GkatWalks.{guard_by, tested_by, round_by, unit_by, factor_by, product_by, whole, parse_gkat};
 
 use crate::gkat_reading::GkatReading;
 use text_grammar::{
-    Separator, Terminal, expect, is_at, place_at, syntax_fault_at, terminal_at, text_at,
+    Separator, Terminal, expect, is_at, place_at, syntax_fault_at, terminal_at, text_at, with_end,
 };
 use text_tokens::{TextFault, Token};
 use while_lang::enter;
-
-// Returns what an action made, with the index after its phrase.
-fn with_end<T: Drop>(made: Result<T, TextFault>, end: usize) -> Result<(T, usize), TextFault>
-    ensures { result ≡ with_end end made }
-{
-    Ok((made?, end))
-}
 
 // Reads a condition in brackets.
 fn guard<R: GkatReading>(

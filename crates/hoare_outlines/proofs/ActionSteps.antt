@@ -7,8 +7,8 @@ use Rattle.kat_model.specs.Steps.{Atom}
 use Rattle.kat_model.specs.Trees.{act}
 use Rattle.kat_model.proofs.Options.{same_bool}
 use Rattle.while_lang.specs.Flows.{act as act_stmt}
-use Rattle.outline_diagrams.specs.StepFunctions.{StepDiagramsParts, step_value, IsStepDiagram, KeepsSteps, IsImage}
-use Rattle.outline_diagrams.proofs.StepSets.{KeepsSteps-trans, IsStepDiagram-kept}
+use Rattle.outline_rules.specs.StepFunctions.{StepDiagramsParts, step_value, IsStepDiagram, KeepsSteps, IsImage}
+use Rattle.outline_rules.proofs.StepSets.{KeepsSteps-trans, IsStepDiagram-kept}
 use Rattle.hypothesis_kinds.specs.TestTerms.{AreSimple, IsRuledOut}
 use Rattle.hypothesis_kinds.specs.HypothesisForms.{allows, some_rules_out}
 use Rattle.hypothesis_kinds.proofs.SimpleForms.{allows_told, allowed_allows, ruled_out_told, told_ruled_out}

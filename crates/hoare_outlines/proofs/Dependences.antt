@@ -3,10 +3,10 @@ use Rattle.std.proofs.Common.{◌≡◌, ℕ, zero, suc, ◌+◌, ◌≤◌, [],
 use Rattle.std.proofs.Math.ListN.{set}
 use Rattle.std.proofs.lemmas.List.{set-get_or}
 use Rattle.kat_model.specs.Steps.{Atom}
-use Rattle.outline_diagrams.specs.declared.moments.Moment.TheVariants.{Before}
-use Rattle.outline_diagrams.specs.Interleaved.{with_value}
-use Rattle.outline_diagrams.specs.StepFunctions.{StepDiagramsParts, step_value, IsStepId, IsStepDiagram, KeepsSteps}
-use Rattle.outline_diagrams.proofs.StepSets.{IsStepId-kept, step_value-kept, IsStepDiagram-same, IsStepDiagram-kept}
+use Rattle.outline_rules.specs.declared.moments.Moment.TheVariants.{Before}
+use Rattle.outline_rules.specs.Interleaved.{with_value}
+use Rattle.outline_rules.specs.StepFunctions.{StepDiagramsParts, step_value, IsStepId, IsStepDiagram, KeepsSteps}
+use Rattle.outline_rules.proofs.StepSets.{IsStepId-kept, step_value-kept, IsStepDiagram-same, IsStepDiagram-kept}
 use Rattle.hoare_outlines.specs.Working.AtomSets.{AtomSet, IsSetId}
 use Rattle.hoare_outlines.specs.Working.Noted.{DependsFrom, IsSetFrom}
 

@@ -4,7 +4,7 @@ use Rattle.std.proofs.lemmas.Bool.{false≢true, and_parts, and_from, or_cases, 
 use Rattle.kat_model.specs.Trees.{TestTree, complement}
 use Rattle.kat_model.specs.Problems.{ProblemParts}
 use Rattle.kat_model.specs.Steps.{truth}
-use Rattle.outline_diagrams.specs.StepFunctions.{StepDiagramsParts, KeepsSteps}
+use Rattle.outline_rules.specs.StepFunctions.{StepDiagramsParts, KeepsSteps}
 use Rattle.while_lang.specs.Flows.{FlowTree, FlowStmt, empty, skip, abort, assert, act as act_stmt, branch, loop, with_stmt}
 use Rattle.while_lang.specs.Encoding.{stmt_terms}
 use Rattle.hoare_outlines.specs.Working.AtomSets.{AtomSet, IsSetId, IsAllowedSet}

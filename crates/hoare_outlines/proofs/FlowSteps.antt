@@ -8,8 +8,8 @@ use Rattle.while_lang.specs.FlowFalls.{flows_fall}
 use Rattle.while_lang.specs.declared.flow.Flows.TheDeep.{deep-Flow}
 use Rattle.while_lang.specs.FlowViews.{flow_stmt, flows_tree}
 use Rattle.while_lang.specs.declared.flow.Flow.{Flow}
-use Rattle.outline_diagrams.specs.StepFunctions.{KeepsSteps}
-use Rattle.outline_diagrams.proofs.StepSets.{KeepsSteps-itself, KeepsSteps-trans}
+use Rattle.outline_rules.specs.StepFunctions.{KeepsSteps}
+use Rattle.outline_rules.proofs.StepSets.{KeepsSteps-itself, KeepsSteps-trans}
 use Rattle.hoare_outlines.specs.declared.finding.Finder.{Finder}
 use Rattle.hoare_outlines.specs.Working.AtomSets.{AtomSet, IsSetId, IsAllowedSet}
 use Rattle.hoare_outlines.specs.Working.Reached.{IsFlowInRange, IsStmtInRange}

@@ -7,7 +7,7 @@ use Rattle.kat_model.specs.Problems.{ProblemParts}
 use Rattle.while_lang.specs.Flows.{FlowTree, branch, loop}
 use Rattle.while_lang.specs.FlowViews.{flow_stmt, flows_tree}
 use Rattle.while_lang.specs.declared.flow.Flow.{Flow}
-use Rattle.outline_diagrams.specs.StepFunctions.{StepDiagramsParts, KeepsSteps}
+use Rattle.outline_rules.specs.StepFunctions.{StepDiagramsParts, KeepsSteps}
 use Rattle.hoare_outlines.specs.declared.finding.FoundLoop.{FoundLoop}
 use Rattle.hoare_outlines.specs.declared.finding.Finder.{Finder}
 use Rattle.hoare_outlines.specs.Working.Found.{HasAllowedSet}

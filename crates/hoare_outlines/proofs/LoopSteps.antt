@@ -6,8 +6,8 @@ use Rattle.kat_model.specs.Problems.{ProblemParts}
 use Rattle.kat_model.specs.Steps.{Atom, truth}
 use Rattle.while_lang.specs.Flows.{FlowTree, loop}
 use Rattle.while_lang.specs.Encoding.{encoded}
-use Rattle.outline_diagrams.specs.StepFunctions.{StepDiagramsParts, step_value, IsStepId, IsStepDiagram, KeepsSteps, Entails}
-use Rattle.outline_diagrams.proofs.StepSets.{step_value-kept}
+use Rattle.outline_rules.specs.StepFunctions.{StepDiagramsParts, step_value, IsStepId, IsStepDiagram, KeepsSteps, Entails}
+use Rattle.outline_rules.proofs.StepSets.{step_value-kept}
 use Rattle.hoare_outlines.specs.declared.finding.FoundLoop.{FoundLoop}
 use Rattle.hoare_outlines.specs.Working.AtomSets.{AtomSet, IsSetId, IsAllowedSet}
 use Rattle.hoare_outlines.specs.Working.Found.{StmtFound, FlowFound}

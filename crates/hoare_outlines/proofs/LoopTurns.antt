@@ -4,8 +4,8 @@ use Rattle.kat_model.specs.Trees.{TestTree}
 use Rattle.kat_model.specs.Problems.{ProblemParts}
 use Rattle.kat_model.specs.Steps.{truth}
 use Rattle.while_lang.specs.Flows.{FlowTree, FlowStmt}
-use Rattle.outline_diagrams.specs.StepFunctions.{StepDiagramsParts, step_value, IsStepDiagram, KeepsSteps, Entails}
-use Rattle.outline_diagrams.proofs.StepSets.{KeepsSteps-trans}
+use Rattle.outline_rules.specs.StepFunctions.{StepDiagramsParts, step_value, IsStepDiagram, KeepsSteps, Entails}
+use Rattle.outline_rules.proofs.StepSets.{KeepsSteps-trans}
 use Rattle.hoare_outlines.specs.declared.finding.Finder.{Finder}
 use Rattle.hoare_outlines.specs.Working.Found.{StmtFound, HasAllowedSet, FindsStmt, FindsFlow}
 use Rattle.hoare_outlines.specs.Working.FoundLoops.{turn_term, GrowsFrom}

@@ -8,11 +8,11 @@ use Rattle.kat_model.specs.Steps.{Atom}
 use Rattle.kat_model.proofs.Lists.{has_append}
 use Rattle.kat_model.proofs.Places.{slice_get_last}
 use Rattle.kat_model.proofs.ValuesInOrder.{course_of_values-append, course_of_values-at}
-use Rattle.outline_diagrams.specs.StepFunctions.{StepDiagramsParts, KeepsSteps}
-use Rattle.outline_diagrams.proofs.StepSets.{IsStepId-kept, step_value-kept}
-use Rattle.outline_notes.specs.declared.notes.NoteNode.{NoteNode}
-use Rattle.outline_notes.specs.declared.notes.NoteNode.TheVariants.{False, True, Branch}
-use Rattle.outline_notes.specs.NoteLists.{node_parts, node_holds, holds_at}
+use Rattle.outline_rules.specs.StepFunctions.{StepDiagramsParts, KeepsSteps}
+use Rattle.outline_rules.proofs.StepSets.{IsStepId-kept, step_value-kept}
+use Rattle.outline_rules.specs.declared.notes.NoteNode.{NoteNode}
+use Rattle.outline_rules.specs.declared.notes.NoteNode.TheVariants.{False, True, Branch}
+use Rattle.outline_rules.specs.NoteLists.{node_parts, node_holds, holds_at}
 use Rattle.hoare_outlines.specs.Working.Noted.{IsNodeFor, AreNoteNodes, AreKnown, AddsNode, AddsNodes}
 
 -- ---- what an insert does

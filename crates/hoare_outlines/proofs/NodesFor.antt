@@ -6,11 +6,11 @@ use Rattle.indexmap.specs.IndexMap.{insert_entry}
 use Rattle.std.proofs.lemmas.Option.{slice_get_within}
 use Rattle.kat_model.specs.Members.{Has}
 use Rattle.kat_model.specs.Steps.{Atom}
-use Rattle.outline_diagrams.specs.StepFunctions.{StepDiagramsParts, step_value, IsStepId, IsStepDiagram, KeepsSteps, Entails}
-use Rattle.outline_diagrams.proofs.StepSets.{KeepsSteps-itself, KeepsSteps-trans, IsStepId-kept, step_value-kept}
-use Rattle.outline_notes.specs.declared.notes.NoteNode.{NoteNode}
-use Rattle.outline_notes.specs.declared.notes.NoteNode.TheVariants.{False, True, Branch}
-use Rattle.outline_notes.specs.NoteLists.{NotesParts, AreNotes, holds_at}
+use Rattle.outline_rules.specs.StepFunctions.{StepDiagramsParts, step_value, IsStepId, IsStepDiagram, KeepsSteps, Entails}
+use Rattle.outline_rules.proofs.StepSets.{KeepsSteps-itself, KeepsSteps-trans, IsStepId-kept, step_value-kept}
+use Rattle.outline_rules.specs.declared.notes.NoteNode.{NoteNode}
+use Rattle.outline_rules.specs.declared.notes.NoteNode.TheVariants.{False, True, Branch}
+use Rattle.outline_rules.specs.NoteLists.{NotesParts, AreNotes, holds_at}
 use Rattle.outline_rules.specs.Follows.{HasTests}
 use Rattle.hoare_outlines.specs.Working.Noted.{IsSetFrom, IsNodeFor, AreNoteNodes, AreKnown, AddsNodes, AreSets, AreNodesFor, NotesSets}
 use Rattle.hoare_outlines.proofs.NodeLists.{node_later, holds-true, holds-false, holds-branch}

@@ -12,9 +12,9 @@ use Rattle.kat_model.proofs.ProductRelations.{product_of_relations}
 use Rattle.kat_model.proofs.PathTables.{same_in_frame}
 use Rattle.goal_forms.specs.Sides.{SideTrees, failing_run}
 use Rattle.while_lang.specs.Encoding.{stmt_terms, encoded}
-use Rattle.outline_diagrams.specs.StepFunctions.{StepDiagramsParts, step_value, IsStepId, IsStepDiagram, KeepsSteps, Entails}
-use Rattle.outline_diagrams.proofs.StepSets.{step_value-kept}
-use Rattle.outline_notes.specs.NoteLists.{NotesParts, note_holds}
+use Rattle.outline_rules.specs.StepFunctions.{StepDiagramsParts, step_value, IsStepId, IsStepDiagram, KeepsSteps, Entails}
+use Rattle.outline_rules.proofs.StepSets.{step_value-kept}
+use Rattle.outline_rules.specs.NoteLists.{NotesParts, note_holds}
 use Rattle.hypothesis_kinds.specs.TestTerms.{AreSimple}
 use Rattle.hypothesis_kinds.specs.HypothesisForms.{allows}
 use Rattle.hypothesis_kinds.proofs.SimpleForms.{allows_told, allowed_allows}

@@ -1,7 +1,7 @@
 -- Ids of sets when diagrams are added.
 use Rattle.std.proofs.Common.{◌≡◌, ℕ, suc, ⊎_elim, List, [], ◌∷◌, ◌++◌, length, refl, ap, subst}
-use Rattle.outline_diagrams.specs.StepFunctions.{StepDiagramsParts, KeepsSteps}
-use Rattle.outline_diagrams.proofs.StepSets.{IsStepDiagram-kept}
+use Rattle.outline_rules.specs.StepFunctions.{StepDiagramsParts, KeepsSteps}
+use Rattle.outline_rules.proofs.StepSets.{IsStepDiagram-kept}
 use Rattle.hoare_outlines.specs.Working.AtomSets.{AtomSet, IsSetId, AreSetIds}
 use Rattle.hoare_outlines.specs.Working.Noted.{AreSets}
 

@@ -3,8 +3,8 @@ use Rattle.std.proofs.Common.{ℕ, not, ◌&&◌, ◌||◌, ap, ◌∙◌}
 use mathlib.Core.Path.{ap₂}
 use Rattle.kat_model.specs.Trees.{TestTree}
 use Rattle.kat_model.specs.Steps.{truth}
-use Rattle.outline_diagrams.specs.StepFunctions.{StepDiagramsParts, step_value, IsStepDiagram, KeepsSteps}
-use Rattle.outline_diagrams.proofs.StepSets.{KeepsSteps-trans, step_value-kept}
+use Rattle.outline_rules.specs.StepFunctions.{StepDiagramsParts, step_value, IsStepDiagram, KeepsSteps}
+use Rattle.outline_rules.proofs.StepSets.{KeepsSteps-trans, step_value-kept}
 use Rattle.hoare_outlines.specs.Working.AtomSets.{AtomSet, IsSetId}
 use Rattle.hoare_outlines.proofs.SetIds.{set_kept}
 

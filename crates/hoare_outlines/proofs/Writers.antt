@@ -1,9 +1,9 @@
 -- The nodes of a writer when diagrams and nodes are added.
 use Rattle.std.proofs.Common.{◌≡◌, ℕ, ◌<◌, ⊎_elim, List, length, sym, subst, arith}
 use Rattle.kat_model.specs.Members.{HasNoDoubles}
-use Rattle.outline_diagrams.specs.StepFunctions.{StepDiagramsParts, KeepsSteps}
-use Rattle.outline_notes.specs.declared.notes.NoteNode.{NoteNode}
-use Rattle.outline_notes.specs.declared.notes.NoteNode.TheVariants.{False, True, Branch}
+use Rattle.outline_rules.specs.StepFunctions.{StepDiagramsParts, KeepsSteps}
+use Rattle.outline_rules.specs.declared.notes.NoteNode.{NoteNode}
+use Rattle.outline_rules.specs.declared.notes.NoteNode.TheVariants.{False, True, Branch}
 use Rattle.hoare_outlines.specs.declared.noting.NodeWriter.{NodeWriter}
 use Rattle.hoare_outlines.specs.Working.Noted.{AreNoteNodes, AreKnown, IsNodeWriter, AddsNode}
 use Rattle.hoare_outlines.proofs.NodeLists.{adds_one, adds_itself, NamesBelow, HasTestIn, nodes_with, known_later}

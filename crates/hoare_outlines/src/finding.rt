@@ -9,7 +9,7 @@ ghost use Rattle.kat_model.specs.Relations.{Same};
 ghost use Rattle.kat_model.specs.Steps.{truth};
 ghost use Rattle.while_lang.specs.Flows.{act, loop};
 ghost use Rattle.while_lang.specs.FlowViews.{flow_stmt};
-ghost use Rattle.outline_diagrams.specs.StepFunctions.{StepDiagramsParts, IsStepId, IsStepDiagram, KeepsSteps, AreStepDiagrams};
+ghost use Rattle.outline_rules.specs.StepFunctions.{StepDiagramsParts, IsStepId, IsStepDiagram, KeepsSteps, AreStepDiagrams};
 ghost use Rattle.hypothesis_kinds.specs.TestTerms.{AreSimple};
 ghost use Rattle.hypothesis_kinds.specs.HypothesisForms.{allows};
 ghost use Rattle.outline_rules.specs.Tasks.{task_parts, IsTripleOf};
@@ -22,9 +22,7 @@ ghost use Rattle.hoare_outlines.specs.Working.FoundLoops.{stmt_turns, flow_turns
 use crate::noting::notes_of_sets;
 use indexmap::IndexMap;
 use kat_model::{NoMemory, Problem, Test};
-use outline_diagrams::{DiagramId, Moment, StepDiagrams, allowed_atoms, ruled_out_steps};
-use outline_notes::Notes;
-use outline_rules::Task;
+use outline_rules::{DiagramId, Moment, Notes, StepDiagrams, Task, allowed_atoms, ruled_out_steps};
 use std::alloc::Global;
 use while_lang::{Flow, Flows};
 

@@ -1,13 +1,12 @@
 //! Sets of atoms as notes.
 ghost use Rattle.std.specs.Prelude.{◌≡◌, ◌≤◌, [], IfOk, IfSome, OnOk, Some, slice_get};
 ghost use Rattle.kat_model.specs.Members.{HasNoDoubles};
-ghost use Rattle.outline_diagrams.specs.StepFunctions.{StepDiagramsParts, IsStepId, KeepsSteps, AreStepDiagrams};
+ghost use Rattle.outline_rules.specs.StepFunctions.{StepDiagramsParts, IsStepId, KeepsSteps, AreStepDiagrams};
 ghost use Rattle.hoare_outlines.specs.Working.Noted.{IsSetFrom, IsNodeFor, AreNoteNodes, AreKnown, IsNodeWriter, AddsNode, AddsNodes, AreSets, AreNodesFor, NotesSets};
 
 use indexmap::{IndexMap, IndexSet};
 use kat_model::NoMemory;
-use outline_diagrams::{DiagramId, Moment, StepDiagrams};
-use outline_notes::{NoteNode, Notes};
+use outline_rules::{DiagramId, Moment, NoteNode, Notes, StepDiagrams};
 use std::alloc::Global;
 
 // The nodes so far, and the known nodes of diagrams.

@@ -1,9 +1,9 @@
 //! `outline`, which proves and checks notes.
 ghost use Rattle.std.specs.Prelude.{◌≡◌};
 ghost use Rattle.kat_model.specs.Problems.{ProblemParts};
-ghost use Rattle.file_parts.specs.Files.{FileParts};
+ghost use Rattle.while_lang.specs.Files.{FileParts};
 ghost use Rattle.problem_file.specs.Reads.{Reads};
-ghost use Rattle.file_parts.specs.Concrete.{IsConcrete, Agrees};
+ghost use Rattle.while_lang.specs.Concrete.{IsConcrete, Agrees};
 ghost use Rattle.tool_inputs.specs.FileProblem.{Asks};
 ghost use Rattle.tool_outline.specs.Outline.{OutlineHeadline, OutlineReply};
 ghost use Rattle.tool_outline.specs.OutlineCheck.{NotesHeadline, OutlineCheckReply};

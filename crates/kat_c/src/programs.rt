@@ -1,7 +1,7 @@
 //! `show`, `run`, `oneloop`, `gkat`, `flow` and `optimise`. Names of programs and stores are bytes here: those that are
 //! not UTF-8 are refused, as words that do not fit a file.
 ghost use Rattle.std.specs.Prelude.{◌≡◌, IfOk, IsUtf8};
-ghost use Rattle.file_parts.specs.Files.{FileParts};
+ghost use Rattle.while_lang.specs.Files.{FileParts};
 ghost use Rattle.problem_file.specs.Reads.{Reads};
 ghost use Rattle.tool_programs.specs.Running.{RunHeadline, RunReply};
 ghost use Rattle.tool_programs.specs.OneLoop.{OneLoopHeadline, OneLoopReply};

@@ -16,9 +16,9 @@ use Rattle.string_tables.proofs.Parts.{ends_by_acceptance}
 use Rattle.linear_forms.specs.Atomic.{Atomic}
 use Rattle.while_lang.specs.Programs.{ProgTree}
 use Rattle.while_lang.specs.Encoding.{encoded}
-use Rattle.file_parts.specs.Files.{FileParts, GoalTree, triple, prog_side}
-use Rattle.file_parts.specs.Concrete.{IsStoreOf, MeetsTriple, GoalAgrees, Agrees}
-use Rattle.file_parts.specs.Ranges.{IsGoalInRange}
+use Rattle.while_lang.specs.Files.{FileParts, GoalTree, triple, prog_side}
+use Rattle.while_lang.specs.Concrete.{IsStoreOf, MeetsTriple, GoalAgrees, Agrees}
+use Rattle.while_lang.specs.Ranges.{IsGoalInRange}
 use Rattle.abstraction.specs.Abstracts.{AbstractParts, abstract_parts, abstract_of, HasNumbersInRange}
 use Rattle.abstraction.specs.Comparisons.{Assignment, goal_comparisons, goal_assignments, cond_comparisons, prog_comparisons}
 use Rattle.abstraction.specs.Goals.{goal_sides}
@@ -27,8 +27,8 @@ use Rattle.abstraction.specs.StoreFrames.{store_frame}
 use Rattle.abstraction.specs.Tables.{file_assignments}
 use Rattle.abstraction.specs.Tests.{cond_test, prog_flow}
 use Rattle.abstraction.proofs.DerivedHypotheses.{abstract_parts_of}
-use Rattle.abstract_tables.proofs.GoalRows.{goal_comparisons_within, goal_assignments_within}
-use Rattle.abstract_tables.proofs.ProgramRuns.{ends_as_related}
+use Rattle.abstraction.proofs.GoalRows.{goal_comparisons_within, goal_assignments_within}
+use Rattle.abstraction.proofs.ProgramRuns.{ends_as_related}
 use Rattle.abstraction.proofs.RowTruths.{tables_with, frame_with, three_within, cond_read, prog_read}
 use Rattle.kat_laws.specs.StoreStrings.{SpellsOnStores, FailsOn}
 use Rattle.kat_laws.specs.Laws.{IsStoreRefuted}

@@ -9,8 +9,8 @@ use Rattle.kat_model.specs.Strings.{GuardedString}
 use Rattle.string_tables.specs.Tables.{Refutes}
 use Rattle.certificate.specs.Decisions.{pair_limit, IsShortest}
 use Rattle.while_lang.specs.Programs.{ProgTree}
-use Rattle.file_parts.specs.Files.{FileParts, triple, prog_side}
-use Rattle.file_parts.specs.Concrete.{Agrees}
+use Rattle.while_lang.specs.Files.{FileParts, triple, prog_side}
+use Rattle.while_lang.specs.Concrete.{Agrees}
 use Rattle.abstraction.specs.Abstracts.{AbstractParts, abstract_of, HasNumbersInRange}
 use Rattle.kat_laws.specs.Models.{SameInModels}
 use Rattle.kat_laws.specs.SmallStrings.{IsSmall}

@@ -5,8 +5,8 @@ use Rattle.kat_model.specs.Stores.{Store, holds}
 use Rattle.kat_model.specs.Strings.{GuardedString, Hop, IsPath, spelled}
 use Rattle.while_lang.specs.Programs.{ProgTree}
 use Rattle.while_lang.specs.Runs.{Ends}
-use Rattle.file_parts.specs.Files.{FileParts}
-use Rattle.file_parts.specs.Concrete.{IsStoreOf}
+use Rattle.while_lang.specs.Files.{FileParts}
+use Rattle.while_lang.specs.Concrete.{IsStoreOf}
 use Rattle.abstraction.specs.Abstracts.{AbstractParts}
 use Rattle.abstraction.specs.StoreFrames.{store_frame}
 

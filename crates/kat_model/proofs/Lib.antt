@@ -1,3 +1,6 @@
+pub mod RowMembers
+pub mod CappedTables
+pub mod MappedRows
 pub mod Numbers
 pub mod Options
 pub mod Lists

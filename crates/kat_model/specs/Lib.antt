@@ -1,3 +1,4 @@
+pub mod UniqueRows
 pub mod Members
 pub mod CourseOfValues
 pub mod Trees

@@ -1,6 +1,8 @@
-//! Kleene algebra with tests: trees, problems, and the definitions that the other crates use.
+//! Kleene algebra with tests: trees, problems, and the definitions that the other crates use; and tables that have each row
+//! once, in the order in which the rows are added.
 #![tactic(auto)]
 
+mod appending;
 mod balanced;
 mod expression;
 mod items;
@@ -9,7 +11,9 @@ mod limits;
 mod problem;
 mod residue;
 mod tree;
+mod unique_rows;
 
+pub use appending::append;
 pub use balanced::{all_of, any_of, seq_of, sum_of};
 pub use expression::{Cond, Expr, Rel, Width, test_without_comparisons};
 pub use items::Items;
@@ -25,3 +29,4 @@ pub use limits::{
 };
 pub use problem::{BadProblem, Problem};
 pub use tree::{Kat, NoMemory, Test};
+pub use unique_rows::{TableRow, add_row, has_row, place_of};

@@ -10,7 +10,7 @@ use Rattle.text_scopes.specs.ScopeParts.{ScopeParts, IsNameOf}
 use Rattle.text_print.specs.Printing.{name_of}
 use Rattle.text_print.proofs.NameOf.{name_is}
 use Rattle.while_lang.specs.Programs.{empty, assign_then}
-use Rattle.file_parts.specs.Files.{prog_side, triple, FileParts}
+use Rattle.while_lang.specs.Files.{prog_side, triple, FileParts}
 use Rattle.abstraction.specs.Abstracts.{abstract_parts}
 use Rattle.kat_report.specs.Shows.{show_text}
 

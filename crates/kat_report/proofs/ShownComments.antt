@@ -26,8 +26,8 @@ use Rattle.abstraction.specs.declared.rows.ActionRow.{ActionRow}
 use Rattle.abstraction.specs.declared.rows.ActionRow.TheVariants as action
 use Rattle.abstraction.specs.declared.rows.TestRow.{TestRow}
 use Rattle.abstraction.specs.declared.rows.TestRow.TheVariants as test
-use Rattle.abstraction.specs.Rule.{Rule}
-use Rattle.abstraction.specs.Rule.TheVariants.{Stated, Assign, F1, F2, F3, F4, F5, F6}
+use Rattle.abstraction.specs.declared.rule.Rule.{Rule}
+use Rattle.abstraction.specs.declared.rule.Rule.TheVariants.{Stated, Assign, F1, F2, F3, F4, F5, F6}
 use Rattle.kat_report.specs.Shows.{times_text, plus_text, sum_text, form_text, comparison_text, row_comment, test_comment, action_comment, and_test, rule_text, rule_comment, is_new, hyps_text, show_text}
 
 -- ---- the comments

@@ -13,7 +13,7 @@ use Rattle.problem_texts.specs.Working.Scopes.{IsPlain}
 use Rattle.problem_texts.proofs.PlainScopes.{plain_as, hyp_same, goal_same}
 use Rattle.abstraction.specs.declared.rows.ActionRow.{ActionRow}
 use Rattle.abstraction.specs.declared.rows.TestRow.{TestRow}
-use Rattle.abstraction.specs.Rule.{Rule}
+use Rattle.abstraction.specs.declared.rule.Rule.{Rule}
 use Rattle.kat_report.specs.Shows.{test_comment, action_comment, rule_comment, is_new, hyps_text}
 
 module _ (w : ScopeParts) (tests actions : ℕ) (few : tests ≤ MAX_TESTS) (small : actions ≤ MAX_ACTIONS) (plain : IsPlain w tests actions) where

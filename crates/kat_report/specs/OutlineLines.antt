@@ -1,8 +1,8 @@
 -- The lines with the reasons why `outline` refuses a file or notes, or rejects notes.
 use Rattle.std.specs.Prelude.{ℕ, List, [], ◌∷◌, ◌++◌, codes}
 use Rattle.std.specs.Fmt.{decimal}
-use Rattle.outline_notes.specs.declared.fault.NotesFault.{NotesFault}
-use Rattle.outline_notes.specs.declared.fault.NotesFault.TheVariants.{NoMemory, Header, Line, NodeOrder, DoubleNode, NumberTooWide, Truncated, Trailing}
+use Rattle.outline_rules.specs.declared.fault.NotesFault.{NotesFault}
+use Rattle.outline_rules.specs.declared.fault.NotesFault.TheVariants.{NoMemory, Header, Line, NodeOrder, DoubleNode, NumberTooWide, Truncated, Trailing}
 use Rattle.outline_rules.specs.declared.answer.NoteReason.{NoteReason}
 use Rattle.outline_rules.specs.declared.answer.NoteReason.TheVariants.{Range, Count, Step}
 

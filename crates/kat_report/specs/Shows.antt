@@ -17,8 +17,8 @@ use Rattle.abstraction.specs.declared.rows.ActionRow.{ActionRow}
 use Rattle.abstraction.specs.declared.rows.ActionRow.TheVariants as action
 use Rattle.abstraction.specs.declared.rows.TestRow.{TestRow}
 use Rattle.abstraction.specs.declared.rows.TestRow.TheVariants as test
-use Rattle.abstraction.specs.Rule.{Rule}
-use Rattle.abstraction.specs.Rule.TheVariants.{Stated, Assign, F1, F2, F3, F4, F5, F6}
+use Rattle.abstraction.specs.declared.rule.Rule.{Rule}
+use Rattle.abstraction.specs.declared.rule.Rule.TheVariants.{Stated, Assign, F1, F2, F3, F4, F5, F6}
 
 -- ---- forms
 

@@ -4,8 +4,7 @@ ghost use Rattle.kat_report.specs.OutlineLines.{not_a_triple_line, not_simple_li
 
 use crate::writing::numbered_line;
 use kat_model::NoMemory;
-use outline_notes::NotesFault;
-use outline_rules::NoteReason;
+use outline_rules::{NoteReason, NotesFault};
 use std::alloc::Global;
 
 /// Returns the line `refused: NotATriple`: the goal is not a triple of a program.

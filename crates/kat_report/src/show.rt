@@ -6,11 +6,11 @@ ghost use Rattle.kat_report.specs.Shows.{show_text};
 use crate::hyps::put_hyps;
 use crate::rows::{put_action_comments, put_test_comments};
 use abstraction::Abstract;
-use file_parts::File;
 use kat_model::NoMemory;
 use problem_texts::{plain_scope, put_actions, put_goal, put_tests};
 use std::alloc::Global;
 use text_scopes::Scope;
+use while_lang::File;
 
 // Writes the text of the problem to an empty list, given a scope with its names.
 fn put_text(

@@ -3,8 +3,8 @@ use Rattle.std.specs.Prelude.{◌≡◌, ◌⊎◌, ℕ, List, Some}
 use Rattle.kat_model.specs.Stores.{Store}
 use Rattle.kat_io.specs.KnownContent.{Unknown}
 use Rattle.kat_io.specs.Outside.{FaultCounted}
-use Rattle.file_parts.specs.Files.{FileParts}
-use Rattle.file_parts.specs.Concrete.{IsStoreOf}
+use Rattle.while_lang.specs.Files.{FileParts}
+use Rattle.while_lang.specs.Concrete.{IsStoreOf}
 use Rattle.tool_inputs.specs.Steps.{ShelfUse}
 use Rattle.tool_commands.specs.Commands.{decide, outline, command_of}
 use Rattle.tool_commands.specs.StoreWords.{store_of}

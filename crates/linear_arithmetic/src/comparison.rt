@@ -11,10 +11,9 @@ use crate::arithmetic::{difference, negative};
 use crate::expression::{normal_of, value};
 use crate::form::{Form, form_size};
 use crate::order::{cmp_form, same_form};
-use kat_model::{Expr, NoMemory, Rel, Width};
+use kat_model::{Expr, NoMemory, Rel, TableRow, Width};
 use std::alloc::Global;
 use std::cmp::Ordering;
-use unique_rows::TableRow;
 
 /// A comparison: that a form is 0, or that the first form is less than the second, as unsigned numbers.
 pub enum Atomic {

@@ -1,11 +1,11 @@
 -- The final result of the optimiser.
 use Rattle.std.proofs.Common.{◌≡◌, ◌↔◌, ℕ, List, [], ◌∷◌, ◌++◌, map, refl, sym, ◌∙◌, subst}
-use Rattle.file_parts.specs.Files.{FileParts}
+use Rattle.while_lang.specs.Files.{FileParts}
 use Rattle.while_lang.specs.Programs.{ProgTree, StmtTree, prog_of, stmts_of}
 use Rattle.while_lang.specs.ProgramViews.{stmt_tree, list_tree}
 use Rattle.while_lang.proofs.ProgramLists.{stmts_of-prog_of}
-use Rattle.optimiser_theory.specs.Paths.{NoStep, IsFirstStep}
-use Rattle.optimiser_theory.specs.Logs.{LogLineParts, FirstStep, IsLog, IsFinished, HasStep}
+use Rattle.optimiser_steps.specs.Paths.{NoStep, IsFirstStep}
+use Rattle.optimiser_steps.specs.Logs.{LogLineParts, FirstStep, IsLog, IsFinished, HasStep}
 use Rattle.optimiser_steps.specs.Working.Found.{IsFirst}
 use Rattle.optimiser_steps.specs.declared.paths.Found.{Found}
 use Rattle.optimiser_steps.specs.declared.optimising.Ended.{Ended}

@@ -2,15 +2,15 @@
 use Rattle.std.proofs.Common.{◌≡◌, ◌<◌, ◌≤◌, ◌+◌, ℕ, zero, suc, List, [], ◌∷◌, ◌++◌, map, length, take, drop, get_or, Some, None, refl, sym, ap, ◌∙◌, subst, arith}
 use Rattle.std.proofs.lemmas.List.{drop_more, drop-map, take-map, length-take}
 use Rattle.kat_model.specs.Expressions.{CondTree}
-use Rattle.file_parts.specs.Files.{FileParts}
+use Rattle.while_lang.specs.Files.{FileParts}
 use Rattle.while_lang.specs.Programs.{ProgTree, StmtTree, branch, loop, prog_of}
 use Rattle.while_lang.specs.ProgramViews.{stmt_tree, list_tree}
 use Rattle.while_lang.specs.declared.prog.Stmt.{Stmt}
-use Rattle.optimiser_theory.specs.Statements.{block, with_block, IsStmtInRange, AreStmtsInRange}
-use Rattle.optimiser_theory.specs.Steps.{Step}
-use Rattle.optimiser_theory.specs.Paths.{NoStep, NoStepBefore, IsFirstStep}
-use Rattle.optimiser_theory.proofs.FirstSteps.{first_inside, none_inside, none_in_statement, first_here, none_here}
-use Rattle.optimiser_theory.proofs.RangesKept.{drop_in}
+use Rattle.optimiser_steps.specs.Statements.{block, with_block, IsStmtInRange, AreStmtsInRange}
+use Rattle.optimiser_steps.specs.Steps.{Step}
+use Rattle.optimiser_steps.specs.Paths.{NoStep, NoStepBefore, IsFirstStep}
+use Rattle.optimiser_steps.proofs.FirstSteps.{first_inside, none_inside, none_in_statement, first_here, none_here}
+use Rattle.optimiser_steps.proofs.RangesKept.{drop_in}
 use Rattle.optimiser_steps.specs.Working.Found.{NoStepFrom, IsLeastFrom, IsFirst}
 use Rattle.optimiser_steps.specs.declared.rewriting.Made.{Made}
 use Rattle.optimiser_steps.specs.declared.paths.Found.{Found}

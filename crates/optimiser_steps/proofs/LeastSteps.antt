@@ -2,14 +2,14 @@
 use Rattle.std.proofs.Common.{◌≡◌, ◌<◌, ◌≤◌, ◌+◌, ℕ, ⊎_elim, List, [], ◌∷◌, length, map, Option, Some, None, refl, sym, ap, ◌∙◌, subst, arith}
 use Rattle.std.proofs.lemmas.Bool.{cases_eq, cases_lt}
 use Rattle.kat_model.specs.Expressions.{ExprTree, CondTree, always, negation}
-use Rattle.file_parts.specs.Files.{FileParts}
+use Rattle.while_lang.specs.Files.{FileParts}
 use Rattle.while_lang.specs.Programs.{ProgTree, empty, branch_then, loop_then, StmtTree, skip, abort, assert, act, assign, branch, loop, prog_of, stmts_of}
 use Rattle.while_lang.specs.ProgramViews.{stmt_tree}
 use Rattle.while_lang.specs.declared.prog.Stmt.{Stmt}
 use Rattle.while_lang.proofs.ProgramLists.{stmts_of-prog_of}
-use Rattle.optimiser_theory.specs.Validity.{IsValid, HoldsAlways, HoldsNever}
-use Rattle.optimiser_theory.specs.Statements.{single}
-use Rattle.optimiser_theory.specs.Steps.{Step}
+use Rattle.optimiser_steps.specs.Validity.{IsValid, HoldsAlways, HoldsNever}
+use Rattle.optimiser_steps.specs.Statements.{single}
+use Rattle.optimiser_steps.specs.Steps.{Step}
 use Rattle.optimiser_steps.specs.Working.Found.{NoStepFrom, IsLeastFrom, FindsLeast, EndAlike}
 use Rattle.optimiser_steps.specs.declared.rewriting.Made.{Made}
 

@@ -1,3 +1,15 @@
+pub mod NumberedSteps
+pub mod RangesKept
+pub mod ProgramRanges
+pub mod Machines
+pub mod StepsKept
+pub mod OneFirstStep
+pub mod FirstSteps
+pub mod TermRelations
+pub mod ClosedPrograms
+pub mod TableMeanings
+pub mod StoreMeanings
+pub mod LogMeanings
 pub mod Alternatives
 pub mod ListedPrograms
 pub mod ValidGoals

@@ -3,14 +3,14 @@ use Rattle.std.proofs.Common.{◌≡◌, ◌<◌, ◌≤◌, ◌+◌, ◌-◌, �
 use Rattle.std.proofs.lemmas.List.{take_all, map_more, drop_more, take-map, drop-map, take_rest}
 use Rattle.std.specs.Bool.{IsTrue}
 use Rattle.kat_model.specs.Expressions.{CondTree}
-use Rattle.file_parts.specs.Files.{FileParts}
-use Rattle.file_parts.specs.Ranges.{IsProgInRange}
+use Rattle.while_lang.specs.Files.{FileParts}
+use Rattle.while_lang.specs.Ranges.{IsProgInRange}
 use Rattle.while_lang.specs.Programs.{ProgTree, StmtTree, assert, stmts_of}
 use Rattle.while_lang.specs.ProgramViews.{stmt_tree, list_tree}
 use Rattle.while_lang.specs.declared.prog.Stmt.{Stmt}
 use Rattle.while_lang.proofs.ProgramLists.{stmts_of-prog_of}
-use Rattle.optimiser_theory.specs.Statements.{single, AreStmtsInRange}
-use Rattle.optimiser_theory.proofs.RangesKept.{stmts_in}
+use Rattle.optimiser_steps.specs.Statements.{single, AreStmtsInRange}
+use Rattle.optimiser_steps.proofs.RangesKept.{stmts_in}
 
 -- ---- copies
 

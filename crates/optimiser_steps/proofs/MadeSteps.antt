@@ -2,13 +2,13 @@
 use Rattle.std.proofs.Common.{◌≡◌, ◌≤◌, ◌-◌, List, [], ◌∷◌, ◌++◌, length, map, take, drop, get_or, Option, Some, None, refl, sym, ap, ◌∙◌, subst, arith}
 use Rattle.std.proofs.lemmas.List.{length-map, take_rest}
 use Rattle.kat_model.specs.Expressions.{CondTree, always, negation}
-use Rattle.file_parts.specs.Files.{FileParts}
+use Rattle.while_lang.specs.Files.{FileParts}
 use Rattle.while_lang.specs.Programs.{ProgTree, empty, branch_then, loop_then, with_stmt, StmtTree, skip, abort, assert, branch, loop, prog_of, stmts_of}
 use Rattle.while_lang.specs.ProgramViews.{stmt_tree, list_tree}
 use Rattle.while_lang.specs.declared.prog.Stmt.{Stmt}
-use Rattle.optimiser_theory.specs.Validity.{IsValid, HoldsAlways, HoldsNever}
-use Rattle.optimiser_theory.specs.Statements.{single}
-use Rattle.optimiser_theory.proofs.FirstSteps.{none_at_first, none_at_end}
+use Rattle.optimiser_steps.specs.Validity.{IsValid, HoldsAlways, HoldsNever}
+use Rattle.optimiser_steps.specs.Statements.{single}
+use Rattle.optimiser_steps.proofs.FirstSteps.{none_at_first, none_at_end}
 use Rattle.optimiser_steps.specs.Working.Found.{NoStepFrom, IsLeastFrom, FindsLeast, EndAlike}
 use Rattle.optimiser_steps.specs.declared.rewriting.Made.{Made}
 use Rattle.optimiser_steps.proofs.LeastSteps.{is_least, finds_after, finds_before, none_at_last_abort, none_below_abort, none_below_assert, none_below_first, none_below_second, none_below_either, none_below_shared, none_below_loop, none_yet, none_below_ten, none_below_left_loop, none_below_flattened, none_below_loops, IsNested, nested_is_one}

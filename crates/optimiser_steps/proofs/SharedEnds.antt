@@ -6,7 +6,7 @@ use Rattle.while_lang.specs.Programs.{ProgTree, StmtTree, branch, prog_of, stmts
 use Rattle.while_lang.specs.ProgramViews.{stmt_tree, list_tree}
 use Rattle.while_lang.specs.declared.prog.Stmt.{Stmt}
 use Rattle.while_lang.proofs.ProgramLists.{listed_stmts}
-use Rattle.optimiser_theory.proofs.OneFirstStep.{last_same}
+use Rattle.optimiser_steps.proofs.OneFirstStep.{last_same}
 use Rattle.while_lang.proofs.BlockMeasures.{prog_of-stmts_of}
 use Rattle.optimiser_steps.specs.Working.Found.{EndAlike}
 use Rattle.optimiser_steps.proofs.ListedPrograms.{listed}

@@ -4,11 +4,11 @@ use Rattle.std.proofs.lemmas.Bool.{both_ways}
 use Rattle.std.specs.Bool.{IsTrue}
 use Rattle.kat_model.specs.Expressions.{CondTree}
 use Rattle.kat_model.specs.Relations.{Same}
-use Rattle.file_parts.specs.Files.{FileParts, triple, prog_side}
+use Rattle.while_lang.specs.Files.{FileParts, triple, prog_side}
 use Rattle.while_lang.specs.Programs.{ProgTree}
 use Rattle.abstraction.specs.declared.fault.AbstractFault.{AbstractFault}
 use Rattle.abstraction.specs.Abstracts.{AbstractParts, abstract_of, with_goal}
-use Rattle.optimiser_theory.specs.Validity.{IsValid}
+use Rattle.optimiser_steps.specs.Validity.{IsValid}
 use Rattle.optimiser_steps.specs.Working.Goals.{GoalIsSame}
 
 -- a negative decision refutes the fact

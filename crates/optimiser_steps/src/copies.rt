@@ -3,7 +3,7 @@ ghost use Rattle.std.specs.Prelude.{◌≡◌, ◌↔◌, ◌∷◌, ◌++◌, I
 ghost use Rattle.kat_model.specs.Expressions.{cond_tree};
 ghost use Rattle.while_lang.specs.Programs.{branch};
 ghost use Rattle.while_lang.specs.ProgramViews.{stmt_tree};
-ghost use Rattle.optimiser_theory.specs.Statements.{single};
+ghost use Rattle.optimiser_steps.specs.Statements.{single};
 
 use kat_model::{Cond, NoMemory};
 use std::alloc::Global;

@@ -2,17 +2,16 @@
 ghost use Rattle.std.specs.Prelude.{◌∷◌, IfOk, map};
 ghost use Rattle.kat_model.specs.Problems.{AreInRange};
 ghost use Rattle.while_lang.specs.ProgramViews.{stmt_tree};
-ghost use Rattle.optimiser_theory.specs.Statements.{IsStmtInRange, AreStmtsInRange};
+ghost use Rattle.optimiser_steps.specs.Statements.{IsStmtInRange, AreStmtsInRange};
 ghost use Rattle.optimiser_steps.specs.Working.Found.{FindsLeast};
 
 use crate::loop_steps::step_nested;
 use crate::rewriting::Made;
 use crate::sequence_steps::step_after;
 use crate::statement_steps::step_alone;
-use file_parts::File;
 use kat_model::NoMemory;
 use std::alloc::Global;
-use while_lang::Stmt;
+use while_lang::{File, Stmt};
 
 // Returns the least possible step at a statement followed by `rest`, if there is one.
 fn step_of(alloc: Global, file: &File, stmt: &Stmt, rest: &[Stmt]) -> Result<Option<Made>, NoMemory>

@@ -1,8 +1,9 @@
-//! The optimiser: rewrites a program by steps whose conditions the prover decides.
+//! The optimiser: rewrites a program by steps that preserve its meaning, whose conditions the prover decides.
 #![tactic(auto)]
 
 mod copies;
 mod first_at;
+mod laws;
 mod loop_steps;
 mod optimising;
 mod paths;
@@ -12,4 +13,5 @@ mod sequence_steps;
 mod statement_steps;
 mod validity;
 
+pub use laws::{first_step_is_one, logs_keep_meaning};
 pub use optimising::{Ended, LogLine, Optimised, optimise};

@@ -2,21 +2,20 @@
 ghost use Rattle.std.specs.Prelude.{◌≡◌, ◌↔◌, ◌∷◌, IsTrue, IfOk, map};
 ghost use Rattle.kat_model.specs.Expressions.{negation, cond_tree};
 ghost use Rattle.kat_model.specs.Problems.{AreInRange};
-ghost use Rattle.file_parts.specs.Files.{FileParts};
-ghost use Rattle.file_parts.specs.Ranges.{IsCondInRange, IsProgInRange};
+ghost use Rattle.while_lang.specs.Files.{FileParts};
+ghost use Rattle.while_lang.specs.Ranges.{IsCondInRange, IsProgInRange};
 ghost use Rattle.while_lang.specs.Programs.{empty, branch_then, loop_then, branch, loop};
 ghost use Rattle.while_lang.specs.ProgramViews.{stmt_tree};
-ghost use Rattle.optimiser_theory.specs.Validity.{IsValid};
-ghost use Rattle.optimiser_theory.specs.Statements.{single, IsStmtInRange};
+ghost use Rattle.optimiser_steps.specs.Validity.{IsValid};
+ghost use Rattle.optimiser_steps.specs.Statements.{single, IsStmtInRange};
 ghost use Rattle.optimiser_steps.specs.Working.Found.{FindsLeast};
 
 use crate::copies::{is_same_cond, list_of, single};
 use crate::rewriting::Made;
 use crate::validity::{keeps, keeps_opposite};
-use file_parts::File;
 use kat_model::{Cond, NoMemory};
 use std::alloc::Global;
-use while_lang::{Prog, Stmt};
+use while_lang::{File, Prog, Stmt};
 
 // Returns the program that consists of one loop.
 fn loop_of(alloc: Global, cond: &Cond, body: &Prog) -> Result<Prog, NoMemory>

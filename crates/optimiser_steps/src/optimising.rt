@@ -1,15 +1,14 @@
 //! The optimiser.
 ghost use Rattle.std.specs.Prelude.{◌≡◌, ◌≤◌, ◌↔◌, length, IfOk};
-ghost use Rattle.optimiser_theory.specs.Logs.{IsLog, IsFinished, HasStep};
-ghost use Rattle.optimiser_theory.specs.Meanings.{HasProgInRange, KeepsInTables, KeepsFromStores};
+ghost use Rattle.optimiser_steps.specs.Logs.{IsLog, IsFinished, HasStep};
+ghost use Rattle.optimiser_steps.specs.Meanings.{HasProgInRange, KeepsInTables, KeepsFromStores};
 
 use crate::paths::Found;
 use crate::search::first_step_in;
-use file_parts::File;
 use kat_model::NoMemory;
 use std::alloc::Global;
 use std::marker::Model;
-use while_lang::Prog;
+use while_lang::{File, Prog};
 
 /// A step of the optimiser.
 #[derive(Drop)]
@@ -23,7 +22,7 @@ pub struct LogLine {
 
 impl Model for LogLine {
     ghost use Rattle.std.specs.Coded.{codes};
-    ghost use Rattle.optimiser_theory.specs.Logs.{LogLineParts};
+    ghost use Rattle.optimiser_steps.specs.Logs.{LogLineParts};
 
     ghost Value = { LogLineParts };
 

@@ -2,16 +2,15 @@
 ghost use Rattle.std.specs.Prelude.{◌≡◌, ◌+◌, ◌<◌, [], ◌∷◌, length, drop, IfOk, map};
 ghost use Rattle.kat_model.specs.Problems.{AreInRange};
 ghost use Rattle.while_lang.specs.ProgramViews.{stmt_tree};
-ghost use Rattle.optimiser_theory.specs.Statements.{IsStmtInRange, AreStmtsInRange};
-ghost use Rattle.optimiser_theory.specs.Paths.{NoStepBefore};
+ghost use Rattle.optimiser_steps.specs.Statements.{IsStmtInRange, AreStmtsInRange};
+ghost use Rattle.optimiser_steps.specs.Paths.{NoStepBefore};
 ghost use Rattle.optimiser_steps.specs.Working.Found.{FindsFirst, FindsFirstBefore};
 
 use crate::first_at::step_here;
 use crate::paths::{Found, found_here, found_in_body, found_in_first, found_in_second};
-use file_parts::File;
 use kat_model::NoMemory;
 use std::alloc::Global;
-use while_lang::Stmt;
+use while_lang::{File, Stmt};
 
 // Returns the first step inside the statement at a position. Requires that no earlier step is possible.
 #[cycle(search)]

@@ -2,19 +2,18 @@
 ghost use Rattle.std.specs.Prelude.{◌≡◌, ◌∷◌, ◌++◌, IfOk, map};
 ghost use Rattle.kat_model.specs.Expressions.{cond_tree};
 ghost use Rattle.kat_model.specs.Problems.{AreInRange};
-ghost use Rattle.file_parts.specs.Ranges.{IsCondInRange};
+ghost use Rattle.while_lang.specs.Ranges.{IsCondInRange};
 ghost use Rattle.while_lang.specs.Programs.{branch, loop};
 ghost use Rattle.while_lang.specs.ProgramViews.{stmt_tree};
-ghost use Rattle.optimiser_theory.specs.Statements.{IsStmtInRange, AreStmtsInRange};
+ghost use Rattle.optimiser_steps.specs.Statements.{IsStmtInRange, AreStmtsInRange};
 ghost use Rattle.optimiser_steps.specs.Working.Found.{FindsLeast};
 
 use crate::copies::{list_of, push_copies};
 use crate::rewriting::Made;
 use crate::validity::{fails_after, holds_after};
-use file_parts::File;
 use kat_model::{Cond, NoMemory};
 use std::alloc::Global;
-use while_lang::{Prog, Stmt, copy_stmt, push_stmt};
+use while_lang::{File, Prog, Stmt, copy_stmt, push_stmt};
 
 // Returns copies of `stmt`, of `taken` and of `later`.
 fn list_after(

@@ -2,20 +2,19 @@
 ghost use Rattle.std.specs.Prelude.{◌≡◌, ◌∷◌, IfOk, map};
 ghost use Rattle.kat_model.specs.Expressions.{cond_tree};
 ghost use Rattle.kat_model.specs.Problems.{AreInRange};
-ghost use Rattle.file_parts.specs.Files.{FileParts};
-ghost use Rattle.file_parts.specs.Ranges.{IsCondInRange};
+ghost use Rattle.while_lang.specs.Files.{FileParts};
+ghost use Rattle.while_lang.specs.Ranges.{IsCondInRange};
 ghost use Rattle.while_lang.specs.Programs.{abort, assert, branch, loop};
 ghost use Rattle.while_lang.specs.ProgramViews.{stmt_tree};
-ghost use Rattle.optimiser_theory.specs.Statements.{IsStmtInRange};
+ghost use Rattle.optimiser_steps.specs.Statements.{IsStmtInRange};
 ghost use Rattle.optimiser_steps.specs.Working.Found.{FindsLeast, FindsSharedEnd};
 
 use crate::copies::{branch_of, copies_of, is_same_stmt, joined_list, list_of, list_of_two};
 use crate::rewriting::Made;
 use crate::validity::{holds_always, holds_never};
-use file_parts::File;
 use kat_model::{Cond, NoMemory};
 use std::alloc::Global;
-use while_lang::{Prog, Stmt, copy_stmt};
+use while_lang::{File, Prog, Stmt, copy_stmt};
 
 // Tries S2 at an `abort`.
 fn abort_step(alloc: Global, rest: &[Stmt]) -> Result<Option<Made>, NoMemory>

@@ -2,21 +2,20 @@
 ghost use Rattle.std.specs.Prelude.{◌≡◌, ◌↔◌, IsTrue, IfOk};
 ghost use Rattle.kat_model.specs.Problems.{AreInRange};
 ghost use Rattle.kat_model.specs.Expressions.{always, negation, cond_tree};
-ghost use Rattle.file_parts.specs.Trees.{goal_tree};
-ghost use Rattle.file_parts.specs.Ranges.{IsCondInRange, IsProgInRange};
+ghost use Rattle.while_lang.specs.Trees.{goal_tree};
+ghost use Rattle.while_lang.specs.Ranges.{IsCondInRange, IsProgInRange};
 ghost use Rattle.abstraction.specs.Abstracts.{with_goal, HasNumbersInRange};
-ghost use Rattle.optimiser_theory.specs.Validity.{IsValid, HoldsAlways, HoldsNever};
-ghost use Rattle.optimiser_theory.specs.Statements.{single, IsStmtInRange};
+ghost use Rattle.optimiser_steps.specs.Validity.{IsValid, HoldsAlways, HoldsNever};
+ghost use Rattle.optimiser_steps.specs.Statements.{single, IsStmtInRange};
 ghost use Rattle.while_lang.specs.ProgramViews.{stmt_tree};
 ghost use Rattle.optimiser_steps.specs.Working.Goals.{GoalIsSame};
 
 use crate::copies::single;
 use abstraction::{AbstractFault, abstracted_for};
 use bisim_worklist::is_same;
-use file_parts::{File, Goal, Side};
 use kat_model::{Cond, NoMemory};
 use std::alloc::Global;
-use while_lang::{Prog, Stmt, copy_stmt};
+use while_lang::{File, Goal, Prog, Side, Stmt, copy_stmt};
 
 // Whether the goal is within the limits of an abstraction, and the two sides of its problem are the same.
 fn is_goal_same(alloc: Global, file: &File, goal: &Goal) -> Result<bool, NoMemory>

@@ -2,8 +2,8 @@
 use Rattle.std.proofs.Common.{sym, ◌∙◌, arith}
 use Rattle.kat_model.specs.Problems.{ProblemParts}
 use Rattle.kat_model.proofs.Places.{has_at}
-use Rattle.outline_notes.specs.NoteLists.{NotesParts}
-use Rattle.outline_notes.specs.declared.notes.NoteNode.TheVariants.{Branch}
+use Rattle.outline_rules.specs.NoteLists.{NotesParts}
+use Rattle.outline_rules.specs.declared.notes.NoteNode.TheVariants.{Branch}
 use Rattle.outline_rules.specs.declared.answer.NoteReason.{NoteReason}
 use Rattle.outline_rules.specs.declared.answer.NoteReason.TheVariants.{Range, Count, Step}
 use Rattle.outline_rules.specs.Tasks.{TaskParts}

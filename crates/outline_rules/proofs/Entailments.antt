@@ -7,8 +7,8 @@ use Rattle.std.proofs.lemmas.Bool.{false≢true, and_parts, and_from, not-true}
 use Rattle.kat_model.specs.Trees.{TestTree, Term}
 use Rattle.kat_model.specs.Problems.{ProblemParts}
 use Rattle.kat_model.specs.Steps.{Atom, truth}
-use Rattle.outline_diagrams.specs.StepFunctions.{StepDiagramsParts, step_value, IsStepId, IsStepDiagram, KeepsSteps, Entails, IsImage}
-use Rattle.outline_diagrams.proofs.StepSets.{KeepsSteps-trans, IsStepId-kept, IsStepDiagram-kept, step_value-kept}
+use Rattle.outline_rules.specs.StepFunctions.{StepDiagramsParts, step_value, IsStepId, IsStepDiagram, KeepsSteps, Entails, IsImage}
+use Rattle.outline_rules.proofs.StepSets.{KeepsSteps-trans, IsStepId-kept, IsStepDiagram-kept, step_value-kept}
 use Rattle.hypothesis_kinds.specs.TestTerms.{AreSimple, IsAllowed, IsRuledOut}
 use Rattle.outline_rules.specs.Follows.{starts, implies, leads, ends, IsMet}
 use Rattle.hypothesis_kinds.specs.HypothesisForms.{allows, some_rules_out}

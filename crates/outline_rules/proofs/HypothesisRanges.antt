@@ -5,9 +5,9 @@ use Rattle.kat_model.specs.Trees.{Term, kat_tree}
 use Rattle.kat_model.specs.declared.tree.Kat.{Kat}
 use Rattle.kat_model.specs.Problems.{ProblemParts, IsProblem, HasTestsBelow, AreInRange}
 use Rattle.kat_model.proofs.Ranges.{IsInRange-HasTestsBelow}
-use Rattle.outline_diagrams.specs.declared.moments.Moment.{Moment}
-use Rattle.outline_diagrams.specs.Interleaved.{atom_at_moment}
-use Rattle.outline_diagrams.specs.StepFunctions.{StepDiagramsParts, IsStepDiagram}
+use Rattle.outline_rules.specs.declared.moments.Moment.{Moment}
+use Rattle.outline_rules.specs.Interleaved.{atom_at_moment}
+use Rattle.outline_rules.specs.StepFunctions.{StepDiagramsParts, IsStepDiagram}
 use Rattle.hypothesis_kinds.specs.HypothesisForms.{allows, some_rules_out}
 
 hyps_below : (tests actions : ℕ) (xs : List Kat) → AreInRange tests actions (map kat_tree xs) → All (λ h. HasTestsBelow tests (kat_tree h)) xs

@@ -1,3 +1,16 @@
+pub mod KnownNodes
+pub mod NoteForms
+pub mod Spellings
+pub mod Growth
+pub mod Drafts
+pub mod LineFormats
+pub mod Exactness
+pub mod Written
+pub mod Interleaving
+pub mod StepSets
+pub mod Images
+pub mod Compositions
+pub mod HypothesisSets
 pub mod Entailments
 pub mod LeastTargets
 pub mod ConditionRanges

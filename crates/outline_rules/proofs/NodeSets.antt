@@ -8,13 +8,13 @@ use Rattle.std.proofs.lemmas.Option.{slice_get-get_or, slice_get-map, get_or_fro
 use Rattle.kat_model.proofs.Places.{has_at}
 use Rattle.kat_model.specs.CourseOfValues.{continued, course_of_values}
 use Rattle.kat_model.specs.Steps.{Atom}
-use Rattle.outline_diagrams.specs.declared.moments.Moment.{Moment}
-use Rattle.outline_diagrams.specs.Interleaved.{atom_at_moment}
-use Rattle.outline_diagrams.specs.StepFunctions.{StepDiagramsParts, step_value, IsStepId, IsStepDiagram, KeepsSteps}
-use Rattle.outline_diagrams.proofs.StepSets.{IsStepId-kept, step_value-kept, IsStepDiagram-kept}
-use Rattle.outline_notes.specs.declared.notes.NoteNode.{NoteNode}
-use Rattle.outline_notes.specs.declared.notes.NoteNode.TheVariants.{False, True, Branch}
-use Rattle.outline_notes.specs.NoteLists.{NotesParts, node_holds, holds_at, note_holds, AreNotes}
+use Rattle.outline_rules.specs.declared.moments.Moment.{Moment}
+use Rattle.outline_rules.specs.Interleaved.{atom_at_moment}
+use Rattle.outline_rules.specs.StepFunctions.{StepDiagramsParts, step_value, IsStepId, IsStepDiagram, KeepsSteps}
+use Rattle.outline_rules.proofs.StepSets.{IsStepId-kept, step_value-kept, IsStepDiagram-kept}
+use Rattle.outline_rules.specs.declared.notes.NoteNode.{NoteNode}
+use Rattle.outline_rules.specs.declared.notes.NoteNode.TheVariants.{False, True, Branch}
+use Rattle.outline_rules.specs.NoteLists.{NotesParts, node_holds, holds_at, note_holds, AreNotes}
 use Rattle.kat_model.specs.Trees.{Term}
 use Rattle.hypothesis_kinds.specs.HypothesisForms.{allows}
 use Rattle.outline_rules.specs.Follows.{HasTests}

@@ -6,8 +6,8 @@ use Rattle.std.proofs.lemmas.Option.{slice_get-get_or, get_or_from_slice_get}
 use Rattle.std.proofs.lemmas.List.Quantifiers.{position-Some}
 use Rattle.kat_model.proofs.Lists.{any_has}
 use Rattle.line_format.proofs.Splits.{position_none}
-use Rattle.outline_notes.specs.declared.notes.NoteNode.{NoteNode}
-use Rattle.outline_notes.specs.declared.notes.NoteNode.TheVariants.{False, True, Branch}
+use Rattle.outline_rules.specs.declared.notes.NoteNode.{NoteNode}
+use Rattle.outline_rules.specs.declared.notes.NoteNode.TheVariants.{False, True, Branch}
 use Rattle.outline_rules.specs.Follows.{HasTests}
 use Rattle.outline_rules.specs.Reasons.{IsOutOfRange}
 use Rattle.outline_rules.specs.Working.Sets.{tests_out}

@@ -13,7 +13,7 @@ use Rattle.kat_model.proofs.ProductRelations.{product_of_relations}
 use Rattle.goal_forms.specs.Sides.{SideTrees, failing_run}
 use Rattle.while_lang.specs.Flows.{FlowTree, empty, skip_then, abort_then, assert_then, act_then, branch_then, loop_then}
 use Rattle.while_lang.specs.Encoding.{stmt_terms, encoded}
-use Rattle.outline_notes.specs.NoteLists.{NotesParts, note_holds}
+use Rattle.outline_rules.specs.NoteLists.{NotesParts, note_holds}
 use Rattle.hypothesis_kinds.specs.TestTerms.{IsAllowed, IsRuledOut}
 use Rattle.outline_rules.specs.Tasks.{TaskParts, IsTripleOf}
 use Rattle.outline_rules.specs.Places.{last_place}

@@ -6,9 +6,9 @@ use Rattle.kat_model.specs.Members.{Has}
 use Rattle.kat_model.specs.Problems.{ProblemParts}
 use Rattle.kat_model.specs.Steps.{Atom, truth}
 use Rattle.while_lang.specs.Flows.{FlowTree, empty, skip_then, abort_then, assert_then, act_then, branch_then, loop_then}
-use Rattle.outline_notes.specs.declared.notes.NoteNode.{NoteNode}
-use Rattle.outline_notes.specs.declared.notes.NoteNode.TheVariants.{Branch}
-use Rattle.outline_notes.specs.NoteLists.{NotesParts, note_holds}
+use Rattle.outline_rules.specs.declared.notes.NoteNode.{NoteNode}
+use Rattle.outline_rules.specs.declared.notes.NoteNode.TheVariants.{Branch}
+use Rattle.outline_rules.specs.NoteLists.{NotesParts, note_holds}
 use Rattle.hypothesis_kinds.specs.TestTerms.{IsAllowed, IsRuledOut}
 use Rattle.outline_rules.specs.Tasks.{TaskParts}
 use Rattle.outline_rules.specs.Places.{last_place, places}

@@ -1,7 +1,7 @@
 -- The laws of outlines. Each law is the contract of a function that does nothing.
 use Rattle.kat_model.specs.Problems.{ProblemParts}
 use Rattle.kat_model.specs.Relations.{Same}
-use Rattle.outline_notes.specs.NoteLists.{NotesParts}
+use Rattle.outline_rules.specs.NoteLists.{NotesParts}
 use Rattle.outline_rules.specs.declared.answer.NoteReason.{NoteReason}
 use Rattle.outline_rules.specs.Tasks.{TaskParts, IsTripleOf}
 use Rattle.outline_rules.specs.Follows.{Follows}

@@ -1,6 +1,14 @@
+pub mod NoteLists
+pub mod Texts
+pub mod Forms
+pub mod Faults
+pub mod Readings
+pub mod NoteLaws
+pub mod Working
+pub mod Interleaved
+pub mod StepFunctions
 pub mod Tasks
 pub mod Places
 pub mod Follows
 pub mod Reasons
 pub mod Laws
-pub mod Working

@@ -1,2 +1,5 @@
+pub mod Readings
+pub mod Writings
+pub mod Quantified
 pub mod Checks
 pub mod Sets

@@ -4,11 +4,11 @@ ghost use Rattle.std.specs.Prelude.{◌≡◌, ◌↔◌, Bool, map, position, I
 ghost use Rattle.kat_model.specs.Trees.{kat_tree, test_tree};
 ghost use Rattle.kat_model.specs.Steps.{Atom, truth};
 ghost use Rattle.kat_model.specs.Problems.{IsTestInRange};
-ghost use Rattle.outline_diagrams.specs.Interleaved.{atom_at_moment};
-ghost use Rattle.outline_diagrams.specs.declared.moments.Moment.{Moment};
-ghost use Rattle.outline_diagrams.specs.declared.moments.Moment.TheVariants.{Before};
-ghost use Rattle.outline_diagrams.specs.StepFunctions.{step_value, IsStepId, IsStepDiagram, KeepsSteps, AreStepDiagrams};
-ghost use Rattle.outline_notes.specs.NoteLists.{AreNotes, node_holds, note_holds};
+ghost use Rattle.outline_rules.specs.Interleaved.{atom_at_moment};
+ghost use Rattle.outline_rules.specs.declared.moments.Moment.{Moment};
+ghost use Rattle.outline_rules.specs.declared.moments.Moment.TheVariants.{Before};
+ghost use Rattle.outline_rules.specs.StepFunctions.{step_value, IsStepId, IsStepDiagram, KeepsSteps, AreStepDiagrams};
+ghost use Rattle.outline_rules.specs.NoteLists.{AreNotes, node_holds, note_holds};
 ghost use Rattle.hypothesis_kinds.specs.TestTerms.{AreSimple};
 ghost use Rattle.outline_rules.specs.Tasks.{task_parts, IsTripleOf};
 ghost use Rattle.outline_rules.specs.Places.{last_place};
@@ -19,11 +19,14 @@ ghost use Rattle.outline_rules.specs.Working.Sets.{tests_out, HasPartsInRange, A
 
 use crate::answer::{NoteAnswer, NoteReason};
 use crate::checks::{Check, Guard, next_place, push_checks};
+use crate::hypotheses::{allowed_atoms, ruled_out_steps};
+use crate::moments::Moment;
+use crate::notes::{NoteNode, Notes};
+use crate::steps::StepDiagrams;
 use crate::task::Task;
 use kat_model::{NoMemory, Problem, Test};
-use outline_diagrams::{DiagramId, Moment, StepDiagrams, allowed_atoms, ruled_out_steps};
-use outline_notes::{NoteNode, Notes};
 use std::alloc::Global;
+use test_diagrams::DiagramId;
 
 // The set of the allowed atoms at a moment, and the set of each node of the notes there.
 #[derive(Drop)]

@@ -18,7 +18,7 @@ use Rattle.while_lang.specs.BlockFolds.{fold_cond, fold_expr, fold_block}
 use Rattle.while_lang.specs.BlockBuilding.{spliced, named_stmts, target_var, block_trees}
 use Rattle.while_lang.specs.BlockSound.{BlockIsSound}
 use Rattle.problem_file.specs.Working.Numbers.{AreNumbered}
-use Rattle.file_parts.specs.Ranges.{IsProgInRange}
+use Rattle.while_lang.specs.Ranges.{IsProgInRange}
 use Rattle.problem_file.proofs.Results.{same_ok}
 use Rattle.problem_file.proofs.InRanges.{DefinedInRange, cond_in, expr_in}
 

@@ -19,7 +19,7 @@ use Rattle.text_scopes.specs.ScopeParts.{Definition, ScopeParts, meaning}
 use Rattle.text_scopes.specs.Building.{joined, variable_tree, condition_tree, defined_tree, name_tree, trees}
 use Rattle.text_scopes.proofs.Related.{Both, AreRelated, related}
 use Rattle.problem_file.specs.Working.Numbers.{AreNumbered}
-use Rattle.file_parts.specs.Ranges.{IsExprInRange, IsCondInRange}
+use Rattle.while_lang.specs.Ranges.{IsExprInRange, IsCondInRange}
 
 -- the numbers in all conditions, or all terms, of a list are below the bounds
 abbrev pub CondsInRange : ℕ → ℕ → List CondTree → Type 0

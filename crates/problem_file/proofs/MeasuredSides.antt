@@ -29,7 +29,7 @@ use Rattle.while_lang.specs.BlockLaws.{AreLimited}
 use Rattle.while_lang.proofs.BlockCompleteness.{parsed as block_parsed}
 use Rattle.while_lang.proofs.BlockNestings.{sound_measured}
 use Rattle.while_lang.proofs.BlockMeasures.{measures_of_trees}
-use Rattle.file_parts.specs.Files.{SideTree, term_side, prog_side, prog_meant, prog_named}
+use Rattle.while_lang.specs.Files.{SideTree, term_side, prog_side, prog_meant, prog_named}
 use Rattle.problem_file.specs.Files.{State}
 use Rattle.problem_file.specs.ItemActions.{Measurement}
 use Rattle.problem_file.specs.Phrases.{lone_leaf}

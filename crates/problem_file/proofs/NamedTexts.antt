@@ -35,7 +35,7 @@ use Rattle.problem_file.specs.declared.item_reading.Declared.TheVariants as what
 use Rattle.problem_file.specs.declared.item_reading.Setting.{Setting}
 use Rattle.problem_file.specs.declared.item_reading.Setting.TheVariants as setting
 use Rattle.problem_file.specs.declared.item_reading.Comparison.{Comparison}
-use Rattle.file_parts.specs.Files.{GoalTree, prog_named}
+use Rattle.while_lang.specs.Files.{GoalTree, prog_named}
 use Rattle.problem_file.specs.Files.{State, start, most_goals, goal_fault, is_known, has_begun, width_with, take_width, with_rounds, grow, check_size}
 use Rattle.problem_file.specs.Numbers.{check_number, check_numbers}
 use Rattle.problem_file.specs.Items.{lone_name}

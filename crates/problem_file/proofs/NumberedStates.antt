@@ -23,15 +23,15 @@ use Rattle.while_lang.specs.Programs.{ProgTree, empty, skip_then, abort_then, as
 use Rattle.while_lang.specs.ProgramSizes.{prog_size}
 use Rattle.while_lang.specs.NamedProgs.{ProgParts}
 use Rattle.while_lang.specs.BlockSound.{block_nesting}
-use Rattle.file_parts.proofs.RangesGrow.{IsInRange-more, progs_at, meant_in}
+use Rattle.while_lang.proofs.RangesGrow.{IsInRange-more, progs_at, meant_in}
 use Rattle.problem_file.specs.declared.goal_limit.GoalLimit.{GoalLimit}
 use Rattle.problem_file.specs.declared.goal_limit.GoalLimit.TheVariants.{One, Batch}
 use Rattle.problem_file.specs.Working.Numbers.{AreNumbered}
-use Rattle.file_parts.specs.Files.{FileParts, SideTree, term_side, prog_side, GoalTree, equal, below, triple, prog_meant}
+use Rattle.while_lang.specs.Files.{FileParts, SideTree, term_side, prog_side, GoalTree, equal, below, triple, prog_meant}
 use Rattle.problem_file.specs.Files.{State, start, file_of, add_prog, state_hyp, state_goal, triple_term}
 use Rattle.problem_file.specs.Phrases.{Names, one_name, more_names, Body, tests, actions, variables, definition, program, hypothesis, hyp_triple, rounds, width, goal_equal, goal_below, goal_triple, Item, lone_leaf}
 use Rattle.problem_file.specs.Sound.{with_test, with_action, with_var, grown, EachName, DeclaresTest, DeclaresAction, DeclaresVar, named_by, IsSide, side_size, AsksSides, Makes, MakeAll}
-use Rattle.file_parts.specs.Ranges.{IsExprInRange, IsCondInRange, IsProgInRange, AreProgsInRange, IsSideInRange, IsGoalInRange, AreNamed, AreNamesOfProgs, IsNumbered}
+use Rattle.while_lang.specs.Ranges.{IsExprInRange, IsCondInRange, IsProgInRange, AreProgsInRange, IsSideInRange, IsGoalInRange, AreNamed, AreNamesOfProgs, IsNumbered}
 use Rattle.problem_file.specs.Reads.{Says}
 use Rattle.problem_file.specs.Laws.{AreInRanges, AreAllInRanges}
 use Rattle.problem_file.proofs.Numbering.{same_bound, next_bound, empty_numbered, test_numbered, action_numbered, var_numbered, prog_numbered, term_numbered}

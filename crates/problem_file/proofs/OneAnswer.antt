@@ -10,7 +10,7 @@ use Rattle.while_lang.specs.NamedProgs.{ProgParts}
 use Rattle.while_lang.specs.BlockLaws.{AreLimited}
 use Rattle.problem_file.specs.declared.goal_limit.GoalLimit.{GoalLimit}
 use Rattle.problem_file.specs.declared.goal_limit.GoalLimit.TheVariants.{One, Batch}
-use Rattle.file_parts.specs.Files.{GoalTree, FileParts}
+use Rattle.while_lang.specs.Files.{GoalTree, FileParts}
 use Rattle.problem_file.specs.Files.{State, start, file_of}
 use Rattle.problem_file.specs.Syntax.{scan_file}
 use Rattle.problem_file.specs.Making.{parse_items}

@@ -12,11 +12,11 @@ use Rattle.text_tokens.proofs.Slices.{slices_from}
 use Rattle.text_grammar.specs.Lexemes.{lexemes}
 use Rattle.text_grammar.specs.Parsed.{Makes}
 use Rattle.problem_file.specs.Tokens.{AreTokens}
-use Rattle.file_parts.specs.declared.file.Goal.{Goal}
+use Rattle.while_lang.specs.declared.file.Goal.{Goal}
 use Rattle.problem_file.specs.declared.goal_limit.GoalLimit.{GoalLimit}
 use Rattle.problem_file.specs.declared.goal_limit.GoalLimit.TheVariants.{Batch}
-use Rattle.file_parts.specs.Files.{GoalTree, FileParts}
-use Rattle.file_parts.specs.Trees.{goal_tree}
+use Rattle.while_lang.specs.Files.{GoalTree, FileParts}
+use Rattle.while_lang.specs.Trees.{goal_tree}
 use Rattle.problem_file.specs.Reads.{Says, ReadsAll, HasFirstFault, FirstFaultOfAll, tested}
 use Rattle.problem_file.specs.Working.Files.{AreSaid, AnswersFor}
 use Rattle.problem_file.proofs.TextAnswers.{no_fault as none_told}

@@ -21,7 +21,7 @@ use Rattle.while_lang.specs.BlockLaws.{AreLimited}
 use Rattle.problem_file.specs.declared.item_reading.Declared.TheVariants as what
 use Rattle.problem_file.specs.declared.item_reading.Comparison.{Comparison}
 use Rattle.problem_file.specs.declared.item_reading.Comparison.TheVariants.{Equal, Below}
-use Rattle.file_parts.specs.Files.{SideTree, triple}
+use Rattle.while_lang.specs.Files.{SideTree, triple}
 use Rattle.problem_file.specs.Files.{State, most_goals, width_of, state_goal}
 use Rattle.problem_file.specs.Numbers.{AreNarrow, check_numbers}
 use Rattle.problem_file.specs.ItemActions.{Measurement, SidesMeasurement, TripleMeasurement}

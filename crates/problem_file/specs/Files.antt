@@ -15,7 +15,7 @@ use Rattle.while_lang.specs.Programs.{ProgTree}
 use Rattle.while_lang.specs.NamedProgs.{ProgParts}
 use Rattle.problem_file.specs.declared.goal_limit.GoalLimit.{GoalLimit}
 use Rattle.problem_file.specs.declared.goal_limit.GoalLimit.TheVariants.{One, Batch}
-use Rattle.file_parts.specs.Files.{GoalTree, FileParts}
+use Rattle.while_lang.specs.Files.{GoalTree, FileParts}
 
 -- ---- states
 

@@ -5,7 +5,7 @@ use Rattle.text_tokens.specs.declared.fault.TextFault.{TextFault}
 use Rattle.text_tokens.specs.declared.fault.TextFault.TheVariants.{NoMemory}
 use Rattle.text_grammar.specs.Lexemes.{Lexeme}
 use Rattle.while_lang.specs.BlockLaws.{AreLimited}
-use Rattle.file_parts.specs.Files.{GoalTree, FileParts}
+use Rattle.while_lang.specs.Files.{GoalTree, FileParts}
 use Rattle.problem_file.specs.Files.{State}
 use Rattle.problem_file.specs.Syntax.{checking, scan_file}
 use Rattle.problem_file.specs.Making.{making, parse_items}
@@ -13,7 +13,7 @@ use Rattle.problem_file.specs.Phrases.{Item, IsFile, AreSpelledBy}
 use Rattle.problem_file.specs.Folds.{fold_items}
 use Rattle.problem_file.specs.Sound.{MakeAll}
 use Rattle.problem_file.specs.Reads.{Reads, ReadsAll}
-use Rattle.file_parts.specs.Ranges.{IsNumbered, IsGoalInRange}
+use Rattle.while_lang.specs.Ranges.{IsNumbered, IsGoalInRange}
 
 -- the tokens are a file
 abbrev pub IsSomeFile : List Lexeme → Type 0

@@ -24,7 +24,7 @@ use Rattle.problem_file.specs.declared.item_reading.Setting.{Setting}
 use Rattle.problem_file.specs.declared.item_reading.Setting.TheVariants as setting
 use Rattle.problem_file.specs.declared.item_reading.Comparison.{Comparison}
 use Rattle.problem_file.specs.declared.item_reading.Comparison.TheVariants.{Equal, Below}
-use Rattle.file_parts.specs.Files.{SideTree, term_side, prog_side, GoalTree, equal, below, triple, prog_named}
+use Rattle.while_lang.specs.Files.{SideTree, term_side, prog_side, GoalTree, equal, below, triple, prog_named}
 use Rattle.problem_file.specs.Files.{State, most_goals, goal_fault, width_of}
 use Rattle.problem_file.specs.Files.{declare_test, declare_action, declare_var, check_new, begin_rounds, begin_width, set_rounds, set_width}
 use Rattle.problem_file.specs.Files.{grow, check_size, define, add_prog, state_hyp, state_goal, triple_term}

@@ -8,7 +8,7 @@ use Rattle.text_grammar.specs.Lexemes.{Lexeme, lexeme_of}
 use Rattle.text_grammar.specs.Parsed.{◌>>=◌}
 use Rattle.problem_file.specs.declared.goal_limit.GoalLimit.{GoalLimit}
 use Rattle.problem_file.specs.declared.goal_limit.GoalLimit.TheVariants.{One, Batch}
-use Rattle.file_parts.specs.Files.{GoalTree, FileParts}
+use Rattle.while_lang.specs.Files.{GoalTree, FileParts}
 use Rattle.problem_file.specs.Files.{State, start, file_of}
 use Rattle.problem_file.specs.FirstFaults.{IsFirstFault}
 use Rattle.problem_file.specs.Syntax.{scan_file}

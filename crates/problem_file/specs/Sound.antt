@@ -20,7 +20,7 @@ use Rattle.while_lang.specs.BlockPhrases.{block, BlockPhrase}
 use Rattle.while_lang.specs.BlockFolds.{fold_block}
 use Rattle.while_lang.specs.BlockBuilding.{block_trees}
 use Rattle.while_lang.specs.BlockSound.{BlockIsSound, block_nesting}
-use Rattle.file_parts.specs.Files.{SideTree, term_side, prog_side, GoalTree, equal, below, triple, prog_named}
+use Rattle.while_lang.specs.Files.{SideTree, term_side, prog_side, GoalTree, equal, below, triple, prog_named}
 use Rattle.problem_file.specs.Files.{State, most_goals, width_of, has_begun, with_rounds, with_width, width_with}
 use Rattle.problem_file.specs.Files.{define, add_prog, state_hyp, state_goal, triple_term}
 use Rattle.problem_file.specs.Numbers.{AreNarrow}

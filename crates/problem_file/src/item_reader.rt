@@ -1,15 +1,14 @@
 //! The state that the items of a text so far have made.
 ghost use Rattle.std.specs.Prelude.{length, map};
-ghost use Rattle.file_parts.specs.Trees.{goal_tree};
+ghost use Rattle.while_lang.specs.Trees.{goal_tree};
 ghost use Rattle.problem_file.specs.Working.Numbers.{AreNumbered};
 
 use crate::goal_limit::GoalLimit;
-use file_parts::{File, Goal};
 use kat_model::{Kat, MAX_ACTIONS, MAX_TESTS, MAX_TEXT_NODES, MAX_VARS, Width};
 use std::alloc::Global;
 use text_scopes::{Meaning, Scope};
 use text_tokens::{TextFault, Token};
-use while_lang::NamedProg;
+use while_lang::{File, Goal, NamedProg};
 
 // Reads items whose syntax was checked before.
 pub(crate) struct ItemReader {

@@ -13,9 +13,9 @@ mod reading;
 mod syntax;
 mod triple;
 
-pub use file_parts::{File, Goal, Side};
 pub use laws::{
     are_in_ranges, files_are_scanned, have_one_answer, items_are_folded, items_are_made,
 };
 pub use names::{name_at, number_at};
 pub use reading::{fault_in_text, read, read_all, text_of};
+pub use while_lang::{File, Goal, Side};

@@ -6,7 +6,7 @@ ghost use Rattle.text_grammar.specs.Lexemes.{lexemes};
 ghost use Rattle.text_grammar.specs.Parsed.{Makes};
 ghost use Rattle.text_scopes.specs.ScopeParts.{IsIdentifier};
 ghost use Rattle.while_lang.specs.NamedProgs.{prog_parts};
-ghost use Rattle.file_parts.specs.Files.{prog_named};
+ghost use Rattle.while_lang.specs.Files.{prog_named};
 ghost use Rattle.problem_file.specs.Files.{State, width_with, check_new, check_size, width_of, state_hyp, state_goal};
 ghost use Rattle.problem_file.specs.Files.{has_begun, begin_rounds, begin_width, set_rounds, set_width};
 ghost use Rattle.problem_file.specs.Numbers.{until, check_numbers};
@@ -14,7 +14,7 @@ ghost use Rattle.problem_file.specs.Items.{lone_name};
 ghost use Rattle.problem_file.specs.Making.{program_extent, program_or, count, count_sides, count_parts, built_term, built_side};
 ghost use Rattle.problem_file.specs.Making.{built_triple, built_goal, compared, define_term, define_prog};
 ghost use Rattle.problem_file.specs.Making.{state_zero, state_triple, ask_sides, ask_triple, making};
-ghost use Rattle.file_parts.specs.Trees.{side_tree, goal_tree};
+ghost use Rattle.while_lang.specs.Trees.{side_tree, goal_tree};
 ghost use Rattle.problem_file.specs.Working.NumberSteps.{check_first};
 ghost use Rattle.problem_file.specs.Working.Walks.{measured_of, sides_of, triple_of, Builds};
 ghost use Rattle.problem_file.specs.Working.States.{state_of, Leaves};
@@ -24,7 +24,6 @@ use crate::item_reading::{Comparison, Declared, ItemReading, Setting};
 use crate::names::lone_name;
 use crate::phrase::{Measured, MeasuredSides, MeasuredTriple};
 use crate::triple::triple_term;
-use file_parts::{Goal, Side, prog_meant};
 use kat_model::{
     Cond, Items, Kat, MAX_HYPS, MAX_OPEN, MAX_ROUNDS, MAX_TERM_NODES, NoMemory, Width,
 };
@@ -32,7 +31,7 @@ use std::alloc::Global;
 use text_grammar::{Terminal, terminal_at};
 use text_scopes::{Extent, build_cond, build_term, measure_cond, measure_term};
 use text_tokens::{TextFault, Token};
-use while_lang::{NamedProg, build_block, measure_block};
+use while_lang::{Goal, NamedProg, Side, build_block, measure_block, prog_meant};
 
 // Checks that an item, or a part of a goal, is within the limit of nodes; `TooLarge` at `at` past it.
 fn check_size(at: usize, nodes: u64) -> Result<(), TextFault>

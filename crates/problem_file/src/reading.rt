@@ -4,9 +4,9 @@ ghost use Rattle.text_tokens.specs.declared.fault.TextFault.TheVariants.{NoMemor
 ghost use Rattle.text_grammar.specs.Lexemes.{lexemes};
 ghost use Rattle.text_grammar.specs.Parsed.{Makes};
 ghost use Rattle.text_tokens.specs.declared.lexer.TheConstants.{MAX_LEN as MOST};
-ghost use Rattle.file_parts.specs.Files.{GoalTree, FileParts};
+ghost use Rattle.while_lang.specs.Files.{GoalTree, FileParts};
 ghost use Rattle.problem_file.specs.Files.{start};
-ghost use Rattle.file_parts.specs.Trees.{goal_tree};
+ghost use Rattle.while_lang.specs.Trees.{goal_tree};
 ghost use Rattle.problem_file.specs.Making.{parse_items};
 ghost use Rattle.problem_file.specs.Tokens.{AreTokens};
 ghost use Rattle.problem_file.specs.Working.States.{state_of};
@@ -18,9 +18,9 @@ use crate::goal_limit::GoalLimit;
 use crate::item_reader::ItemReader;
 use crate::items::read_items;
 use crate::syntax::test_syntax;
-use file_parts::{File, Goal};
 use std::alloc::Global;
 use text_tokens::{MAX_LEN, TextFault, Token, tokens};
+use while_lang::{File, Goal};
 
 /// Returns the bytes as a text. Fails with `TooLong` past `MAX_LEN` bytes, or with `NotUtf8` and the length of the
 /// longest prefix that is valid UTF-8.

@@ -20,7 +20,7 @@ use Rattle.text_print.specs.Printing.{TermIsNamed, term_nesting}
 use Rattle.text_print.proofs.WordTerminals.{name_terminal}
 use Rattle.text_print.proofs.PrintedPhrases.{lexemes_from, leaf}
 use Rattle.text_print.proofs.PrintedTerms.{IsTermOf, term_back}
-use Rattle.file_parts.specs.Files.{term_side, equal}
+use Rattle.while_lang.specs.Files.{term_side, equal}
 use Rattle.problem_file.specs.Files.{State, most_goals, width_of, state_hyp, state_goal}
 use Rattle.problem_file.specs.Phrases.{Names, one_name, more_names, tests, actions, hypothesis, goal_equal, Item, names_onto, ended, spelled, ItemsObey, ItemsFit}
 use Rattle.problem_file.specs.Sound.{with_test, with_action, DeclaresTest, DeclaresAction, EachName, IsTerm, grown, MakeAll}

@@ -12,7 +12,7 @@ use Rattle.text_tokens.proofs.Words.{keyword_is_name}
 use Rattle.text_scopes.specs.declared.meaning.Meaning.{Meaning}
 use Rattle.text_scopes.specs.ScopeParts.{ScopeParts}
 use Rattle.text_print.specs.Printing.{term_nesting}
-use Rattle.file_parts.specs.Files.{term_side, GoalTree, equal}
+use Rattle.while_lang.specs.Files.{term_side, GoalTree, equal}
 use Rattle.problem_file.specs.Files.{State, file_of}
 use Rattle.problem_file.specs.Reads.{start_one}
 use Rattle.problem_texts.specs.Questions.{plain_name, question_text, IsPrintable}

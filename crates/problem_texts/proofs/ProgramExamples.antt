@@ -11,7 +11,7 @@ use Rattle.text_scopes.specs.declared.meaning.Meaning.TheVariants.{Var}
 use Rattle.text_scopes.specs.ScopeParts.{IsIdentifier}
 use Rattle.text_print.proofs.WordTerminals.{zero_written, one_written}
 use Rattle.while_lang.specs.Programs.{ProgTree, empty, skip_then, assign_then, loop_then}
-use Rattle.file_parts.specs.Files.{GoalTree, prog_side, equal, triple}
+use Rattle.while_lang.specs.Files.{GoalTree, prog_side, equal, triple}
 use Rattle.problem_texts.specs.ProgramTexts.{one_program_text, programs_text, triple_text, IsOnePrintable, ArePrintable, IsTriplePrintable}
 use Rattle.problem_texts.specs.Laws.{AsksOfPrograms, SaysProgram}
 use Rattle.problem_texts.proofs.ProgramReadings.{program_reads_back, programs_read_back, triples_read_back}

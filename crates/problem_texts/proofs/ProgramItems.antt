@@ -24,7 +24,7 @@ use Rattle.while_lang.specs.Programs.{ProgTree}
 use Rattle.while_lang.specs.ProgramSizes.{prog_size}
 use Rattle.while_print.specs.ProgramPrinting.{block_pieces, ProgIsNamed, block_levels}
 use Rattle.while_lang.specs.BlockPhrases.{block_before, BlockObeys}
-use Rattle.file_parts.specs.Files.{prog_side, prog_meant, equal, triple}
+use Rattle.while_lang.specs.Files.{prog_side, prog_meant, equal, triple}
 use Rattle.problem_file.specs.Files.{State, most_goals, width_of, width_with, with_width, add_prog, state_goal}
 use Rattle.problem_file.specs.Numbers.{AreNarrow}
 use Rattle.problem_file.specs.Phrases.{TriplePhrase, variables, program, width, other_number, goal_equal, goal_triple, names_onto, triple_onto, ended}

@@ -16,7 +16,7 @@ use Rattle.text_scopes.specs.declared.meaning.Meaning.TheVariants.{Test, Action}
 use Rattle.text_scopes.specs.ScopeParts.{ScopeParts, Means, IsUndeclared, empty_scope, declared}
 use Rattle.text_scopes.specs.Sound.{IsTermName, IsCondName}
 use Rattle.text_scopes.proofs.MeaningEntries.{get-insert_name}
-use Rattle.file_parts.specs.Files.{term_side, equal, triple}
+use Rattle.while_lang.specs.Files.{term_side, equal, triple}
 use Rattle.problem_file.specs.Files.{State, file_of}
 use Rattle.problem_file.specs.Phrases.{one_name, more_names, tests, actions, hypothesis, goal_equal, goal_triple}
 use Rattle.problem_file.specs.Sound.{with_test, with_action, IsTerm, IsCond}

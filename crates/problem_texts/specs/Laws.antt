@@ -7,8 +7,8 @@ use Rattle.text_scopes.specs.declared.meaning.Meaning.{Meaning}
 use Rattle.text_scopes.specs.declared.meaning.Meaning.TheVariants.{Var}
 use Rattle.text_scopes.specs.ScopeParts.{Means}
 use Rattle.while_lang.specs.Programs.{ProgTree}
-use Rattle.file_parts.specs.Concrete.{IsConcrete}
-use Rattle.file_parts.specs.Files.{term_side, prog_side, GoalTree, equal, FileParts, prog_named}
+use Rattle.while_lang.specs.Concrete.{IsConcrete}
+use Rattle.while_lang.specs.Files.{term_side, prog_side, GoalTree, equal, FileParts, prog_named}
 use Rattle.problem_file.specs.Reads.{Reads}
 
 -- the text reads as a file with a goal `equal`; `q` is the question about its two sides, with the file's declarations

@@ -5,7 +5,7 @@ ghost use Rattle.kat_model.specs.Expressions.{CondTree};
 ghost use Rattle.kat_model.specs.declared.expression.Width.{Width};
 ghost use Rattle.text_scopes.specs.declared.meaning.Meaning.{Meaning};
 ghost use Rattle.while_lang.specs.Programs.{ProgTree};
-ghost use Rattle.file_parts.specs.Files.{prog_side, equal, triple};
+ghost use Rattle.while_lang.specs.Files.{prog_side, equal, triple};
 ghost use Rattle.problem_texts.specs.CommentedTexts.{Comments, commented_text, IsCommentedPrintable};
 ghost use Rattle.problem_texts.specs.NamedTexts.{named_text, IsNamedPrintable};
 ghost use Rattle.problem_texts.specs.Questions.{question_text, IsPrintable};

@@ -10,9 +10,9 @@ use Rattle.while_lang.specs.declared.outcome.Outcome.{Outcome}
 use Rattle.while_lang.specs.declared.outcome.Outcome.TheVariants.{Done, Stuck, More}
 use Rattle.while_lang.proofs.Outcomes.{one_outcome}
 use Rattle.one_loop.proofs.KeptStores.{goes_kept}
-use Rattle.file_parts.specs.Files.{term_side, prog_side, GoalTree, equal, below, triple, FileParts}
-use Rattle.file_parts.specs.Ranges.{IsCondInRange, IsProgInRange, IsGoalInRange}
-use Rattle.file_parts.specs.Concrete.{AsksOfProgs, IsConcrete, IsStoreOf, EndAlike, MeetsTriple, GoalAgrees}
+use Rattle.while_lang.specs.Files.{term_side, prog_side, GoalTree, equal, below, triple, FileParts}
+use Rattle.while_lang.specs.Ranges.{IsCondInRange, IsProgInRange, IsGoalInRange}
+use Rattle.while_lang.specs.Concrete.{AsksOfProgs, IsConcrete, IsStoreOf, EndAlike, MeetsTriple, GoalAgrees}
 use Rattle.store_trials.specs.RunEnds.{EndParts}
 use Rattle.store_trials.specs.Trials.{EndApart, BreaksTriple, IsFalseFrom, OutcomesDiffer, OutcomeFails, AreEnds, ShowFalse, IsConcreteGoal}
 use Rattle.store_trials.specs.Laws.{IsFalse}

@@ -10,7 +10,7 @@ use Rattle.std.proofs.lemmas.List.Elements.{All-nil, All-cons, All-append, All-m
 use Rattle.kat_model.specs.Stores.{modulus, Store, IsStore}
 use Rattle.kat_model.specs.declared.expression.Width.{Width}
 use Rattle.kat_model.specs.declared.expression.Width.TheVariants.{W8, W16, W32, W64}
-use Rattle.file_parts.specs.Files.{GoalTree}
+use Rattle.while_lang.specs.Files.{GoalTree}
 use Rattle.bench_problems.specs.Generator.{next_state}
 use Rattle.store_trials.specs.Numbers.{near, tried, goal_numbers, AreTriedNumbers}
 use Rattle.store_trials.proofs.Ascending.{ascending_once}

@@ -9,7 +9,7 @@ use Rattle.while_lang.specs.Runs.{HasOutcome, HasOneOutcome}
 use Rattle.while_lang.specs.declared.outcome.Outcome.{Outcome}
 use Rattle.while_lang.specs.declared.outcome.Outcome.TheVariants.{Done, Stuck, More}
 use Rattle.while_lang.proofs.Outcomes.{one_outcome}
-use Rattle.file_parts.specs.Files.{SideTree, GoalTree, equal, below, triple, term_side, prog_side}
+use Rattle.while_lang.specs.Files.{SideTree, GoalTree, equal, below, triple, term_side, prog_side}
 use Rattle.store_trials.specs.RunEnds.{EndParts}
 use Rattle.store_trials.specs.Trials.{SideEndsAs, AreEnds, ShowFalse, cuts, NeverShown, IsFirstFalse, NoneShown, IsConcreteSide, IsConcreteGoal}
 

@@ -1,9 +1,9 @@
 -- The law of trials. It is the contract of a function of the crate that does nothing.
 use Rattle.std.specs.Prelude.{ℕ, List}
 use Rattle.kat_model.specs.Stores.{Store}
-use Rattle.file_parts.specs.Files.{FileParts}
-use Rattle.file_parts.specs.Ranges.{IsGoalInRange}
-use Rattle.file_parts.specs.Concrete.{IsConcrete, IsStoreOf, Agrees}
+use Rattle.while_lang.specs.Files.{FileParts}
+use Rattle.while_lang.specs.Ranges.{IsGoalInRange}
+use Rattle.while_lang.specs.Concrete.{IsConcrete, IsStoreOf, Agrees}
 use Rattle.store_trials.specs.RunEnds.{EndParts}
 use Rattle.store_trials.specs.Trials.{AreEnds, ShowFalse, IsFalseFrom}
 

@@ -5,7 +5,7 @@ use Rattle.kat_model.specs.Stores.{modulus}
 use Rattle.kat_model.specs.declared.expression.Width.{Width}
 use Rattle.kat_model.specs.Expressions.{ExprTree, number, variable, plus, minus, times, CondTree, always, never, named, compared, negation, both, either}
 use Rattle.while_lang.specs.Programs.{ProgTree, empty, skip_then, abort_then, assert_then, act_then, assign_then, branch_then, loop_then}
-use Rattle.file_parts.specs.Files.{GoalTree, equal, below, triple, SideTree, term_side, prog_side}
+use Rattle.while_lang.specs.Files.{GoalTree, equal, below, triple, SideTree, term_side, prog_side}
 
 -- the numbers of an expression, a condition and a program
 abbrev pub expr_numbers : ExprTree → List ℕ

@@ -7,7 +7,7 @@ use Rattle.while_lang.specs.Programs.{ProgTree, is_concrete}
 use Rattle.while_lang.specs.Runs.{Ends, HasOutcome}
 use Rattle.while_lang.specs.declared.outcome.Outcome.{Outcome}
 use Rattle.while_lang.specs.declared.outcome.Outcome.TheVariants.{Done, Stuck, More}
-use Rattle.file_parts.specs.Files.{GoalTree, equal, below, triple, SideTree, term_side, prog_side}
+use Rattle.while_lang.specs.Files.{GoalTree, equal, below, triple, SideTree, term_side, prog_side}
 use Rattle.store_trials.specs.RunEnds.{EndParts}
 use Rattle.store_trials.specs.declared.trials.Trial.{Trial}
 use Rattle.store_trials.specs.declared.trials.Trial.TheVariants.{Fails, NoneFails}

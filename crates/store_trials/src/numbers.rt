@@ -3,15 +3,14 @@ ghost use Rattle.std.specs.Prelude.{◌≡◌, ◌↔◌, ◌<◌, ◌++◌, ℕ
 ghost use Rattle.std.specs.List.Sorted.{IsStrictlyIncreasing};
 ghost use Rattle.kat_model.specs.Expressions.{expr_tree, cond_tree};
 ghost use Rattle.kat_model.specs.Stores.{modulus};
-ghost use Rattle.file_parts.specs.Trees.{goal_tree, side_tree};
+ghost use Rattle.while_lang.specs.Trees.{goal_tree, side_tree};
 ghost use Rattle.while_lang.specs.Programs.{empty, with_stmt};
 ghost use Rattle.while_lang.specs.ProgramViews.{stmt_tree};
 ghost use Rattle.store_trials.specs.Numbers.{expr_numbers, cond_numbers, prog_numbers, side_numbers, goal_numbers, near, tried, AreTriedNumbers};
 
-use file_parts::{Goal, Side};
 use kat_model::{Cond, Expr, NoMemory, Width};
 use std::alloc::Global;
-use while_lang::{Prog, Stmt};
+use while_lang::{Goal, Prog, Side, Stmt};
 
 fn add_expr(expr: &Expr, out: &mut Vec<u64>) -> Result<(), NoMemory>
     ensures { OnOk result (out.new.items ≡ out.old.items ++ expr_numbers (expr_tree expr.now)) }

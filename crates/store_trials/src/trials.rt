@@ -3,17 +3,16 @@ ghost use Rattle.std.specs.Prelude.{◌≡◌, ◌↔◌, ◌≤◌, ◌^◌, tr
 ghost use Rattle.kat_model.specs.Expressions.{cond_tree};
 ghost use Rattle.kat_model.specs.Stores.{IsStore};
 ghost use Rattle.while_lang.specs.Programs.{is_concrete};
-ghost use Rattle.file_parts.specs.Files.{equal, triple, prog_side};
-ghost use Rattle.file_parts.specs.Trees.{goal_tree, side_tree};
+ghost use Rattle.while_lang.specs.Files.{equal, triple, prog_side};
+ghost use Rattle.while_lang.specs.Trees.{goal_tree, side_tree};
 ghost use Rattle.store_trials.specs.Trials.{SideEndsAs, AreDifferent, OutcomeFails, AreEnds, ShowFalse, cut_of, cuts, IsTrial, IsConcreteSide, IsConcreteGoal};
 
 use crate::conditions::holds;
 use crate::stores::copy;
-use file_parts::{Goal, Side};
 use kat_model::{Cond, Items, NoMemory, Width};
 use std::alloc::Global;
 use std::marker::Model;
-use while_lang::{Outcome, Prog, Store, run};
+use while_lang::{Goal, Outcome, Prog, Side, Store, run};
 
 /// How a run ends, and the store that it reached.
 #[derive(Drop)]

@@ -1,5 +1,5 @@
 //! An optimised program of a text, with the steps that led to it.
-ghost use Rattle.file_parts.specs.Ranges.{IsNumbered};
+ghost use Rattle.while_lang.specs.Ranges.{IsNumbered};
 
 use kat_model::NoMemory;
 use optimiser_steps::{Ended, LogLine, Optimised, optimise};

@@ -8,7 +8,7 @@ use Rattle.text_grammar.specs.declared.reading.Context.{Context}
 use Rattle.text_grammar.specs.declared.terminal.Terminal.{Terminal}
 use Rattle.text_grammar.specs.Lexemes.{Lexeme, lexeme}
 use Rattle.text_grammar.specs.Parsed.{Parsed, ◌>>=◌, before, change, wants, then_wants, Makes, Reads, Goes}
-use Rattle.text_grammar.specs.Working.Ends.{with_end}
+use Rattle.text_grammar.specs.Ended.{with_end}
 
 -- the function ends with the fault `e` of a part
 abbrev pub EndsWith : {V : Type 0} → Result V TextFault → TextFault → Type 0

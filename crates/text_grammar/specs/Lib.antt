@@ -9,5 +9,6 @@ pub mod Phrases
 pub mod Folds
 pub mod Scans
 pub mod Ends
+pub mod Ended
 pub mod Faults
 pub mod Working

@@ -13,7 +13,7 @@ mod terminal;
 pub use cond::read_cond;
 pub use expr::read_expr;
 pub use laws::{grammar_is_scanned, phrases_are_unique, phrases_end};
-pub use reading::{Context, Operator, Reading};
+pub use reading::{Context, Operator, Reading, with_end};
 pub use scan::{Scan, cond_end, expr_end, term_end};
 pub use term::read_term;
 pub use terminal::{

@@ -1,7 +1,7 @@
 //! The semantic actions of the parser.
 ghost use Rattle.std.specs.Prelude.{◌≡◌, ℕ, Ok, false};
 ghost use Rattle.text_grammar.specs.Parsed.{Makes};
-ghost use Rattle.text_grammar.specs.Working.Ends.{with_end};
+ghost use Rattle.text_grammar.specs.Ended.{with_end};
 ghost use Rattle.text_grammar.specs.Actions.{Actions, context, enter, enter_not};
 
 use kat_model::{MAX_OPEN, Rel};
@@ -68,11 +68,8 @@ impl Context {
     }
 }
 
-// Returns what an action made, with the index after its phrase.
-pub(crate) fn with_end<T: Drop>(
-    made: Result<T, TextFault>,
-    end: usize,
-) -> Result<(T, usize), TextFault>
+/// Returns what an action made, with the index after its phrase, or the fault of the action.
+pub fn with_end<T: Drop>(made: Result<T, TextFault>, end: usize) -> Result<(T, usize), TextFault>
     ensures { result ≡ with_end end made }
 {
     Ok((made?, end))

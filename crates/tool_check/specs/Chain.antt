@@ -5,9 +5,9 @@ use Rattle.kat_model.specs.Problems.{ProblemParts}
 use Rattle.kat_model.specs.Relations.{Same}
 use Rattle.text_tokens.specs.declared.fault.TextFault.{TextFault}
 use Rattle.kat_report.specs.Refusals.{fault_word, fault_place, place_text}
-use Rattle.file_parts.specs.Files.{FileParts}
+use Rattle.while_lang.specs.Files.{FileParts}
 use Rattle.problem_file.specs.Reads.{Reads}
-use Rattle.file_parts.specs.Concrete.{IsConcrete, Agrees}
+use Rattle.while_lang.specs.Concrete.{IsConcrete, Agrees}
 use Rattle.chain_rules.specs.Chains.{ChainTree}
 use Rattle.chain_rules.specs.Chained.{IsChained, IsReason}
 use Rattle.chain_rules.specs.declared.answer.ChainReason.{ChainReason}

@@ -2,9 +2,9 @@
 ghost use Rattle.std.specs.Prelude.{◌≡◌, ◌≢◌, Some, IfOk};
 ghost use Rattle.kat_model.specs.declared.limits.TheConstants.{MAX_TEXT_BYTES};
 ghost use Rattle.kat_model.specs.Problems.{ProblemParts};
-ghost use Rattle.file_parts.specs.Files.{FileParts};
+ghost use Rattle.while_lang.specs.Files.{FileParts};
 ghost use Rattle.problem_file.specs.Reads.{Reads};
-ghost use Rattle.file_parts.specs.Concrete.{IsConcrete, Agrees};
+ghost use Rattle.while_lang.specs.Concrete.{IsConcrete, Agrees};
 ghost use Rattle.text_tokens.specs.declared.fault.TextFault.TheVariants.{NoMemory as NoRoom};
 ghost use Rattle.chain_rules.specs.Chained.{HasTermsInRange};
 ghost use Rattle.tool_inputs.specs.Steps.{IsRefusal};

@@ -14,8 +14,8 @@ use Rattle.kat_model.specs.declared.expression.Width.TheVariants.{W8, W16, W32, 
 use Rattle.kat_model.proofs.Options.{some_of_map, some_of_then, some_of_cond}
 use Rattle.text_scopes.specs.ScopeParts.{ScopeParts, meaning}
 use Rattle.text_grammar.specs.Terminals.{value_from}
-use Rattle.file_parts.specs.Files.{FileParts}
-use Rattle.file_parts.specs.Concrete.{IsStoreOf}
+use Rattle.while_lang.specs.Files.{FileParts}
+use Rattle.while_lang.specs.Concrete.{IsStoreOf}
 use Rattle.tool_commands.specs.Numbers.{is_number, number_below}
 use Rattle.tool_commands.specs.StoreWords.{Values, is_free, variable_meant, setting_of, with_setting, with_item, with_items, values_of, store_of}
 

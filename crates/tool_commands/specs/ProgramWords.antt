@@ -2,7 +2,7 @@
 use Rattle.std.specs.Prelude.{ℕ, List, Option, None, Some, if◌then◌else◌}
 use Rattle.std.specs.Option.{option_map}
 use Rattle.while_lang.specs.Programs.{ProgTree, is_concrete}
-use Rattle.file_parts.specs.Files.{FileParts, prog_named}
+use Rattle.while_lang.specs.Files.{FileParts, prog_named}
 
 -- the program, if it is concrete
 abbrev pub where_concrete : Option ProgTree → Option ProgTree

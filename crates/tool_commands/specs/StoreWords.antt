@@ -8,7 +8,7 @@ use Rattle.kat_model.specs.declared.expression.Width.{Width}
 use Rattle.text_scopes.specs.declared.meaning.Meaning.{Meaning}
 use Rattle.text_scopes.specs.declared.meaning.Meaning.TheVariants.{Var}
 use Rattle.text_scopes.specs.ScopeParts.{ScopeParts, meaning}
-use Rattle.file_parts.specs.Files.{FileParts}
+use Rattle.while_lang.specs.Files.{FileParts}
 use Rattle.tool_commands.specs.Numbers.{number_below}
 
 -- the variable with this meaning, if it is a variable

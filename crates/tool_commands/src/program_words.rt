@@ -3,8 +3,7 @@ ghost use Rattle.std.specs.Prelude.{◌≡◌};
 ghost use Rattle.std.specs.Option.{option_map};
 ghost use Rattle.tool_commands.specs.ProgramWords.{program_of};
 
-use file_parts::File;
-use while_lang::Prog;
+use while_lang::{File, Prog};
 
 /// Returns the program of the file with this name, if it is concrete: no named test and no action occurs in it. `None`
 /// if there is no such program.

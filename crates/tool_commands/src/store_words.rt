@@ -7,11 +7,10 @@ ghost use Rattle.text_scopes.specs.ScopeParts.{meaning};
 ghost use Rattle.tool_commands.specs.StoreWords.{variable_meant, setting_of, with_setting, with_item, with_items, values_of, store_of};
 
 use crate::numbers::number_within;
-use file_parts::File;
 use kat_model::{NoMemory, Width};
 use std::alloc::Global;
 use text_scopes::{Meaning, Scope};
-use while_lang::Store;
+use while_lang::{File, Store};
 
 // Returns the variable with this name, if any.
 fn variable_of(scope: &Scope, name: &str) -> Option<usize>

@@ -8,8 +8,8 @@ use Rattle.kat_model.specs.Relations.{Same}
 use Rattle.kat_model.specs.Trees.{Term}
 use Rattle.text_scopes.specs.ScopeParts.{empty_scope}
 use Rattle.while_lang.specs.Programs.{ProgTree}
-use Rattle.file_parts.specs.Files.{FileParts, GoalTree, equal, triple, prog_side}
-use Rattle.file_parts.specs.Concrete.{Agrees}
+use Rattle.while_lang.specs.Files.{FileParts, GoalTree, equal, triple, prog_side}
+use Rattle.while_lang.specs.Concrete.{Agrees}
 use Rattle.abstraction.specs.declared.fault.AbstractFault.{AbstractFault}
 use Rattle.abstraction.specs.declared.fault.AbstractFault.TheVariants.{TooManyTests, TooManyActions, ProblemTooLarge}
 use Rattle.abstraction.specs.Tables.{first_comparisons, file_assignments}

@@ -4,10 +4,10 @@ use Rattle.std.specs.Prelude.{◌≡◌, ◌⊎◌, ◌↔◌, ℕ, ◌+◌, max
 use Rattle.std.specs.Fmt.{decimal}
 use Rattle.kat_model.specs.Members.{Has}
 use Rattle.kat_model.specs.Relations.{Same}
-use Rattle.file_parts.specs.Files.{GoalTree, FileParts}
+use Rattle.while_lang.specs.Files.{GoalTree, FileParts}
 use Rattle.problem_file.specs.Reads.{ReadsAll, FirstFaultOfAll}
 use Rattle.problem_file.specs.Laws.{ReadsBoth}
-use Rattle.file_parts.specs.Concrete.{IsConcrete, Agrees}
+use Rattle.while_lang.specs.Concrete.{IsConcrete, Agrees}
 use Rattle.abstraction.specs.Abstracts.{AbstractParts, abstract_of, with_goal}
 use Rattle.abstraction.specs.Readings.{Reading, KeepsStated, GoalHoldsBy}
 use Rattle.tool_inputs.specs.TextProblem.{IsFaultOf, HasNoAbstraction}

@@ -3,10 +3,10 @@ ghost use Rattle.std.specs.Prelude.{◌≡◌, ◌++◌, ℕ, max, List, map, If
 ghost use Rattle.std.specs.Fmt.{decimal};
 ghost use Rattle.kat_model.specs.Members.{Has};
 ghost use Rattle.abstraction.specs.Abstracts.{AbstractParts, HasNumbersInRange, abstract_of, with_goal};
-ghost use Rattle.file_parts.specs.Files.{GoalTree, FileParts};
+ghost use Rattle.while_lang.specs.Files.{GoalTree, FileParts};
 ghost use Rattle.problem_file.specs.Reads.{ReadsAll, FirstFaultOfAll};
 ghost use Rattle.problem_file.specs.Laws.{ReadsBoth};
-ghost use Rattle.file_parts.specs.Trees.{goal_tree};
+ghost use Rattle.while_lang.specs.Trees.{goal_tree};
 ghost use Rattle.tool_inputs.specs.TextProblem.{IsFaultOf, HasNoAbstraction};
 ghost use Rattle.tool_inputs.specs.Steps.{IsRefusal};
 ghost use Rattle.tool_decide.specs.Decide.{IsDecided};

@@ -1,9 +1,9 @@
 //! `decide` with `--json`: replies to a text with a report of the decision of the problem that it poses.
 ghost use Rattle.std.specs.Prelude.{◌≡◌, Ok, IfOk};
 ghost use Rattle.kat_model.specs.Problems.{ProblemParts};
-ghost use Rattle.file_parts.specs.Files.{FileParts};
+ghost use Rattle.while_lang.specs.Files.{FileParts};
 ghost use Rattle.problem_file.specs.Reads.{Reads};
-ghost use Rattle.file_parts.specs.Concrete.{IsConcrete, Agrees};
+ghost use Rattle.while_lang.specs.Concrete.{IsConcrete, Agrees};
 ghost use Rattle.abstraction.specs.Abstracts.{AbstractParts, abstract_of};
 ghost use Rattle.abstraction.specs.Readings.{Reading, KeepsStated, GoalHoldsBy};
 ghost use Rattle.tool_inputs.specs.FileProblem.{Asks};

@@ -1,3 +1,8 @@
+pub mod Composition
+pub mod Accepted
+pub mod PlacePaths
+pub mod Ends
+pub mod Steps
 pub mod Appending
 pub mod Refuted
 pub mod ShownFiles

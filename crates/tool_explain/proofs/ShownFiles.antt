@@ -1,6 +1,6 @@
 -- A text is read as a file with an abstraction, or poses no problem.
 use Rattle.std.proofs.Common.{ℕ, List, Result, Ok, Err, inl, inr, sym, ap, subst, ◌∙◌}
-use Rattle.file_parts.specs.Files.{FileParts}
+use Rattle.while_lang.specs.Files.{FileParts}
 use Rattle.problem_file.specs.Reads.{Reads}
 use Rattle.abstraction.specs.Abstracts.{abstract_of}
 use Rattle.tool_inputs.specs.declared.reply.EarlyEnd.{EarlyEnd}

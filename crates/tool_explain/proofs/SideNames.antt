@@ -7,8 +7,8 @@ use Rattle.std.proofs.lemmas.Option.{same_Some, none-some, slice_get_read, slice
 use Rattle.while_lang.specs.Programs.{ProgTree}
 use Rattle.while_lang.specs.NamedProgs.{ProgParts, prog_parts, parts_of_progs}
 use Rattle.while_lang.specs.declared.named.NamedProg.{NamedProg}
-use Rattle.file_parts.specs.Trees.{names_of_progs}
-use Rattle.file_parts.specs.Files.{FileParts}
+use Rattle.while_lang.specs.Trees.{names_of_progs}
+use Rattle.while_lang.specs.Files.{FileParts}
 use Rattle.tool_explain.specs.Differences.{IsListed, IsNameOfProg}
 
 module _ (ns : List NamedProg) where

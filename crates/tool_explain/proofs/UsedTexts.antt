@@ -5,9 +5,9 @@ use Rattle.std.proofs.lemmas.List.{length-map}
 use Rattle.kat_model.specs.declared.tree.Kat.{Kat}
 use Rattle.kat_model.specs.Trees.{Term, kat_tree}
 use Rattle.text_print.specs.Printing.{name_of}
-use Rattle.file_parts.specs.Files.{FileParts}
+use Rattle.while_lang.specs.Files.{FileParts}
 use Rattle.abstraction.specs.Abstracts.{AbstractParts}
-use Rattle.abstraction.specs.Rule.{Rule}
+use Rattle.abstraction.specs.declared.rule.Rule.{Rule}
 use Rattle.certificate.specs.Certs.{CertParts}
 use Rattle.tool_explain.specs.Used.{marked}
 use Rattle.tool_explain.specs.Certificates.{pairs_line, count_line, rules_text, certificate_text}

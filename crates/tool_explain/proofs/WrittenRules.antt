@@ -6,7 +6,7 @@ use Rattle.std.specs.List.{zip}
 use Rattle.kat_model.specs.Trees.{Term}
 use Rattle.text_scopes.specs.declared.meaning.Meaning.{Meaning}
 use Rattle.abstraction.specs.Abstracts.{AbstractParts}
-use Rattle.abstraction.specs.Rule.{Rule}
+use Rattle.abstraction.specs.declared.rule.Rule.{Rule}
 use Rattle.kat_report.specs.Shows.{is_new}
 use Rattle.tool_explain.specs.Certificates.{rule_line, rules_text}
 

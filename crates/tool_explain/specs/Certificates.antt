@@ -7,10 +7,10 @@ use Rattle.kat_model.specs.Stores.{modulus}
 use Rattle.text_scopes.specs.declared.meaning.Meaning.{Meaning}
 use Rattle.text_print.specs.Printing.{name_of}
 use Rattle.problem_texts.specs.Questions.{hyp_text}
-use Rattle.file_parts.specs.Files.{FileParts}
+use Rattle.while_lang.specs.Files.{FileParts}
 use Rattle.abstraction.specs.Abstracts.{AbstractParts}
-use Rattle.abstraction.specs.Rule.{Rule}
-use Rattle.abstraction.specs.Rule.TheVariants.{Stated, Assign, F1, F2, F3, F4, F5, F6}
+use Rattle.abstraction.specs.declared.rule.Rule.{Rule}
+use Rattle.abstraction.specs.declared.rule.Rule.TheVariants.{Stated, Assign, F1, F2, F3, F4, F5, F6}
 use Rattle.certificate.specs.Certs.{CertParts}
 use Rattle.certificate.specs.Accepted.{IsAccepted}
 use Rattle.certificate.specs.declared.nodes.Style.{Style}

@@ -8,15 +8,15 @@ use Rattle.kat_model.specs.Strings.{Move, GuardedString}
 use Rattle.text_scopes.specs.declared.meaning.Meaning.{Meaning}
 use Rattle.text_print.specs.Printing.{name_of}
 use Rattle.while_lang.specs.Programs.{ProgTree}
-use Rattle.file_parts.specs.Files.{SideTree, term_side, prog_side, GoalTree, equal, below, triple, FileParts}
+use Rattle.while_lang.specs.Files.{SideTree, term_side, prog_side, GoalTree, equal, below, triple, FileParts}
 use Rattle.abstraction.specs.declared.rows.TestRow.{TestRow}
 use Rattle.abstraction.specs.declared.rows.ActionRow.{ActionRow}
 use Rattle.abstraction.specs.Abstracts.{AbstractParts}
 use Rattle.abstraction.specs.ShownTables.{shown_tables}
 use Rattle.abstraction.specs.Tests.{prog_flow}
-use Rattle.while_places.specs.declared.place.Place.{Place}
-use Rattle.while_places.specs.declared.place.Place.TheVariants.{Ended, Blocked, AtAction}
-use Rattle.while_places.specs.Places.{place_of}
+use Rattle.tool_explain.specs.declared.place.Place.{Place}
+use Rattle.tool_explain.specs.declared.place.Place.TheVariants.{Ended, Blocked, AtAction}
+use Rattle.tool_explain.specs.Places.{place_of}
 use Rattle.kat_report.specs.Paths.{path_text}
 use Rattle.tool_explain.specs.Signed.{is_same, literal_text, action_at_text}
 

@@ -1,3 +1,4 @@
+pub mod Walks
 pub mod Findings
 pub mod FormParts
 pub mod ShownTexts

@@ -13,11 +13,11 @@ use crate::used::{marked_hyps, marked_rules, used_marks};
 use crate::writing::{put, put_numbered};
 use abstraction::{Abstract, Rule};
 use certificate::{Cert, Evidence, Style};
-use file_parts::File;
 use kat_model::{Kat, NoMemory};
 use problem_texts::put_hyp;
 use std::alloc::Global;
 use text_scopes::Scope;
+use while_lang::File;
 
 fn style_text(style: Style) -> &'static [u8]
     ensures { result.now ≡ style_text style }

@@ -1,6 +1,6 @@
 //! `explain`: evidence that shows what it says, in the words of the file.
 ghost use Rattle.std.specs.Prelude.{◌≡◌, ◌++◌, [], None, Ok, IfOk, OnOk};
-ghost use Rattle.file_parts.specs.Files.{FileParts};
+ghost use Rattle.while_lang.specs.Files.{FileParts};
 ghost use Rattle.problem_file.specs.Reads.{Reads};
 ghost use Rattle.abstraction.specs.Abstracts.{AbstractParts, abstract_of};
 ghost use Rattle.string_tables.specs.Findings.{IsFinding};
@@ -19,13 +19,13 @@ use crate::states::put_string;
 use abstraction::Abstract;
 use cert_checker::{Answer, Reason, check};
 use certificate::{Cert, Evidence};
-use file_parts::File;
 use kat_model::{NoMemory, Problem};
 use kat_report::reason_line;
 use std::alloc::Global;
 use string_tables::{Finding, GString, verdict};
 use tool_check::evidence_in;
 use tool_inputs::{EarlyEnd, PairCommand, Reply, reply_to_pair};
+use while_lang::File;
 
 // Returns a rejection for this reason.
 fn rejection(alloc: Global, reason: &Reason) -> Result<Reply, NoMemory>

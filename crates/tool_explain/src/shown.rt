@@ -7,9 +7,9 @@ ghost use Rattle.tool_inputs.specs.ReplySpecs.{Yields};
 ghost use Rattle.tool_explain.specs.Working.ShownTexts.{IsShown, IsShownFile};
 
 use abstraction::Abstract;
-use file_parts::File;
 use std::alloc::Global;
 use tool_inputs::{EarlyEnd, TextQuestion, abstract_in, file_of};
+use while_lang::File;
 
 /// A file and its abstraction.
 pub struct ShownFile {

@@ -1,17 +1,16 @@
 //! The sides of a goal: their names, which one relates the ends of a string, and where each program is then.
 ghost use Rattle.std.specs.Prelude.{◌≡◌, ◌++◌, ℕ, None, IfSome, OnOk};
-ghost use Rattle.file_parts.specs.Trees.{goal_tree, side_tree};
+ghost use Rattle.while_lang.specs.Trees.{goal_tree, side_tree};
 ghost use Rattle.tool_explain.specs.Differences.{IsNameOfProg, IsListed, IsSideName, AreSideNames, relation_line, sides_line, triple_line, place_line, blocked_line, at_action_line, ended_line, side_line, goal_lines};
 
+use crate::place::{Place, place_of};
 use crate::writing::{put, put_numbered};
 use abstraction::{Abstract, flow_of};
-use file_parts::{File, Goal, Side};
 use kat_model::NoMemory;
 use kat_report::put_path;
 use std::alloc::Global;
 use string_tables::GString;
-use while_lang::Prog;
-use while_places::{Place, place_of};
+use while_lang::{File, Goal, Prog, Side};
 
 // Returns the name of the first program of the file that is this program.
 fn prog_name<'a>(file: &'a File, prog: &Prog) -> Option<&'a [u8]>

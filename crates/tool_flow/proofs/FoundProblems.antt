@@ -7,8 +7,8 @@ use Rattle.flow_ways.specs.Sorted.{IsSortedGraph}
 use Rattle.flow_text.specs.Trees as read
 use Rattle.flow_text.specs.Checking.{FlowFileParts, graph_or_none, pair_of}
 use Rattle.flow_sorts.proofs.ReadGraphs.{graph_whole}
-use Rattle.flow_whole.specs.WholeGraphs.{are_whole_blocks}
-use Rattle.flow_facts.specs.HypothesisViews.{flow_rule}
+use Rattle.flow_sorts.specs.WholeGraphs.{are_whole_blocks}
+use Rattle.flow_questions.specs.HypothesisViews.{flow_rule}
 use Rattle.flow_problem.specs.FlowProblems.{FlowQuestion}
 use Rattle.flow_problem.specs.PlacedProblems.{IsFlowPair, IsFlowProblem}
 use Rattle.flow_questions.specs.declared.fault.FlowFault.{FlowFault}

@@ -6,18 +6,18 @@ use Rattle.kat_model.specs.declared.limits.TheConstants.{MAX_TESTS, MAX_ACTIONS,
 use Rattle.kat_model.specs.Trees.{Term}
 use Rattle.kat_model.specs.Stores.{modulus}
 use Rattle.kat_model.specs.Problems.{ProblemParts, IsProblem, problem_size}
-use Rattle.file_parts.specs.Files.{FileParts, GoalTree, term_side, equal}
+use Rattle.while_lang.specs.Files.{FileParts, GoalTree, term_side, equal}
 use Rattle.abstraction.specs.declared.fault.AbstractFault.TheVariants.{TooManyTests, TooManyActions, ProblemTooLarge}
 use Rattle.abstraction.specs.Comparisons.{goal_comparisons, goal_assignments}
 use Rattle.linear_forms.specs.Sameness.{is_same_comparison}
 use Rattle.abstraction.specs.Tables.{Tables, is_same_assignment, first_comparisons, file_assignments}
-use Rattle.unique_rows.specs.UniqueRows.{with_all_new}
+use Rattle.kat_model.specs.UniqueRows.{with_all_new}
 use Rattle.abstraction.specs.Rounds.{rounds, tables_of}
 use Rattle.abstraction.specs.Goals.{goal_sides}
 use Rattle.abstraction.specs.Derived.{stated_from, hypotheses}
 use Rattle.abstraction.specs.Abstracts.{file_problem, abstract_parts, abstract_of}
-use Rattle.abstract_tables.proofs.AppendedRows.{no_rounds}
-use Rattle.abstract_hypotheses.proofs.NumberedRows.{stated_terms}
+use Rattle.abstraction.proofs.AppendedRows.{no_rounds}
+use Rattle.abstraction.proofs.NumberedRows.{stated_terms}
 use Rattle.problem_texts.specs.Laws.{AsksEqual}
 use Rattle.tool_inputs.specs.FileProblem.{Asks}
 

@@ -3,8 +3,8 @@ use Rattle.std.proofs.Common.{◌≡◌, ℕ, List, sym, subst}
 use Rattle.kat_model.specs.declared.expression.Width.{Width}
 use Rattle.kat_model.specs.Expressions.{CondTree}
 use Rattle.while_lang.specs.Programs.{ProgTree}
-use Rattle.file_parts.specs.Files.{equal, triple, prog_side}
-use Rattle.file_parts.specs.Concrete.{EndAlike, MeetsTriple, GoalAgrees, Agrees}
+use Rattle.while_lang.specs.Files.{equal, triple, prog_side}
+use Rattle.while_lang.specs.Concrete.{EndAlike, MeetsTriple, GoalAgrees, Agrees}
 use Rattle.problem_texts.specs.ProgramTexts.{programs_text, triple_text, ArePrintable, IsTriplePrintable}
 use Rattle.problem_texts.specs.Laws.{AsksOfPrograms}
 use Rattle.problem_texts.proofs.ProgramReadings.{programs_read_back, triples_read_back}

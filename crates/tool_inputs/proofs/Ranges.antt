@@ -1,6 +1,6 @@
 -- The file that a text is read as has its numbers in range.
 use Rattle.std.proofs.Common.{ℕ, List}
-use Rattle.file_parts.specs.Files.{FileParts}
+use Rattle.while_lang.specs.Files.{FileParts}
 use Rattle.problem_file.specs.Reads.{Reads}
 use Rattle.problem_file.proofs.NumberedStates.{are_in_ranges}
 use Rattle.abstraction.specs.Abstracts.{HasNumbersInRange}

@@ -9,7 +9,7 @@ use Rattle.certificate.specs.declared.evidence.Evidence.{Evidence}
 use Rattle.certificate.specs.declared.evidence.EvidenceFault.{EvidenceFault}
 use Rattle.certificate.specs.Faults.{line_fault}
 use Rattle.certificate.proofs.Exactness.{texts_differ_lem, is_text_or_faulty_lem}
-use Rattle.file_parts.specs.Files.{FileParts}
+use Rattle.while_lang.specs.Files.{FileParts}
 use Rattle.problem_file.specs.FirstFaults.{too_long, no_text}
 use Rattle.problem_file.specs.Reads.{Reads, FirstFault}
 use Rattle.problem_file.specs.Laws.{HaveOneAnswer}

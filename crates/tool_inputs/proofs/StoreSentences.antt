@@ -2,9 +2,9 @@
 use Rattle.std.proofs.Common.{ℕ, List, subst}
 use Rattle.kat_model.specs.Problems.{ProblemParts}
 use Rattle.kat_model.specs.Relations.{Same}
-use Rattle.file_parts.specs.Files.{FileParts}
+use Rattle.while_lang.specs.Files.{FileParts}
 use Rattle.problem_file.specs.Reads.{Reads}
-use Rattle.file_parts.specs.Concrete.{IsConcrete, Agrees}
+use Rattle.while_lang.specs.Concrete.{IsConcrete, Agrees}
 use Rattle.problem_file.proofs.OneAnswer.{have_one_answer}
 use Rattle.abstraction.proofs.DerivedHypotheses.{derived_hold}
 use Rattle.abstraction.proofs.Agreement.{same_agrees}

@@ -1,7 +1,7 @@
 -- The parts of a reply to a text that has a question, or has none, combined.
 use Rattle.std.proofs.Common.{ℕ, List, Result, Ok, Err, inl, inr, subst}
 use Rattle.kat_model.specs.Problems.{ProblemParts}
-use Rattle.file_parts.specs.Files.{FileParts}
+use Rattle.while_lang.specs.Files.{FileParts}
 use Rattle.problem_file.specs.Reads.{Reads}
 use Rattle.tool_inputs.specs.declared.reply.EarlyEnd.{EarlyEnd}
 use Rattle.tool_inputs.specs.FileProblem.{Asks}

@@ -1,7 +1,7 @@
 -- The problem that is the question of a text.
 use Rattle.std.specs.Prelude.{◌≡◌, ℕ, List, Ok}
 use Rattle.kat_model.specs.Problems.{ProblemParts}
-use Rattle.file_parts.specs.Files.{FileParts}
+use Rattle.while_lang.specs.Files.{FileParts}
 use Rattle.problem_file.specs.Reads.{Reads}
 use Rattle.abstraction.specs.Abstracts.{AbstractParts, abstract_of}
 

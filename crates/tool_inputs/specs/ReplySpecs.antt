@@ -2,7 +2,7 @@
 use Rattle.std.specs.Prelude.{◌≡◌, ◌⊎◌, ℕ, List, Result, Ok, Err}
 use Rattle.kat_model.specs.declared.tree.NoMemory.{NoMemory as OutOfMemory}
 use Rattle.kat_model.specs.Problems.{ProblemParts}
-use Rattle.file_parts.specs.Files.{FileParts}
+use Rattle.while_lang.specs.Files.{FileParts}
 use Rattle.abstraction.specs.Abstracts.{AbstractParts, abstract_of}
 use Rattle.tool_inputs.specs.declared.reply.Reply.{Reply}
 use Rattle.tool_inputs.specs.declared.reply.EarlyEnd.{EarlyEnd}

@@ -8,7 +8,7 @@ use Rattle.kat_model.specs.Stores.{Store, IsStore, holds}
 use Rattle.text_scopes.specs.ScopeParts.{empty_scope}
 use Rattle.while_lang.specs.Programs.{ProgTree}
 use Rattle.while_lang.specs.Runs.{Ends}
-use Rattle.file_parts.specs.Files.{GoalTree, equal, triple, prog_side, FileParts}
+use Rattle.while_lang.specs.Files.{GoalTree, equal, triple, prog_side, FileParts}
 use Rattle.abstraction.specs.Abstracts.{AbstractParts, abstract_of}
 use Rattle.abstraction.specs.declared.fault.AbstractFault.{AbstractFault}
 use Rattle.abstraction.specs.declared.fault.AbstractFault.TheVariants.{TooManyTests, TooManyActions, ProblemTooLarge}

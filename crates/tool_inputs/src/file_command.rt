@@ -1,8 +1,8 @@
 //! Commands on the file that a text is read as. Their replies to the bytes of a text and to a file of the shelf follow
 //! from the reply to what is read.
 ghost use Rattle.std.specs.Prelude.{◌≡◌, ℕ, List, IfOk};
-ghost use Rattle.file_parts.specs.Files.{FileParts};
-ghost use Rattle.file_parts.specs.Ranges.{IsNumbered};
+ghost use Rattle.while_lang.specs.Files.{FileParts};
+ghost use Rattle.while_lang.specs.Ranges.{IsNumbered};
 ghost use Rattle.abstraction.specs.Abstracts.{HasNumbersInRange};
 ghost use Rattle.tool_inputs.specs.TextProblem.{IsRead};
 ghost use Rattle.tool_inputs.specs.Steps.{shelf_use, ReadsText};
@@ -12,10 +12,10 @@ ghost use Rattle.tool_inputs.specs.ReplySpecs.{RepliesWith, KeepsFaultCount};
 use crate::getting::file_text;
 use crate::reply::{EarlyEnd, Reply, into_reply};
 use crate::text_problem::file_of;
-use file_parts::File;
 use kat_io::Shelf;
 use kat_model::NoMemory;
 use std::alloc::Global;
+use while_lang::File;
 
 /// A command on the file that a text is read as, with the words after its file. `steps` are its possible replies to
 /// what is read, and `replies` those to the bytes of a text.

@@ -1,7 +1,7 @@
 //! The problem of a file, which is that of its abstraction.
 ghost use Rattle.std.specs.Prelude.{◌≡◌, ◌≢◌, Ok};
 ghost use Rattle.abstraction.specs.declared.fault.AbstractFault.TheVariants.{NoMemory as NoRoom};
-ghost use Rattle.file_parts.specs.Trees.{goal_tree};
+ghost use Rattle.while_lang.specs.Trees.{goal_tree};
 ghost use Rattle.abstraction.specs.Abstracts.{HasNumbersInRange, abstract_of, with_goal};
 ghost use Rattle.kat_report.specs.AbstractRefusals.{abstract_fault_line};
 ghost use Rattle.tool_inputs.specs.TextProblem.{HasNoAbstraction};
@@ -10,10 +10,10 @@ ghost use Rattle.tool_inputs.specs.ReplySpecs.{Yields, EndsWith, IsQuestionOf};
 
 use crate::reply::{EarlyEnd, Reply};
 use abstraction::{Abstract, AbstractFault, abstracted, abstracted_for};
-use file_parts::{File, Goal};
 use kat_model::{NoMemory, Problem};
 use kat_report::abstract_fault_line;
 use std::alloc::Global;
+use while_lang::{File, Goal};
 
 // Returns the reply to a file that has no abstraction for this reason: a refusal, unless memory ran out.
 fn fault_stop(alloc: Global, fault: AbstractFault) -> EarlyEnd

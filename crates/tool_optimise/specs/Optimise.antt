@@ -2,10 +2,10 @@
 use Rattle.std.specs.Prelude.{◌≡◌, ◌≤◌, ◌⊎◌, ◌↔◌, ℕ, List, length, Option, None, Some}
 use Rattle.std.specs.Option.{option_map}
 use Rattle.while_lang.specs.Programs.{ProgTree}
-use Rattle.file_parts.specs.Files.{FileParts, prog_named}
+use Rattle.while_lang.specs.Files.{FileParts, prog_named}
 use Rattle.problem_file.specs.Reads.{Reads}
-use Rattle.optimiser_theory.specs.Logs.{LogLineParts, IsLog, IsFinished, HasStep}
-use Rattle.optimiser_theory.specs.Meanings.{KeepsInTables, KeepsFromStores}
+use Rattle.optimiser_steps.specs.Logs.{LogLineParts, IsLog, IsFinished, HasStep}
+use Rattle.optimiser_steps.specs.Meanings.{KeepsInTables, KeepsFromStores}
 use Rattle.optimiser_steps.specs.declared.optimising.Ended.{Ended}
 use Rattle.optimiser_steps.specs.declared.optimising.Ended.TheVariants.{Done, TurnLimit}
 use Rattle.tool_inputs.specs.TextProblem.{IsFaulty}

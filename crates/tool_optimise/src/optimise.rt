@@ -1,17 +1,16 @@
 //! `optimise`: replies to a text and the name of a program with the log of the optimiser and the resulting program.
 ghost use Rattle.std.specs.Prelude.{IfOk};
-ghost use Rattle.file_parts.specs.Files.{FileParts};
+ghost use Rattle.while_lang.specs.Files.{FileParts};
 ghost use Rattle.problem_file.specs.Reads.{Reads};
-ghost use Rattle.optimiser_theory.specs.Meanings.{HasProgInRange};
+ghost use Rattle.optimiser_steps.specs.Meanings.{HasProgInRange};
 ghost use Rattle.tool_optimise.specs.Optimise.{PrintsOptimised, OptimisesFile, OptimiseHeadline, OptimiseReply};
 
 use crate::log_text::optimised_text;
-use file_parts::File;
 use kat_model::NoMemory;
 use optimiser_steps::optimise;
 use std::alloc::Global;
 use tool_inputs::{EarlyEnd, FileCommand, Reply, reply_to_bytes, unfit_stop};
-use while_lang::Prog;
+use while_lang::{File, Prog};
 
 // Returns the log of a program of the file, with the resulting program.
 fn log_of(

@@ -2,10 +2,10 @@
 use Rattle.std.specs.Prelude.{◌≡◌, ◌⊎◌, ◌↔◌, ℕ, List}
 use Rattle.kat_model.specs.Problems.{ProblemParts}
 use Rattle.kat_model.specs.Relations.{Same}
-use Rattle.file_parts.specs.Files.{FileParts}
+use Rattle.while_lang.specs.Files.{FileParts}
 use Rattle.problem_file.specs.Reads.{Reads}
-use Rattle.file_parts.specs.Concrete.{IsConcrete, Agrees}
-use Rattle.outline_notes.specs.NoteLists.{NotesParts}
+use Rattle.while_lang.specs.Concrete.{IsConcrete, Agrees}
+use Rattle.outline_rules.specs.NoteLists.{NotesParts}
 use Rattle.outline_rules.specs.Tasks.{TaskParts}
 use Rattle.outline_rules.specs.Follows.{Follows}
 use Rattle.tool_inputs.specs.FileProblem.{Asks}

@@ -2,13 +2,13 @@
 use Rattle.std.specs.Prelude.{◌≡◌, ◌⊎◌, ◌↔◌, ℕ, List, Some}
 use Rattle.kat_model.specs.Problems.{ProblemParts}
 use Rattle.kat_model.specs.Relations.{Same}
-use Rattle.file_parts.specs.Files.{FileParts}
+use Rattle.while_lang.specs.Files.{FileParts}
 use Rattle.problem_file.specs.Reads.{Reads}
-use Rattle.file_parts.specs.Concrete.{IsConcrete, Agrees}
-use Rattle.outline_notes.specs.NoteLists.{NotesParts}
-use Rattle.outline_notes.specs.Texts.{text_of, AreNarrowNotes}
-use Rattle.outline_notes.specs.Faults.{notes_fault}
-use Rattle.outline_notes.specs.declared.fault.NotesFault.{NotesFault}
+use Rattle.while_lang.specs.Concrete.{IsConcrete, Agrees}
+use Rattle.outline_rules.specs.NoteLists.{NotesParts}
+use Rattle.outline_rules.specs.Texts.{text_of, AreNarrowNotes}
+use Rattle.outline_rules.specs.Faults.{notes_fault}
+use Rattle.outline_rules.specs.declared.fault.NotesFault.{NotesFault}
 use Rattle.outline_rules.specs.declared.answer.NoteReason.{NoteReason}
 use Rattle.outline_rules.specs.Tasks.{TaskParts}
 use Rattle.outline_rules.specs.Follows.{Follows}

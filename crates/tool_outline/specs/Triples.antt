@@ -2,7 +2,7 @@
 use Rattle.std.specs.Prelude.{◌≡◌, ◌⊎◌, ℕ, List, Option, None, Some}
 use Rattle.kat_model.specs.Trees.{Term}
 use Rattle.kat_model.specs.Problems.{ProblemParts}
-use Rattle.file_parts.specs.Files.{term_side, prog_side, GoalTree, equal, below, triple, FileParts}
+use Rattle.while_lang.specs.Files.{term_side, prog_side, GoalTree, equal, below, triple, FileParts}
 use Rattle.abstraction.specs.Tables.{Tables}
 use Rattle.abstraction.specs.Rounds.{tables_of}
 use Rattle.abstraction.specs.Tests.{cond_test, prog_flow}

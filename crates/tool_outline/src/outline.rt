@@ -2,11 +2,11 @@
 //! fails.
 ghost use Rattle.std.specs.Prelude.{◌≡◌, IfOk};
 ghost use Rattle.kat_model.specs.Problems.{ProblemParts};
-ghost use Rattle.file_parts.specs.Files.{FileParts};
+ghost use Rattle.while_lang.specs.Files.{FileParts};
 ghost use Rattle.problem_file.specs.Reads.{Reads};
-ghost use Rattle.file_parts.specs.Concrete.{IsConcrete, Agrees};
+ghost use Rattle.while_lang.specs.Concrete.{IsConcrete, Agrees};
 ghost use Rattle.hypothesis_kinds.specs.TestTerms.{AreSimple};
-ghost use Rattle.outline_notes.specs.Texts.{AreNarrowNotes};
+ghost use Rattle.outline_rules.specs.Texts.{AreNarrowNotes};
 ghost use Rattle.outline_rules.specs.Tasks.{task_parts, IsTripleOf};
 ghost use Rattle.outline_rules.specs.Follows.{HasTests};
 ghost use Rattle.tool_outline.specs.OutlineCheck.{SpellsNotes};

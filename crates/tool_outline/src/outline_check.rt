@@ -1,11 +1,11 @@
 //! `outline` of a file and notes: checks whether bytes are notes that prove the triple that a text asks.
 ghost use Rattle.std.specs.Prelude.{◌≡◌, ◌≢◌, [], None, IfOk};
 ghost use Rattle.kat_model.specs.Problems.{ProblemParts};
-ghost use Rattle.file_parts.specs.Files.{FileParts};
+ghost use Rattle.while_lang.specs.Files.{FileParts};
 ghost use Rattle.problem_file.specs.Reads.{Reads};
-ghost use Rattle.file_parts.specs.Concrete.{IsConcrete, Agrees};
+ghost use Rattle.while_lang.specs.Concrete.{IsConcrete, Agrees};
 ghost use Rattle.hypothesis_kinds.specs.TestTerms.{AreSimple};
-ghost use Rattle.outline_notes.specs.declared.fault.NotesFault.TheVariants.{NoMemory as NoRoom};
+ghost use Rattle.outline_rules.specs.declared.fault.NotesFault.TheVariants.{NoMemory as NoRoom};
 ghost use Rattle.outline_rules.specs.Tasks.{task_parts, IsTripleOf};
 ghost use Rattle.kat_report.specs.OutlineLines.{notes_fault_line, note_reason_line};
 ghost use Rattle.tool_outline.specs.OutlineCheck.{SpellsNotes, IsNoNotes, AreChecked, ChecksNotes, NotesHeadline, OutlineCheckReply};

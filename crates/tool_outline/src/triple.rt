@@ -1,7 +1,7 @@
 //! The triple of a program that a text asks.
 ghost use Rattle.std.specs.Prelude.{◌≡◌, Some, Ok, IfOk};
 ghost use Rattle.std.specs.Option.{option_map};
-ghost use Rattle.file_parts.specs.Trees.{goal_tree};
+ghost use Rattle.while_lang.specs.Trees.{goal_tree};
 ghost use Rattle.abstraction.specs.Abstracts.{HasNumbersInRange, abstract_of};
 ghost use Rattle.abstraction.specs.ShownTables.{shown_tables};
 ghost use Rattle.hypothesis_kinds.specs.TestTerms.{AreSimple};
@@ -13,12 +13,12 @@ ghost use Rattle.tool_inputs.specs.ReplySpecs.{EndsWith, Yields};
 ghost use Rattle.tool_outline.specs.Working.FileTriples.{IsSimpleTriple, IsTripleOfFile, AsksNoTask};
 
 use abstraction::{Abstract, flow_of, test_of};
-use file_parts::{File, Goal, Side};
 use hoare_outlines::{Task, not_simple};
 use kat_model::{NoMemory, Problem};
 use kat_report::{not_a_triple_line, not_simple_line};
 use std::alloc::Global;
 use tool_inputs::{EarlyEnd, Reply, TextQuestion, abstract_in, file_of, refusal};
+use while_lang::{File, Goal, Side};
 
 /// A problem that asks the triple of a program, and that triple.
 pub struct Triple {

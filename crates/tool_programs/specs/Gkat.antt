@@ -7,7 +7,7 @@ use Rattle.text_scopes.specs.ScopeParts.{IsWellFormed}
 use Rattle.text_print.specs.Printing.{name_of}
 use Rattle.problem_texts.specs.Questions.{goal_text}
 use Rattle.problem_texts.specs.NamedTexts.{names_line}
-use Rattle.gkat_terms.specs.Expressions.{kat_of}
+use Rattle.gkat_front.specs.Expressions.{kat_of}
 use Rattle.gkat_front.specs.Files.{GkatFileParts}
 use Rattle.gkat_front.specs.Reads.{Reads, FirstFault}
 use Rattle.tool_inputs.specs.FileProblem.{Asks}

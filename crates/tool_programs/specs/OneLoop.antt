@@ -16,7 +16,7 @@ use Rattle.kat_report.specs.FormRefusals.{form_fault_line}
 use Rattle.one_loop.specs.Statements.{HasTooManyStatements}
 use Rattle.one_loop.specs.Forms.{IsOneForm}
 use Rattle.one_loop.specs.Sizes.{IsSmallForm}
-use Rattle.file_parts.specs.Files.{FileParts}
+use Rattle.while_lang.specs.Files.{FileParts}
 use Rattle.problem_file.specs.Reads.{Reads}
 use Rattle.problem_texts.specs.ProgramNumbers.{ProgIsNarrow}
 use Rattle.problem_texts.specs.ProgramTexts.{one_program_text}

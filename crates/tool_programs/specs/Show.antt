@@ -4,7 +4,7 @@ use Rattle.kat_model.specs.declared.limits.TheConstants.{MAX_HYPS, MAX_OPEN, MAX
 use Rattle.kat_model.specs.Problems.{ProblemParts, IsProblem}
 use Rattle.text_scopes.specs.ScopeParts.{IsWellFormed}
 use Rattle.text_print.specs.Printing.{term_nesting}
-use Rattle.file_parts.specs.Files.{FileParts}
+use Rattle.while_lang.specs.Files.{FileParts}
 use Rattle.problem_file.specs.Reads.{Reads}
 use Rattle.abstraction.specs.Abstracts.{AbstractParts, abstract_of}
 use Rattle.kat_report.specs.Shows.{show_text}

@@ -10,9 +10,9 @@ ghost use Rattle.one_loop.specs.Forms.{IsOneForm};
 ghost use Rattle.one_loop.specs.Sizes.{IsSmallForm};
 ghost use Rattle.one_loop.specs.Variables.{HasVarsBelow};
 ghost use Rattle.problem_texts.specs.ProgramTexts.{one_program_text};
-ghost use Rattle.file_parts.specs.Files.{FileParts};
+ghost use Rattle.while_lang.specs.Files.{FileParts};
 ghost use Rattle.problem_file.specs.Reads.{Reads};
-ghost use Rattle.file_parts.specs.Ranges.{IsNumbered};
+ghost use Rattle.while_lang.specs.Ranges.{IsNumbered};
 ghost use Rattle.tool_commands.specs.ProgramWords.{program_of};
 ghost use Rattle.kat_report.specs.FormRefusals.{form_fault_line};
 ghost use Rattle.tool_programs.specs.OneLoop.{HasForm, HasNoForm, IsCounterName, FormsFile, OneLoopHeadline, OneLoopReply};
@@ -20,7 +20,6 @@ ghost use Rattle.tool_inputs.specs.Steps.{IsRefusal};
 ghost use Rattle.tool_inputs.specs.ReplySpecs.{EndsWith, Yields, RepliesWith};
 
 use crate::counter::counter_name;
-use file_parts::File;
 use kat_model::{NoMemory, Width};
 use kat_report::form_fault_line;
 use one_loop::{OneLoopFault, one_loop};
@@ -29,7 +28,7 @@ use std::alloc::Global;
 use text_scopes::{Meaning, Scope};
 use tool_commands::program_of;
 use tool_inputs::{EarlyEnd, FileCommand, Reply, reply_to_bytes, unfit_stop};
-use while_lang::Prog;
+use while_lang::{File, Prog};
 
 // The reply to a program with this fault, which is a refusal unless memory ran out.
 fn fault_stop(alloc: Global, fault: OneLoopFault) -> EarlyEnd

@@ -2,17 +2,16 @@
 ghost use Rattle.std.specs.Prelude.{◌≡◌, true, IfOk};
 ghost use Rattle.kat_model.specs.Stores.{IsStore};
 ghost use Rattle.while_lang.specs.Programs.{is_concrete};
-ghost use Rattle.file_parts.specs.Files.{FileParts};
+ghost use Rattle.while_lang.specs.Files.{FileParts};
 ghost use Rattle.problem_file.specs.Reads.{Reads};
 ghost use Rattle.tool_programs.specs.Running.{outcome_status, HasRun, RunsFile, RunHeadline, RunReply};
 
-use file_parts::File;
 use kat_model::NoMemory;
 use kat_report::outcome_line;
 use std::alloc::Global;
 use tool_commands::{program_of, store_of};
 use tool_inputs::{EarlyEnd, FileCommand, Reply, reply_to_bytes, unfit_stop};
-use while_lang::{Outcome, Prog, Store, run};
+use while_lang::{File, Outcome, Prog, Store, run};
 
 fn outcome_status(outcome: Outcome) -> u8
     ensures { result ≡ outcome_status outcome }

@@ -5,11 +5,11 @@ ghost use Rattle.text_scopes.specs.ScopeParts.{IsWellFormed};
 ghost use Rattle.tool_programs.specs.Show.{ShowsFile, ShowHeadline, ShowReply};
 
 use abstraction::Abstract;
-use file_parts::File;
 use kat_model::NoMemory;
 use kat_report::show_text;
 use std::alloc::Global;
 use tool_inputs::{EarlyEnd, FileCommand, Reply, abstract_in, reply_to_bytes};
+use while_lang::File;
 
 // Shows that the names of a file are identifiers, and that the problem of an abstraction is within the limits of a
 // problem.

@@ -1,8 +1,8 @@
 -- A text is read as a concrete file with an abstraction, or is refused.
 use Rattle.std.proofs.Common.{◌≡◌, ℕ, List, Result, Ok, Err, inl, inr, sym, ap, subst, ◌∙◌}
-use Rattle.file_parts.specs.Files.{FileParts}
+use Rattle.while_lang.specs.Files.{FileParts}
 use Rattle.problem_file.specs.Reads.{Reads}
-use Rattle.file_parts.specs.Concrete.{IsConcrete}
+use Rattle.while_lang.specs.Concrete.{IsConcrete}
 use Rattle.abstraction.specs.Abstracts.{abstract_of}
 use Rattle.tool_inputs.specs.declared.reply.EarlyEnd.{EarlyEnd}
 use Rattle.tool_inputs.specs.TextProblem.{IsFaulty, HasNoAbstraction}

@@ -1,8 +1,8 @@
 -- Texts that are read as concrete files with an abstraction, and the lines that refuse other texts.
 use Rattle.std.specs.Prelude.{◌≡◌, ◌⊎◌, ℕ, List, Ok}
-use Rattle.file_parts.specs.Files.{FileParts}
+use Rattle.while_lang.specs.Files.{FileParts}
 use Rattle.problem_file.specs.Reads.{Reads}
-use Rattle.file_parts.specs.Concrete.{IsConcrete}
+use Rattle.while_lang.specs.Concrete.{IsConcrete}
 use Rattle.abstraction.specs.Abstracts.{AbstractParts, abstract_of}
 use Rattle.tool_inputs.specs.TextProblem.{IsFaulty, HasNoAbstraction}
 use Rattle.tool_try.specs.TryTexts.{not_concrete_line}

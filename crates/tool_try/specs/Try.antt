@@ -1,9 +1,9 @@
 -- `try` FILE TURNS: its reply to a text, and what it says about the goal.
 use Rattle.std.specs.Prelude.{◌≡◌, ◌⊎◌, ◌↔◌, ℕ, List, length}
 use Rattle.kat_model.specs.Stores.{Store}
-use Rattle.file_parts.specs.Files.{FileParts}
+use Rattle.while_lang.specs.Files.{FileParts}
 use Rattle.problem_file.specs.Reads.{Reads}
-use Rattle.file_parts.specs.Concrete.{IsConcrete, IsStoreOf}
+use Rattle.while_lang.specs.Concrete.{IsConcrete, IsStoreOf}
 use Rattle.store_trials.specs.RunEnds.{EndParts}
 use Rattle.store_trials.specs.Numbers.{AreTriedNumbers}
 use Rattle.store_trials.specs.StoreLists.{all_stores}

@@ -5,9 +5,9 @@ use Rattle.kat_model.specs.Problems.{ProblemParts}
 use Rattle.kat_model.specs.Stores.{Store}
 use Rattle.kat_model.specs.Strings.{GuardedString}
 use Rattle.string_tables.specs.Tables.{Refutes}
-use Rattle.file_parts.specs.Files.{FileParts}
+use Rattle.while_lang.specs.Files.{FileParts}
 use Rattle.problem_file.specs.Reads.{Reads}
-use Rattle.file_parts.specs.Concrete.{IsConcrete}
+use Rattle.while_lang.specs.Concrete.{IsConcrete}
 use Rattle.abstraction.specs.Abstracts.{AbstractParts, abstract_of}
 use Rattle.certificate.specs.Certs.{CertParts}
 use Rattle.certificate.specs.Faults.{line_fault}

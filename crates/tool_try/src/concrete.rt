@@ -6,9 +6,9 @@ ghost use Rattle.tool_try.specs.Questions.{IsConcreteText, DeclinesConcrete, IsC
 
 use crate::texts::not_concrete_line;
 use abstraction::Abstract;
-use file_parts::File;
 use std::alloc::Global;
 use tool_inputs::{EarlyEnd, TextQuestion, abstract_in, file_of, refusal};
+use while_lang::File;
 
 /// A concrete file and its abstraction.
 pub struct ConcreteFile {

@@ -1,19 +1,18 @@
 //! `try` FILE TURNS: tries the goal of a concrete file on stores.
 ghost use Rattle.std.specs.Prelude.{◌≤◌, All, length, IfOk};
-ghost use Rattle.file_parts.specs.Files.{FileParts};
-ghost use Rattle.file_parts.specs.Ranges.{IsNumbered};
+ghost use Rattle.while_lang.specs.Files.{FileParts};
+ghost use Rattle.while_lang.specs.Ranges.{IsNumbered};
 ghost use Rattle.problem_file.specs.Reads.{Reads};
-ghost use Rattle.file_parts.specs.Concrete.{IsConcrete, IsStoreOf};
+ghost use Rattle.while_lang.specs.Concrete.{IsConcrete, IsStoreOf};
 ghost use Rattle.store_trials.specs.Trials.{IsConcreteGoal};
 ghost use Rattle.tool_try.specs.Try.{AreTrialStores, HasTried, TriesStores, TriesFile, TryHeadline, TryReply};
 
 use crate::texts::{not_concrete_line, trial_status, trial_text};
-use file_parts::File;
 use kat_model::NoMemory;
 use std::alloc::Global;
 use store_trials::{all_stores, tried_numbers, try_stores};
 use tool_inputs::{EarlyEnd, FileCommand, Reply, refusal, reply_to_bytes};
-use while_lang::Store;
+use while_lang::{File, Store};
 
 /// Returns the stores on which the goal of a file is tried. Fails only when out of memory.
 pub(crate) fn trial_stores(alloc: Global, file: &File) -> Result<Vec<Store>, NoMemory>

@@ -1,9 +1,9 @@
 //! `try` FILE TURNS EVIDENCE: tries first the stores from which the string of the evidence can be followed.
 ghost use Rattle.std.specs.Prelude.{◌≡◌, ◌≤◌, ◌*◌, ◌++◌, ℕ, List, length, [], None, Ok, IfOk};
-ghost use Rattle.file_parts.specs.Files.{FileParts};
-ghost use Rattle.file_parts.specs.Ranges.{IsNumbered};
+ghost use Rattle.while_lang.specs.Files.{FileParts};
+ghost use Rattle.while_lang.specs.Ranges.{IsNumbered};
 ghost use Rattle.problem_file.specs.Reads.{Reads};
-ghost use Rattle.file_parts.specs.Concrete.{IsConcrete};
+ghost use Rattle.while_lang.specs.Concrete.{IsConcrete};
 ghost use Rattle.string_tables.specs.Tables.{Refutes};
 ghost use Rattle.abstraction.specs.Abstracts.{AbstractParts, abstract_of};
 ghost use Rattle.cert_checker.specs.Answers.{IsAnswer};
@@ -17,7 +17,6 @@ use crate::try_goal::{stores_reply, trial_stores};
 use abstraction::Abstract;
 use cert_checker::{Answer, check};
 use certificate::Evidence;
-use file_parts::File;
 use kat_model::NoMemory;
 use kat_report::{no_string_line, reason_line};
 use std::alloc::Global;
@@ -25,7 +24,7 @@ use store_trials::following;
 use string_tables::GString;
 use tool_check::evidence_in;
 use tool_inputs::{EarlyEnd, PairCommand, Reply, line, reply_to_pair};
-use while_lang::Store;
+use while_lang::{File, Store};
 
 // Returns the stores from which the string can be followed, and then all stores of the list.
 fn stores_with(

@@ -1,3 +1,13 @@
+pub mod MorePairs
+pub mod Entries
+pub mod WalkSteps
+pub mod Trails
+pub mod Levels
+pub mod Shortest
+pub mod NoRedundancy
+pub mod Endings
+pub mod Concise
+pub mod ReachedRanges
 pub mod MarkSteps
 pub mod AllMarked
 pub mod MarkEnds

@@ -13,7 +13,7 @@ use Rattle.kat_model.proofs.Places.{slice_get-set_same, slice_get-set_kept, slic
 use Rattle.term_nodes.specs.NodeLists.{NodeParts, AreNodes, IsTerm}
 use Rattle.term_nodes.specs.NodeTrees.{tree_at}
 use Rattle.term_nodes.proofs.TermTrees.{one_id_a_tree}
-use Rattle.walk_theory.specs.Walks.{Entry, pairs_of}
+use Rattle.walk_congruence.specs.Walks.{Entry, pairs_of}
 use Rattle.term_nodes.specs.NumberSets.{terms_of}
 use Rattle.walk_pairs.specs.declared.items.Side.{Side}
 use Rattle.walk_congruence.specs.Listings.{IdEntry, set_on, set_across, pair_of, entry_of, entries_of}

@@ -1,3 +1,5 @@
+pub mod Walks
+pub mod Laws
 pub mod Listings
 pub mod Indices
 pub mod Marks

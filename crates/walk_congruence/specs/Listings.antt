@@ -5,7 +5,7 @@ use Rattle.kat_model.specs.Pairs.{SetPair}
 use Rattle.term_nodes.specs.NumberSets.{terms_of}
 use Rattle.term_nodes.specs.NodeLists.{NodeParts}
 use Rattle.certificate.specs.PairParts.{PairParts}
-use Rattle.walk_theory.specs.Walks.{StepOrigin, Entry}
+use Rattle.walk_congruence.specs.Walks.{StepOrigin, Entry}
 use Rattle.walk_pairs.specs.IdSets.{IsIdSet}
 use Rattle.walk_pairs.specs.declared.items.Side.{Side}
 use Rattle.walk_pairs.specs.declared.items.Side.TheVariants.{Left, Right}

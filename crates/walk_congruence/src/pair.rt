@@ -17,7 +17,7 @@ pub struct StepOrigin {
 }
 
 impl Model for StepOrigin {
-    ghost use Rattle.walk_theory.specs.Walks.{StepOrigin as StepOrigin'};
+    ghost use Rattle.walk_congruence.specs.Walks.{StepOrigin as StepOrigin'};
 
     ghost Value = { StepOrigin' };
 

@@ -7,7 +7,7 @@ use Rattle.kat_model.specs.Steps.{Atom}
 use Rattle.kat_model.proofs.Lists.{has_left, has_right, has_append}
 use Rattle.test_diagrams.specs.Functions.{DiagramsParts, value_of, IsDiagramId, IsDiagramOf, KeepsFunctions}
 use Rattle.walk_entries.specs.Entries.{EntryParts}
-use Rattle.walk_moves.specs.Allowance.{IsWithin}
+use Rattle.walk_entries.specs.Allowance.{IsWithin}
 use Rattle.walk_entries.specs.Listings.{IsWith, IsLevelAtom, AreLevelAtoms}
 
 -- ---- one entry after the other

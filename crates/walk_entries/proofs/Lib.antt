@@ -1,3 +1,14 @@
+pub mod Forgetting
+pub mod Images
+pub mod KeptValues
+pub mod ImageTables
+pub mod ImageSteps
+pub mod BarSources
+pub mod AskedTests
+pub mod BarLists
+pub mod ToldMoves
+pub mod Allowances
+pub mod AllowedImages
 pub mod Marking
 pub mod PartCases
 pub mod FreshParts

@@ -21,7 +21,7 @@ use Rattle.walk_pairs.specs.declared.items.Side.TheVariants.{Left, Right}
 use Rattle.walk_entries.specs.declared.parts.Part.{Part}
 use Rattle.walk_entries.specs.Parts.{with_if, IsRegionWhere, IsPart, AreParts, HavePartIds, HasPartAt, IsCase, TellsApart}
 use Rattle.walk_entries.specs.Reaching.{IsPartOf}
-use Rattle.walk_moves.proofs.AllowedImages.{within_kept}
+use Rattle.walk_entries.proofs.AllowedImages.{within_kept}
 
 -- ---- a region and a guard
 

@@ -4,7 +4,7 @@ use Rattle.std.specs.Prelude.{◌≡◌, ℕ, List, slice_get, Some, IsTrue}
 use Rattle.kat_model.specs.Members.{Has}
 use Rattle.kat_model.specs.Steps.{Atom}
 use Rattle.test_diagrams.specs.Functions.{DiagramsParts, value_of, IsDiagramId, IsAtomOf}
-use Rattle.walk_moves.specs.Allowance.{IsWithin}
+use Rattle.walk_entries.specs.Allowance.{IsWithin}
 use Rattle.walk_entries.specs.Entries.{EntryParts}
 
 -- the atoms of the old diagram, without those of the entry if it has these sets

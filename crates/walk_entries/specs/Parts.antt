@@ -8,7 +8,7 @@ use Rattle.walk_pairs.specs.Outputs.{IsSomewhereTrue}
 use Rattle.walk_pairs.specs.declared.items.Item.{Item}
 use Rattle.walk_pairs.specs.declared.items.Side.TheVariants.{Left, Right}
 use Rattle.walk_entries.specs.declared.parts.Part.{Part}
-use Rattle.walk_moves.specs.Allowance.{IsWithin}
+use Rattle.walk_entries.specs.Allowance.{IsWithin}
 
 -- the terms, with the target appended if the value is true
 abbrev pub with_if : Bool → List ℕ → ℕ → List ℕ

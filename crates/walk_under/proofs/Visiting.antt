@@ -26,7 +26,7 @@ use Rattle.walk_pairs.specs.declared.items.Side.TheVariants.{Left, Right}
 use Rattle.walk_pairs.proofs.ItemTargets.{chosen_where, has_where, where_ascending}
 use Rattle.walk_under.specs.TestedWalks.{TestedOrigin, TestedEntry, IsRegion, HasSource, IsApart, AreJoined, IsTestedWalk}
 use Rattle.walk_entries.specs.Entries.{EntryParts}
-use Rattle.walk_moves.specs.Allowance.{IsAllowance, IsWithin, HasAllowedSource, IsAllowedImage}
+use Rattle.walk_entries.specs.Allowance.{IsAllowance, IsWithin, HasAllowedSource, IsAllowedImage}
 use Rattle.walk_entries.specs.Reaching.{IsOpenPart}
 use Rattle.walk_entries.specs.Parts.{IsPart}
 use Rattle.walk_entries.specs.Listings.{IsFreshPart, AreLevelAtoms}
@@ -39,8 +39,8 @@ use Rattle.walk_entries.specs.declared.parts.Part.{Part}
 use Rattle.walk_under.specs.declared.walk.TestedWorklist.{TestedWorklist}
 use Rattle.walk_under.specs.declared.walk.StepSource.{StepSource}
 use Rattle.walk_under.proofs.WalkSteps.{joined_more, walk_lists}
-use Rattle.walk_moves.proofs.Allowances.{allowance_kept}
-use Rattle.walk_moves.proofs.AllowedImages.{allowed_atom, source_kept, source_was}
+use Rattle.walk_entries.proofs.Allowances.{allowance_kept}
+use Rattle.walk_entries.proofs.AllowedImages.{allowed_atom, source_kept, source_was}
 use Rattle.walk_entries.proofs.PartCases.{chosen_kept}
 use Rattle.walk_under.proofs.JoinedAt.{pairs_true, joined_by, joined_same, brought_congruent, entry_congruent, entries-append, entry_at}
 use Rattle.walk_under.proofs.Standing.{entries_same, next_part_kept, fresh_part_kept, listed_at, at_source_kept, one_id_set}

@@ -26,10 +26,9 @@ use string_tables::{GString, Move};
 use term_store::{Store, TermId};
 use test_diagrams::{DiagramId, Diagrams};
 use walk_entries::{
-    Entry, EntryList, Listing, Part, StepOrigin, TargetSets, differing_part, listed_atoms,
-    merged_pairs, parts_of, place_with, unlisted_part,
+    AllowedMoves, Entry, EntryList, Listing, Part, StepOrigin, TargetSets, differing_part,
+    listed_atoms, merged_pairs, parts_of, place_with, unlisted_part,
 };
-use walk_moves::AllowedMoves;
 use walk_pairs::{
     BothSteps, ClosedIds, Item, StoredPair, actions_in_order, difference, differing_atom, items_of,
 };

@@ -9,7 +9,7 @@ use Rattle.kat_model.specs.Problems.{ProblemParts}
 use Rattle.kat_model.specs.Closed.{closed}
 use Rattle.term_nodes.specs.NodeLists.{NodeParts, IsTerm}
 use Rattle.term_nodes.specs.NodeTrees.{tree_at}
-use Rattle.walk_theory.specs.Walks.{pairs_of}
+use Rattle.walk_congruence.specs.Walks.{pairs_of}
 use Rattle.walk_pairs.specs.Covered.{HasUniversal, IsReached, IsCovered}
 use Rattle.term_nodes.specs.NumberSets.{terms_of}
 use Rattle.walk_congruence.specs.Listings.{entries_of}

@@ -16,7 +16,7 @@ use Rattle.partial_derivs.specs.Moves.{IsTermOf, IsStepsOf}
 use Rattle.partial_derivs.specs.Tables.{AreRight}
 use Rattle.partial_derivs.proofs.Kept.{Keeps-functions, IsStepsBy-kept}
 use Rattle.partial_derivs.proofs.Tables.{AreRight-kept}
-use Rattle.walk_theory.specs.Walks.{Entry, pairs_of, AreCongruentAfter}
+use Rattle.walk_congruence.specs.Walks.{Entry, pairs_of, AreCongruentAfter}
 use Rattle.walk_up_to.specs.Working.Visits.{AddsEntries}
 use Rattle.term_nodes.specs.NumberSets.{terms_of}
 use Rattle.walk_congruence.specs.Listings.{IdEntry, pair_of, entry_of, entries_of}

@@ -13,7 +13,7 @@ use Rattle.term_nodes.specs.NodeLists.{NodeParts}
 use Rattle.test_diagrams.specs.Functions.{DiagramsParts, IsDiagramId, IsConstant}
 use Rattle.test_diagrams.specs.Reduced.{IsReduced}
 use Rattle.partial_derivs.specs.Moves.{IsTermOf}
-use Rattle.walk_theory.specs.Walks.{StepOrigin, Entry, IsWalk}
+use Rattle.walk_congruence.specs.Walks.{StepOrigin, Entry, IsWalk}
 use Rattle.walk_up_to.specs.Working.Visits.{IsVisited}
 use Rattle.walk_congruence.specs.Listings.{IdEntry, pair_of, entry_of, entries_of, AreIdSets}
 use Rattle.walk_pairs.specs.IdSets.{IsIdSet}

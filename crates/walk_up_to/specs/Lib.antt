@@ -1,5 +1,5 @@
-pub use Rattle.walk_theory.specs.Walks
-pub use Rattle.walk_theory.specs.Laws
+pub use Rattle.walk_congruence.specs.Walks
+pub use Rattle.walk_congruence.specs.Laws
 pub mod Decisions
 pub mod StoredSides
 pub mod Working

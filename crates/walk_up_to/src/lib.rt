@@ -13,9 +13,8 @@ mod string;
 mod worklist;
 
 pub use deciding::{decide_up_to, is_same_up_to};
-pub use walk_congruence::EarlyStop;
-pub use walk_theory::{
-    concise_are_few, congruent_are_covered, covered_are_congruent, finished_are_accepted,
-    finished_are_concise, found_are_shortest, listed_have_trails, members_are_in_range, more_pairs,
-    no_redundant_are_few, walk_goes_on, walks_are_few,
+pub use walk_congruence::{
+    EarlyStop, concise_are_few, congruent_are_covered, covered_are_congruent,
+    finished_are_accepted, finished_are_concise, found_are_shortest, listed_have_trails,
+    members_are_in_range, more_pairs, no_redundant_are_few, walk_goes_on, walks_are_few,
 };

@@ -1,6 +1,6 @@
 //! Builds the string that leads to a listed pair.
 ghost use Rattle.std.specs.Prelude.{◌≡◌, ◌<◌, [], ℕ, List, length, slice_get, Some, None, IfOk, MatchOption};
-ghost use Rattle.walk_theory.specs.Walks.{StepOrigin as StepOrigin', after_trail};
+ghost use Rattle.walk_congruence.specs.Walks.{StepOrigin as StepOrigin', after_trail};
 ghost use Rattle.walk_congruence.specs.Listings.{AreTraced, LeadsBack, origin_of};
 
 use kat_model::{Items, NoMemory};

@@ -1,3 +1,4 @@
+pub mod RangesGrow
 pub mod Choices
 pub mod ProgramLists
 pub mod StoreValues

@@ -1,3 +1,7 @@
+pub mod Files
+pub mod Trees
+pub mod Concrete
+pub mod Ranges
 pub mod Programs
 pub mod Leaves
 pub mod ProgramCodes

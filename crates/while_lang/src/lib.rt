@@ -1,4 +1,5 @@
-//! While programs: their texts, their runs on stores, and their terms.
+//! While programs: their texts, their runs on stores, and their terms; and the parts of a problem file: names, programs,
+//! hypotheses and a goal.
 #![tactic(auto)]
 
 mod block_build;
@@ -9,6 +10,7 @@ mod block_reading;
 mod block_scan;
 mod blocks;
 mod equality;
+mod file;
 mod flow;
 mod laws;
 mod named;
@@ -27,6 +29,7 @@ pub use block_measure::measure_block;
 pub use block_read::read_block;
 pub use block_scan::block_end;
 pub use blocks::enter;
+pub use file::{File, Goal, Side, prog_meant};
 pub use flow::{Flow, Flows, branch_term, encode, loop_term};
 pub use laws::{flows_are_guarded, loops_unfold, runs_have_one_end};
 pub use named::NamedProg;

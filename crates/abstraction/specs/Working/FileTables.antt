@@ -5,13 +5,13 @@ use Rattle.kat_model.specs.declared.limits.TheConstants.{MAX_TESTS, MAX_ACTIONS,
 use Rattle.kat_model.specs.Problems.{problem_size, problem_fault}
 use Rattle.linear_forms.specs.Atomic.{Atomic}
 use Rattle.goal_forms.specs.Sides.{SideTrees}
-use Rattle.file_parts.specs.Files.{FileParts}
+use Rattle.while_lang.specs.Files.{FileParts}
 use Rattle.abstraction.specs.declared.fault.AbstractFault.{AbstractFault}
 use Rattle.abstraction.specs.declared.fault.AbstractFault.TheVariants.{NoMemory, TooManyTests, TooManyActions, ProblemTooLarge}
-use Rattle.abstract_tables.specs.Comparisons.{Assignment}
-use Rattle.abstract_tables.specs.Tables.{Tables, first_comparisons, file_assignments}
-use Rattle.abstract_tables.specs.Rounds.{tables_of}
-use Rattle.abstract_hypotheses.specs.Facts.{Hypothesis}
+use Rattle.abstraction.specs.Comparisons.{Assignment}
+use Rattle.abstraction.specs.Tables.{Tables, first_comparisons, file_assignments}
+use Rattle.abstraction.specs.Rounds.{tables_of}
+use Rattle.abstraction.specs.Facts.{Hypothesis}
 use Rattle.abstraction.specs.Abstracts.{AbstractParts, test_rows_of, action_rows_of, IsAbstraction}
 
 -- the comparisons of the goal, or the fault that there are too many

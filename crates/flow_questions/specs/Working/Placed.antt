@@ -15,7 +15,7 @@ use Rattle.flow_places.specs.declared.fault.PlaceFault.{PlaceFault}
 use Rattle.flow_places.specs.declared.fault.PlaceFault.TheVariants as place
 use Rattle.flow_problem.specs.Edges.{Edge, edge_of}
 use Rattle.flow_ways.specs.Ways.{ways}
-use Rattle.flow_edges.specs.EdgeTables.{table_marks}
+use Rattle.flow_tables.specs.EdgeTables.{table_marks}
 use Rattle.flow_tables.specs.GraphRows.{row_edges}
 use Rattle.flow_tables.specs.declared.fault.TableFault.{TableFault}
 use Rattle.flow_tables.specs.declared.fault.TableFault.TheVariants as table
@@ -23,8 +23,8 @@ use Rattle.flow_splits.specs.declared.fault.SplitFault.{SplitFault}
 use Rattle.flow_splits.specs.declared.fault.SplitFault.TheVariants as split
 use Rattle.flow_terms.specs.declared.fault.TermFault.{TermFault}
 use Rattle.flow_terms.specs.declared.fault.TermFault.TheVariants as term
-use Rattle.flow_hypotheses.specs.declared.fault.HypothesisFault.{HypothesisFault}
-use Rattle.flow_hypotheses.specs.declared.fault.HypothesisFault.TheVariants as hypothesis
+use Rattle.flow_questions.specs.declared.hypothesis_fault.HypothesisFault.{HypothesisFault}
+use Rattle.flow_questions.specs.declared.hypothesis_fault.HypothesisFault.TheVariants as hypothesis
 use Rattle.flow_questions.specs.declared.fault.FlowFault.{FlowFault}
 use Rattle.flow_questions.specs.declared.fault.FlowFault.TheVariants.{NoMemory, UncutLoop, TooManyPaths, TooLarge, TooManyTests, TooManyActions, ProblemTooLarge}
 use Rattle.flow_questions.specs.declared.placed.PlacedEdges.{PlacedEdges}

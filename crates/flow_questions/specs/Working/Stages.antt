@@ -11,9 +11,9 @@ use Rattle.flow_problem.specs.FlowFacts.{flow_hypotheses}
 use Rattle.flow_problem.specs.FlowProblems.{first_tests, edges_before, edges_after, flow_actions, flow_tests, flow_parts}
 use Rattle.flow_problem.specs.PlacedProblems.{graph_marks}
 use Rattle.flow_terms.specs.Rows.{rows_fit}
-use Rattle.flow_edges.specs.EdgeViews.{flow_action}
+use Rattle.flow_tables.specs.EdgeViews.{flow_action}
 use Rattle.flow_tables.specs.GraphRows.{row_edges, edge_rows}
-use Rattle.flow_facts.specs.HypothesisViews.{flow_rule}
+use Rattle.flow_questions.specs.HypothesisViews.{flow_rule}
 use Rattle.flow_questions.specs.declared.edges.Question.{Question}
 use Rattle.flow_questions.specs.declared.edges.PairEdges.{PairEdges}
 use Rattle.flow_questions.specs.declared.hypotheses.Reasons.{Reasons}

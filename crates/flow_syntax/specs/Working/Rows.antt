@@ -1,5 +1,5 @@
 -- The rows of the table of rules.
-use Rattle.text_reader.specs.Rules.{RuleParts, rule_parts}
+use Rattle.flow_syntax.specs.Rules.{RuleParts, rule_parts}
 use Rattle.flow_syntax.specs.declared.grammar.RuleRow.{RuleRow}
 
 -- the rule of a row

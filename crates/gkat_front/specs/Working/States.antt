@@ -1,7 +1,7 @@
 -- The state of the reader in the terms of the specification.
 use Rattle.std.specs.Prelude.{Option, Some, None}
-use Rattle.gkat_terms.specs.declared.gkat.Gkat.{Gkat}
-use Rattle.gkat_terms.specs.Expressions.{GkatTree, gkat_tree}
+use Rattle.gkat_front.specs.declared.gkat.Gkat.{Gkat}
+use Rattle.gkat_front.specs.Expressions.{GkatTree, gkat_tree}
 use Rattle.gkat_front.specs.Files.{GkatState}
 use Rattle.gkat_front.specs.declared.reader.GkatReader.{GkatReader}
 

@@ -1,7 +1,7 @@
 -- Results of the finder for a statement, and for a list of statements.
 use Rattle.std.specs.Prelude.{◌≡◌, ◌++◌, ◌∷◌, ℕ, List, drop}
 use Rattle.kat_model.specs.Problems.{ProblemParts}
-use Rattle.outline_diagrams.specs.StepFunctions.{StepDiagramsParts, KeepsSteps, AreStepDiagrams}
+use Rattle.outline_rules.specs.StepFunctions.{StepDiagramsParts, KeepsSteps, AreStepDiagrams}
 use Rattle.while_lang.specs.Flows.{FlowTree, FlowStmt}
 use Rattle.while_lang.specs.FlowViews.{flows_tree}
 use Rattle.while_lang.specs.declared.flow.Flow.{Flow}

@@ -7,7 +7,7 @@ use Rattle.while_lang.specs.Flows.{FlowTree, FlowStmt, empty, skip_then, abort_t
 use Rattle.while_lang.specs.FlowViews.{flows_tree}
 use Rattle.while_lang.specs.Encoding.{encoded}
 use Rattle.while_lang.specs.declared.flow.Flow.{Flow}
-use Rattle.outline_diagrams.specs.StepFunctions.{StepDiagramsParts, IsStepId}
+use Rattle.outline_rules.specs.StepFunctions.{StepDiagramsParts, IsStepId}
 use Rattle.hoare_outlines.specs.declared.finding.FoundLoop.{FoundLoop}
 use Rattle.hoare_outlines.specs.declared.finding.Finder.{Finder}
 use Rattle.hoare_outlines.specs.Working.AtomSets.{AtomSet, IsSetId, IsAllowedSet}

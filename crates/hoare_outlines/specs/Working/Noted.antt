@@ -2,9 +2,9 @@
 use Rattle.std.specs.Prelude.{◌≡◌, ◌⊎◌, ◌<◌, [], ◌∷◌, ◌++◌, ℕ, false, List, length, map, drop, Some, slice_get, slice_index_or}
 use Rattle.kat_model.specs.Members.{Has, HasNoDoubles}
 use Rattle.kat_model.specs.Steps.{Atom}
-use Rattle.outline_diagrams.specs.StepFunctions.{StepDiagramsParts, step_value, IsStepId}
-use Rattle.outline_notes.specs.declared.notes.NoteNode.{NoteNode}
-use Rattle.outline_notes.specs.NoteLists.{NotesParts, node_parts, holds_at, note_holds}
+use Rattle.outline_rules.specs.StepFunctions.{StepDiagramsParts, step_value, IsStepId}
+use Rattle.outline_rules.specs.declared.notes.NoteNode.{NoteNode}
+use Rattle.outline_rules.specs.NoteLists.{NotesParts, node_parts, holds_at, note_holds}
 use Rattle.outline_rules.specs.Follows.{HasTests}
 use Rattle.hoare_outlines.specs.Working.AtomSets.{AtomSet, IsSetId}
 use Rattle.hoare_outlines.specs.declared.noting.NodeWriter.{NodeWriter}

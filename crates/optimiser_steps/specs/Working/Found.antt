@@ -1,10 +1,10 @@
 -- What the search for steps of a list returns.
 use Rattle.std.specs.Prelude.{◌≡◌, ◌≤◌, ◌<◌, ℕ, List, [], ◌∷◌, ◌++◌, map, Option, MatchOption}
-use Rattle.file_parts.specs.Files.{FileParts}
+use Rattle.while_lang.specs.Files.{FileParts}
 use Rattle.while_lang.specs.Programs.{ProgTree, StmtTree, stmts_of}
 use Rattle.while_lang.specs.ProgramViews.{stmt_tree}
-use Rattle.optimiser_theory.specs.Steps.{Step}
-use Rattle.optimiser_theory.specs.Paths.{NoStep, NoStepBefore, IsFirstStep}
+use Rattle.optimiser_steps.specs.Steps.{Step}
+use Rattle.optimiser_steps.specs.Paths.{NoStep, NoStepBefore, IsFirstStep}
 use Rattle.optimiser_steps.specs.declared.rewriting.Made.{Made}
 use Rattle.optimiser_steps.specs.declared.statement_steps.SharedEnd.{SharedEnd}
 use Rattle.optimiser_steps.specs.declared.paths.Found.{Found}

@@ -1,7 +1,7 @@
 -- Goals whose problem has two sides that denote the same relation.
 use Rattle.std.specs.Prelude.{◌≡◌, Ok}
 use Rattle.kat_model.specs.Relations.{Same}
-use Rattle.file_parts.specs.Files.{FileParts}
+use Rattle.while_lang.specs.Files.{FileParts}
 use Rattle.abstraction.specs.Abstracts.{AbstractParts, abstract_of}
 
 -- the file has an abstraction, and the two sides of its problem are the same

@@ -5,12 +5,12 @@ use Rattle.kat_model.specs.Members.{Has}
 use Rattle.kat_model.specs.CourseOfValues.{course_of_values}
 use Rattle.kat_model.specs.Problems.{ProblemParts, IsTestInRange}
 use Rattle.kat_model.specs.Steps.{Atom}
-use Rattle.outline_diagrams.specs.declared.moments.Moment.{Moment}
-use Rattle.outline_diagrams.specs.Interleaved.{atom_at_moment}
-use Rattle.outline_diagrams.specs.StepFunctions.{StepDiagramsParts, step_value, IsStepId, IsStepDiagram}
-use Rattle.outline_notes.specs.declared.notes.NoteNode.{NoteNode}
-use Rattle.outline_notes.specs.declared.notes.NoteNode.TheVariants.{False, True, Branch}
-use Rattle.outline_notes.specs.NoteLists.{NotesParts, node_holds}
+use Rattle.outline_rules.specs.declared.moments.Moment.{Moment}
+use Rattle.outline_rules.specs.Interleaved.{atom_at_moment}
+use Rattle.outline_rules.specs.StepFunctions.{StepDiagramsParts, step_value, IsStepId, IsStepDiagram}
+use Rattle.outline_rules.specs.declared.notes.NoteNode.{NoteNode}
+use Rattle.outline_rules.specs.declared.notes.NoteNode.TheVariants.{False, True, Branch}
+use Rattle.outline_rules.specs.NoteLists.{NotesParts, node_holds}
 use Rattle.outline_rules.specs.Follows.{Condition, starts, implies, leads, ends, IsMet}
 use Rattle.outline_rules.specs.Reasons.{IsLeastUnmet}
 use Rattle.hypothesis_kinds.specs.HypothesisForms.{allows, some_rules_out}

@@ -3,11 +3,11 @@ use Rattle.std.specs.Prelude.{◌≡◌, ◌⊎◌, ℕ, List, map, drop, Vec, R
 use Rattle.std.specs.declared.alloc.Global.{Global}
 use Rattle.text_tokens.specs.declared.fault.TextFault.{TextFault}
 use Rattle.text_tokens.specs.declared.fault.TextFault.TheVariants.{NoMemory}
-use Rattle.file_parts.specs.declared.file.Goal.{Goal}
+use Rattle.while_lang.specs.declared.file.Goal.{Goal}
 use Rattle.problem_file.specs.declared.goal_limit.GoalLimit.{GoalLimit}
-use Rattle.file_parts.specs.Files.{FileParts}
+use Rattle.while_lang.specs.Files.{FileParts}
 use Rattle.problem_file.specs.Files.{file_of}
-use Rattle.file_parts.specs.Trees.{goal_tree}
+use Rattle.while_lang.specs.Trees.{goal_tree}
 use Rattle.problem_file.specs.Reads.{Says, HasFirstFault}
 
 -- the bytes denote this file and these goals

@@ -4,7 +4,7 @@ use Rattle.kat_model.specs.Trees.{kat_tree}
 use Rattle.text_tokens.specs.declared.fault.TextFault.{TextFault}
 use Rattle.while_lang.specs.NamedProgs.{parts_of_progs}
 use Rattle.problem_file.specs.Files.{State}
-use Rattle.file_parts.specs.Trees.{goal_tree, names_of_progs}
+use Rattle.while_lang.specs.Trees.{goal_tree, names_of_progs}
 use Rattle.problem_file.specs.Working.Walks.{Does}
 use Rattle.problem_file.specs.declared.item_reader.ItemReader.{ItemReader}
 

@@ -5,11 +5,11 @@ use Rattle.kat_model.specs.Problems.{ProblemParts}
 use Rattle.kat_model.specs.Relations.{Same}
 use Rattle.text_tokens.specs.declared.fault.TextFault.{TextFault}
 use Rattle.text_tokens.specs.declared.fault.TextFault.TheVariants.{TooLong}
-use Rattle.file_parts.specs.Files.{FileParts}
+use Rattle.while_lang.specs.Files.{FileParts}
 use Rattle.problem_file.specs.FirstFaults.{too_long, no_text}
 use Rattle.problem_file.specs.Reads.{Reads}
 use Rattle.problem_file.specs.Laws.{HaveOneAnswer}
-use Rattle.file_parts.specs.Concrete.{IsConcrete, Agrees}
+use Rattle.while_lang.specs.Concrete.{IsConcrete, Agrees}
 use Rattle.chain_rules.specs.Chains.{ChainTree}
 use Rattle.chain_rules.specs.Chained.{IsChained}
 use Rattle.chain_proofs.specs.Reads.{Reads as ReadsProof, FirstFault}

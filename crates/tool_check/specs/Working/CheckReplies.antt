@@ -9,9 +9,9 @@ use Rattle.certificate.specs.Accepted.{IsAccepted}
 use Rattle.certificate.specs.declared.evidence.Evidence.{Evidence}
 use Rattle.certificate.specs.declared.evidence.Evidence.TheVariants.{Equal, Different}
 use Rattle.cert_checker.specs.Answers.{Shows}
-use Rattle.file_parts.specs.Files.{FileParts}
+use Rattle.while_lang.specs.Files.{FileParts}
 use Rattle.problem_file.specs.Reads.{Reads}
-use Rattle.file_parts.specs.Concrete.{IsConcrete, Agrees}
+use Rattle.while_lang.specs.Concrete.{IsConcrete, Agrees}
 use Rattle.kat_report.specs.Acceptances.{accepted_line}
 use Rattle.tool_inputs.specs.FileProblem.{Asks}
 use Rattle.tool_inputs.specs.TextProblem.{HasNoProblem}

@@ -3,11 +3,11 @@ use Rattle.std.proofs.Common.{◌≡◌, ◌⊎◌, ◌<◌, ℕ, ◌+◌, max, 
 use Rattle.kat_model.specs.Members.{Has}
 use Rattle.kat_model.specs.Problems.{ProblemParts}
 use Rattle.kat_model.specs.Relations.{Same}
-use Rattle.file_parts.specs.Files.{GoalTree, FileParts}
+use Rattle.while_lang.specs.Files.{GoalTree, FileParts}
 use Rattle.problem_file.specs.FirstFaults.{too_long, no_text}
 use Rattle.problem_file.specs.Reads.{ReadsAll, FirstFaultOfAll}
 use Rattle.problem_file.specs.Laws.{ReadsBoth}
-use Rattle.file_parts.specs.Concrete.{IsConcrete, Agrees}
+use Rattle.while_lang.specs.Concrete.{IsConcrete, Agrees}
 use Rattle.problem_file.proofs.OneAnswer.{all_have_one_answer}
 use Rattle.problem_file.proofs.NumberedStates.{all_are_in_ranges}
 use Rattle.abstraction.specs.Abstracts.{AbstractParts, HasNumbersInRange, abstract_of, with_goal}

@@ -4,9 +4,9 @@ use Rattle.std.specs.Option.{option_map}
 use Rattle.std.proofs.lemmas.Option.{slice_get_past, none-some, slice_get_read, slice_get-map}
 use Rattle.std.proofs.lemmas.List.{length-map}
 use Rattle.kat_model.specs.Members.{Has}
-use Rattle.file_parts.specs.declared.file.Goal.{Goal}
-use Rattle.file_parts.specs.Files.{GoalTree, FileParts}
-use Rattle.file_parts.specs.Trees.{goal_tree}
+use Rattle.while_lang.specs.declared.file.Goal.{Goal}
+use Rattle.while_lang.specs.Files.{GoalTree, FileParts}
+use Rattle.while_lang.specs.Trees.{goal_tree}
 use Rattle.abstraction.specs.Abstracts.{with_goal}
 use Rattle.tool_decide.specs.Batch.{with_each, AsksSome, IsFirstRefused}
 use Rattle.tool_inputs.specs.TextProblem.{HasNoAbstraction}

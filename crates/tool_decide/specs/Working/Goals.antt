@@ -1,7 +1,7 @@
 -- The numbers in the goals of a text.
 use Rattle.std.specs.Prelude.{List}
 use Rattle.kat_model.specs.Members.{Has}
-use Rattle.file_parts.specs.Files.{GoalTree, FileParts}
+use Rattle.while_lang.specs.Files.{GoalTree, FileParts}
 use Rattle.abstraction.specs.Abstracts.{HasNumbersInRange}
 use Rattle.tool_decide.specs.Batch.{with_each}
 

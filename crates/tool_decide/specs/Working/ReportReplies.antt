@@ -1,9 +1,9 @@
 -- The reply of `decide` with `--json` satisfies the statement on the question, as the reply of `decide` does.
 use Rattle.std.proofs.Common.{◌≡◌, ℕ, List, Ok, inl, ⊎_elim, refl, arith}
 use Rattle.kat_model.specs.Problems.{ProblemParts}
-use Rattle.file_parts.specs.Files.{FileParts}
+use Rattle.while_lang.specs.Files.{FileParts}
 use Rattle.problem_file.specs.Reads.{Reads}
-use Rattle.file_parts.specs.Concrete.{IsConcrete, Agrees}
+use Rattle.while_lang.specs.Concrete.{IsConcrete, Agrees}
 use Rattle.abstraction.specs.Abstracts.{AbstractParts, abstract_of}
 use Rattle.abstraction.specs.Readings.{Reading, KeepsStated, GoalHoldsBy}
 use Rattle.abstraction.proofs.ReadingAgreement.{readings_agree}

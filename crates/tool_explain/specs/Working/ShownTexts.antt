@@ -1,6 +1,6 @@
 -- Texts that are read as files with an abstraction.
 use Rattle.std.proofs.Common.{◌≡◌, ℕ, List, Ok, inl, inr, refl}
-use Rattle.file_parts.specs.Files.{FileParts}
+use Rattle.while_lang.specs.Files.{FileParts}
 use Rattle.problem_file.specs.Reads.{Reads}
 use Rattle.abstraction.specs.Abstracts.{AbstractParts, abstract_of}
 use Rattle.tool_inputs.specs.FileProblem.{HasProblem}

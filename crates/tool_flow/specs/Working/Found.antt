@@ -1,7 +1,7 @@
 -- What is found of a file: its problem, with a reason for each hypothesis.
 use Rattle.std.specs.Prelude.{◌≡◌, map}
 use Rattle.flow_text.specs.Checking.{FlowFileParts}
-use Rattle.flow_facts.specs.HypothesisViews.{flow_rule}
+use Rattle.flow_questions.specs.HypothesisViews.{flow_rule}
 use Rattle.flow_problem.specs.PlacedProblems.{IsFlowProblem}
 use Rattle.flow_questions.specs.declared.fault.FlowFault.{FlowFault}
 use Rattle.flow_questions.specs.declared.question.FlowAbstract.{FlowAbstract}

@@ -2,7 +2,7 @@
 use Rattle.std.proofs.Common.{◌≡◌, ◌⊎◌, ◌<◌, ℕ, List, None, Some, inl, inr, sym, subst, ◌∙◌, arith}
 use Rattle.std.proofs.lemmas.Option.{same_Some, none-some}
 use Rattle.while_lang.specs.Programs.{ProgTree}
-use Rattle.file_parts.specs.Files.{FileParts}
+use Rattle.while_lang.specs.Files.{FileParts}
 use Rattle.problem_file.specs.Reads.{Reads}
 use Rattle.kat_report.specs.InputLines.{too_long_line, words_line}
 use Rattle.tool_optimise.specs.Optimise.{any_program_of, PrintsOptimised, OptimisesFile, OptimisesText, OptimiseHeadline, LacksAnyProgram, OptimiseReply}

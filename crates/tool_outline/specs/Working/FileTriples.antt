@@ -1,6 +1,6 @@
 -- The triple of a program that a file asks.
 use Rattle.std.specs.Prelude.{◌≡◌, ◌⊎◌, ℕ, List, Ok}
-use Rattle.file_parts.specs.Files.{FileParts}
+use Rattle.while_lang.specs.Files.{FileParts}
 use Rattle.abstraction.specs.Abstracts.{AbstractParts, abstract_of}
 use Rattle.hypothesis_kinds.specs.TestTerms.{AreSimple}
 use Rattle.outline_rules.specs.Tasks.{task_parts}

@@ -2,15 +2,15 @@
 use Rattle.std.proofs.Common.{◌≡◌, ◌≢◌, ◌⊎◌, ◌<◌, ℕ, List, Some, inl, inr, ⊎_elim, refl, sym, ap, subst, ◌∙◌, arith}
 use Rattle.std.proofs.lemmas.Option.{same_Some}
 use Rattle.kat_model.specs.Problems.{ProblemParts}
-use Rattle.file_parts.specs.Files.{FileParts}
+use Rattle.while_lang.specs.Files.{FileParts}
 use Rattle.problem_file.specs.Reads.{Reads}
-use Rattle.file_parts.specs.Concrete.{IsConcrete, Agrees}
-use Rattle.outline_notes.specs.declared.fault.NotesFault.{NotesFault}
-use Rattle.outline_notes.specs.declared.fault.NotesFault.TheVariants.{NoMemory}
-use Rattle.outline_notes.specs.NoteLists.{NotesParts}
-use Rattle.outline_notes.specs.Faults.{notes_fault}
-use Rattle.outline_notes.specs.Readings.{IsFault}
-use Rattle.outline_notes.proofs.Exactness.{texts_differ_lem, is_text_or_faulty_lem}
+use Rattle.while_lang.specs.Concrete.{IsConcrete, Agrees}
+use Rattle.outline_rules.specs.declared.fault.NotesFault.{NotesFault}
+use Rattle.outline_rules.specs.declared.fault.NotesFault.TheVariants.{NoMemory}
+use Rattle.outline_rules.specs.NoteLists.{NotesParts}
+use Rattle.outline_rules.specs.Faults.{notes_fault}
+use Rattle.outline_rules.specs.Readings.{IsFault}
+use Rattle.outline_rules.proofs.Exactness.{texts_differ_lem, is_text_or_faulty_lem}
 use Rattle.outline_rules.specs.Tasks.{TaskParts, task_parts, IsTripleOf}
 use Rattle.outline_rules.specs.Follows.{Follows}
 use Rattle.outline_rules.specs.Reasons.{IsFirstReason}

@@ -7,13 +7,13 @@ use Rattle.kat_model.specs.Problems.{ProblemParts, IsProblem}
 use Rattle.kat_model.specs.Relations.{Same}
 use Rattle.kat_model.proofs.Lists.{has_append, has_map}
 use Rattle.kat_model.proofs.Places.{place_of_member}
-use Rattle.file_parts.specs.Files.{FileParts}
+use Rattle.while_lang.specs.Files.{FileParts}
 use Rattle.problem_file.specs.Reads.{Reads}
-use Rattle.file_parts.specs.Concrete.{IsConcrete, Agrees}
-use Rattle.outline_notes.specs.declared.notes.NoteNode.{NoteNode}
-use Rattle.outline_notes.specs.declared.notes.NoteNode.TheVariants.{False, True, Branch}
-use Rattle.outline_notes.specs.NoteLists.{NotesParts, AreNotes}
-use Rattle.outline_notes.specs.Texts.{node_numbers, IsNarrow, AreNarrowNotes}
+use Rattle.while_lang.specs.Concrete.{IsConcrete, Agrees}
+use Rattle.outline_rules.specs.declared.notes.NoteNode.{NoteNode}
+use Rattle.outline_rules.specs.declared.notes.NoteNode.TheVariants.{False, True, Branch}
+use Rattle.outline_rules.specs.NoteLists.{NotesParts, AreNotes}
+use Rattle.outline_rules.specs.Texts.{node_numbers, IsNarrow, AreNarrowNotes}
 use Rattle.outline_rules.specs.Tasks.{TaskParts}
 use Rattle.outline_rules.specs.Follows.{Follows, HasTests}
 use Rattle.tool_inputs.specs.FileProblem.{Asks}

@@ -8,7 +8,7 @@ use Rattle.kat_model.specs.Problems.{ProblemParts}
 use Rattle.kat_model.proofs.Places.{has_at}
 use Rattle.goal_forms.specs.Sides.{triple_sides}
 use Rattle.while_lang.specs.Encoding.{encoded}
-use Rattle.file_parts.specs.Files.{term_side, prog_side, GoalTree, equal, below, triple, FileParts}
+use Rattle.while_lang.specs.Files.{term_side, prog_side, GoalTree, equal, below, triple, FileParts}
 use Rattle.problem_file.specs.Reads.{Reads, FirstFault}
 use Rattle.abstraction.specs.Tables.{Tables}
 use Rattle.abstraction.specs.Rounds.{tables_of}

@@ -8,7 +8,7 @@ use Rattle.text_grammar.specs.Phrases.{Leaf}
 use Rattle.text_scopes.specs.declared.meaning.Meaning.{Meaning}
 use Rattle.text_scopes.specs.declared.meaning.Meaning.TheVariants.{Test, Action, Var, Term, Prog}
 use Rattle.text_scopes.specs.ScopeParts.{Means, IsUnnamed, declared}
-use Rattle.file_parts.specs.Files.{FileParts}
+use Rattle.while_lang.specs.Files.{FileParts}
 use Rattle.problem_file.specs.Files.{State}
 use Rattle.problem_file.specs.Phrases.{Names, one_name, more_names, Body, tests, actions, variables, definition, program, hypothesis, hyp_triple, rounds, width, goal_equal, goal_below, goal_triple, Item}
 use Rattle.problem_file.specs.Sound.{with_var, EachName, DeclaresTest, DeclaresAction, DeclaresVar, Makes, MakeAll}

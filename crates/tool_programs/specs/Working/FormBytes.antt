@@ -22,7 +22,7 @@ use Rattle.text_print.specs.Printing.{relation_text, spaced, expr_pieces, cond_p
 use Rattle.while_lang.specs.Programs.{ProgTree, empty, skip_then, abort_then, assert_then, act_then, assign_then, branch_then, loop_then}
 use Rattle.while_lang.specs.ProgramSizes.{prog_size}
 use Rattle.while_print.specs.ProgramPrinting.{keyword_pieces, in_curly, stmts_pieces, block_pieces}
-use Rattle.file_parts.specs.Ranges.{IsExprInRange, IsCondInRange, IsProgInRange}
+use Rattle.while_lang.specs.Ranges.{IsExprInRange, IsCondInRange, IsProgInRange}
 use Rattle.problem_texts.specs.Questions.{declaration_text}
 use Rattle.problem_texts.specs.ProgramNumbers.{ExprIsNarrow, CondIsNarrow, ProgIsNarrow}
 use Rattle.problem_texts.specs.ProgramTexts.{width_text, vars_text, prog_text, equal_text, one_program_text}

@@ -10,8 +10,8 @@ use Rattle.text_scopes.proofs.Inverse.{insert_extends}
 use Rattle.text_print.proofs.NameOf.{name_is}
 use Rattle.while_lang.specs.Programs.{ProgTree}
 use Rattle.while_lang.specs.NamedProgs.{ProgParts}
-use Rattle.file_parts.specs.Files.{FileParts, prog_meant, prog_named}
-use Rattle.file_parts.specs.Ranges.{IsNumbered}
+use Rattle.while_lang.specs.Files.{FileParts, prog_meant, prog_named}
+use Rattle.while_lang.specs.Ranges.{IsNumbered}
 use Rattle.problem_file.proofs.Numbering.{new_or_old, same_var}
 use Rattle.problem_texts.specs.ProgramTexts.{AreVarNames}
 use Rattle.tool_commands.specs.ProgramWords.{where_concrete, program_of}

@@ -20,8 +20,8 @@ use Rattle.text_scopes.specs.ScopeParts.{Definition, ScopeParts, meaning, IsUnde
 use Rattle.text_scopes.specs.Measuring.{extents}
 use Rattle.text_scopes.specs.Building.{trees}
 use Rattle.while_lang.specs.Blocks.{enter}
-use Rattle.file_parts.specs.Ranges.{AreNamed}
-use Rattle.file_parts.proofs.RangesGrow.{IsInRange-more}
+use Rattle.while_lang.specs.Ranges.{AreNamed}
+use Rattle.while_lang.proofs.RangesGrow.{IsInRange-more}
 use Rattle.problem_file.specs.Working.Numbers.{AreNumbered}
 use Rattle.problem_file.specs.Phrases.{Names, one_name, more_names}
 use Rattle.problem_file.specs.Folds.{fold_names}
@@ -29,7 +29,7 @@ use Rattle.problem_file.proofs.Results.{same_ok, passed}
 use Rattle.problem_file.proofs.Numbering.{empty_numbered, test_numbered, action_numbered}
 use Rattle.problem_file.proofs.InRanges.{DefinedInRange, test_of_in, cond_in}
 use Rattle.problem_texts.proofs.ProgramScopes.{kept, declared_means}
-use Rattle.gkat_terms.specs.Expressions.{GkatTree, test, act, product, choice, loop, gkat_size, gkat_product, kat_of}
+use Rattle.gkat_front.specs.Expressions.{GkatTree, test, act, product, choice, loop, gkat_size, gkat_product, kat_of}
 use Rattle.gkat_front.specs.GkatMaking.{named_by, making_expr}
 use Rattle.gkat_front.specs.GkatPhrases.{Guard, GkatSymbol, expr, factors, factor, unit, GkatPhrase, one_product, two_products, one_factor, more_factors, once, repeated, zero_unit, one_unit, name_unit, guard_unit, round_unit}
 use Rattle.gkat_front.specs.GkatFolds.{Folded, fold_guard, cond_fold, fold_gkat, gkat_of}

@@ -14,7 +14,7 @@ use Rattle.problem_texts.specs.Questions.{goal_text}
 use Rattle.problem_texts.specs.NamedTexts.{names_line, named_text, IsOneOf, AreNames}
 use Rattle.problem_texts.specs.Laws.{AsksEqual}
 use Rattle.problem_texts.proofs.PlainReadings.{named_reads_back}
-use Rattle.gkat_terms.specs.Expressions.{kat_of}
+use Rattle.gkat_front.specs.Expressions.{kat_of}
 use Rattle.problem_file.specs.FirstFaults.{too_long, no_text}
 use Rattle.gkat_front.specs.Files.{GkatFileParts}
 use Rattle.gkat_front.specs.Reads.{Reads, FirstFault}

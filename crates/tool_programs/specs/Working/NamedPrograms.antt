@@ -8,9 +8,9 @@ use Rattle.text_scopes.specs.ScopeParts.{meaning}
 use Rattle.while_lang.specs.Programs.{ProgTree, empty, skip_then, abort_then, assert_then, act_then, assign_then, branch_then, loop_then, is_concrete}
 use Rattle.while_lang.specs.NamedProgs.{ProgParts}
 use Rattle.one_loop.specs.Variables.{CondHasVarsBelow, HasVarsBelow}
-use Rattle.file_parts.specs.Files.{FileParts, prog_meant, prog_named}
-use Rattle.file_parts.specs.Ranges.{IsCondInRange, IsProgInRange, AreProgsInRange, IsNumbered}
-use Rattle.file_parts.proofs.RangesGrow.{meant_in}
+use Rattle.while_lang.specs.Files.{FileParts, prog_meant, prog_named}
+use Rattle.while_lang.specs.Ranges.{IsCondInRange, IsProgInRange, AreProgsInRange, IsNumbered}
+use Rattle.while_lang.proofs.RangesGrow.{meant_in}
 use Rattle.tool_commands.specs.ProgramWords.{where_concrete, program_of}
 
 -- ---- it is concrete

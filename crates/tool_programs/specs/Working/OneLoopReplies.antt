@@ -18,8 +18,8 @@ use Rattle.one_loop.specs.Variables.{CondHasVarsBelow, HasVarsBelow}
 use Rattle.one_loop.specs.Statements.{HasTooManyStatements}
 use Rattle.one_loop.specs.Forms.{IsOneForm}
 use Rattle.one_loop.specs.Sizes.{IsSmallForm}
-use Rattle.file_parts.specs.Files.{FileParts}
-use Rattle.file_parts.specs.Ranges.{IsCondInRange, IsProgInRange, IsNumbered}
+use Rattle.while_lang.specs.Files.{FileParts}
+use Rattle.while_lang.specs.Ranges.{IsCondInRange, IsProgInRange, IsNumbered}
 use Rattle.problem_file.specs.Reads.{Reads}
 use Rattle.problem_file.proofs.NumberedStates.{are_in_ranges}
 use Rattle.problem_texts.specs.ProgramNumbers.{ProgIsNarrow}

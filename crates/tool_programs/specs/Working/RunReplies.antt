@@ -7,7 +7,7 @@ use Rattle.while_lang.specs.Runs.{HasOutcome, HasOneOutcome}
 use Rattle.while_lang.specs.declared.outcome.Outcome.{Outcome}
 use Rattle.while_lang.specs.declared.outcome.Outcome.TheVariants.{Done, Stuck, More}
 use Rattle.while_lang.proofs.Outcomes.{one_outcome}
-use Rattle.file_parts.specs.Files.{FileParts}
+use Rattle.while_lang.specs.Files.{FileParts}
 use Rattle.problem_file.specs.Reads.{Reads}
 use Rattle.kat_report.specs.InputLines.{too_long_line, words_line}
 use Rattle.kat_report.specs.RunTexts.{outcome_line, stuck_line, more_line}

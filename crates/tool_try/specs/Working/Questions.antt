@@ -4,8 +4,8 @@ use Rattle.kat_model.specs.declared.limits.TheConstants.{MAX_TEXT_BYTES}
 use Rattle.text_tokens.specs.declared.fault.TextFault.TheVariants.{TooLong}
 use Rattle.kat_report.specs.InputLines.{too_long_line}
 use Rattle.problem_file.specs.FirstFaults.{too_long, no_text}
-use Rattle.file_parts.specs.Files.{FileParts}
-use Rattle.file_parts.specs.Concrete.{IsConcrete}
+use Rattle.while_lang.specs.Files.{FileParts}
+use Rattle.while_lang.specs.Concrete.{IsConcrete}
 use Rattle.problem_file.proofs.OneAnswer.{have_one_answer}
 use Rattle.abstraction.specs.Abstracts.{AbstractParts, abstract_of}
 use Rattle.tool_inputs.specs.TextProblem.{HasNoAbstraction}

@@ -5,8 +5,8 @@ use Rattle.std.proofs.lemmas.List.Elements.{All-head, All-tail, All-append, All-
 use Rattle.std.proofs.lemmas.Option.{same_Some, none-some}
 use Rattle.kat_model.specs.Stores.{Store, IsStore}
 use Rattle.kat_model.specs.Strings.{GuardedString}
-use Rattle.file_parts.specs.Files.{FileParts}
-use Rattle.file_parts.specs.Concrete.{IsStoreOf}
+use Rattle.while_lang.specs.Files.{FileParts}
+use Rattle.while_lang.specs.Concrete.{IsStoreOf}
 use Rattle.abstraction.specs.Abstracts.{AbstractParts}
 use Rattle.store_trials.specs.Following.{is_followed, followers}
 use Rattle.store_trials.specs.Numbers.{AreTriedNumbers}

@@ -3,10 +3,10 @@ use Rattle.std.proofs.Common.{◌≡◌, ◌⊎◌, ◌<◌, ℕ, List, ◌++◌
 use Rattle.kat_model.specs.Stores.{Store}
 use Rattle.kat_model.specs.Strings.{GuardedString}
 use Rattle.string_tables.specs.Tables.{Refutes}
-use Rattle.file_parts.specs.Files.{FileParts}
-use Rattle.file_parts.specs.Ranges.{IsNumbered}
+use Rattle.while_lang.specs.Files.{FileParts}
+use Rattle.while_lang.specs.Ranges.{IsNumbered}
 use Rattle.problem_file.specs.Reads.{Reads}
-use Rattle.file_parts.specs.Concrete.{IsConcrete, IsStoreOf}
+use Rattle.while_lang.specs.Concrete.{IsConcrete, IsStoreOf}
 use Rattle.problem_file.proofs.NumberedStates.{are_in_ranges}
 use Rattle.abstraction.specs.Abstracts.{AbstractParts}
 use Rattle.certificate.specs.Certs.{CertParts}

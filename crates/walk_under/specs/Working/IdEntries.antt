@@ -8,7 +8,7 @@ use Rattle.kat_model.specs.Steps.{Atom, set_next}
 use Rattle.kat_model.specs.Pairs.{SetPair}
 use Rattle.test_diagrams.specs.Functions.{DiagramsParts, value_of, IsDiagramId, IsAtomOf}
 use Rattle.walk_pairs.specs.IdSets.{IsIdSet}
-use Rattle.walk_moves.specs.Allowance.{IsWithin}
+use Rattle.walk_entries.specs.Allowance.{IsWithin}
 use Rattle.walk_entries.specs.Entries.{EntryParts}
 use Rattle.walk_entries.specs.declared.entry.StepOrigin.{StepOrigin}
 use Rattle.walk_entries.specs.declared.parts.Part.{Part}

@@ -10,7 +10,7 @@ use Rattle.term_nodes.specs.NodeLists.{NodeParts, AreNodes}
 use Rattle.term_nodes.specs.NodeTrees.{tree_at}
 use Rattle.test_diagrams.specs.Functions.{DiagramsParts, KeepsFunctions}
 use Rattle.partial_derivs.specs.Moves.{IsTermOf}
-use Rattle.walk_theory.specs.Walks.{Entry, IsWalk}
+use Rattle.walk_congruence.specs.Walks.{Entry, IsWalk}
 use Rattle.walk_up_to.specs.Working.Visits.{IsVisited}
 use Rattle.term_nodes.specs.NumberSets.{terms_of}
 use Rattle.walk_congruence.specs.Listings.{entries_of, AreIdSets}

@@ -1,5 +1,5 @@
 use Rattle.std.proofs.Common.{◌++◌, ◌∙◌, map, sym, ap}
-use Rattle.abstract_tables.specs.Comparisons.{Assignment}
+use Rattle.abstraction.specs.Comparisons.{Assignment}
 use Rattle.abstraction.specs.declared.rows.ActionRow.{ActionRow}
 use Rattle.abstraction.specs.declared.rows.ActionRow.TheVariants.{Assign}
 use Rattle.abstraction.proofs.MovedRows.{moved, moved_all}

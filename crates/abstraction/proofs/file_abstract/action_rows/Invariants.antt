@@ -1,5 +1,5 @@
 use Rattle.std.proofs.Common.{◌≡◌, ◌++◌, map}
-use Rattle.abstract_tables.specs.Comparisons.{Assignment}
+use Rattle.abstraction.specs.Comparisons.{Assignment}
 use Rattle.abstraction.specs.declared.rows.ActionRow.{ActionRow}
 use Rattle.abstraction.specs.declared.rows.ActionRow.TheVariants.{Assign}
 use Rattle.abstraction.proofs.file_abstract.action_rows.Given as goal

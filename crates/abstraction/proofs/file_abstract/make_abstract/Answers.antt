@@ -1,10 +1,10 @@
 use Rattle.std.proofs.Common.{◌≡◌, ◌∙◌, ap, map, subst, refl}
 use Rattle.kat_model.specs.Trees.{kat_tree}
 use Rattle.goal_forms.specs.Sides.{side_trees}
-use Rattle.file_parts.specs.Trees.{goal_tree}
-use Rattle.abstract_tables.specs.Rounds.{tables_of}
-use Rattle.abstract_tables.specs.Goals.{goal_sides}
-use Rattle.abstract_hypotheses.specs.Derived.{hypotheses}
+use Rattle.while_lang.specs.Trees.{goal_tree}
+use Rattle.abstraction.specs.Rounds.{tables_of}
+use Rattle.abstraction.specs.Goals.{goal_sides}
+use Rattle.abstraction.specs.Derived.{hypotheses}
 use Rattle.abstraction.specs.Abstracts.{with_goal, abstract_parts}
 use Rattle.abstraction.specs.Working.FileTables.{parts_with, IsWithinLimits}
 use Rattle.abstraction.proofs.WholeAbstracts.{whole}

@@ -1,7 +1,7 @@
 use Rattle.std.proofs.Common.{◌∙◌, map, refl, sym}
 use Rattle.kat_model.specs.Trees.{Term, kat_tree}
-use Rattle.abstract_hypotheses.specs.declared.rule.Rule.{Rule}
-use Rattle.abstract_hypotheses.specs.Facts.{Hypothesis}
+use Rattle.abstraction.specs.declared.rule.Rule.{Rule}
+use Rattle.abstraction.specs.Facts.{Hypothesis}
 use Rattle.abstraction.proofs.MovedRows.{moved, moved_all}
 use Rattle.abstraction.proofs.file_abstract.rules_and_terms.Goals as goal
 

@@ -1,7 +1,7 @@
 use Rattle.std.proofs.Common.{◌≡◌, ◌++◌, List, map}
 use Rattle.kat_model.specs.Trees.{Term, kat_tree}
-use Rattle.abstract_hypotheses.specs.declared.rule.Rule.{Rule}
-use Rattle.abstract_hypotheses.specs.Facts.{Hypothesis}
+use Rattle.abstraction.specs.declared.rule.Rule.{Rule}
+use Rattle.abstraction.specs.Facts.{Hypothesis}
 use Rattle.abstraction.proofs.file_abstract.rules_and_terms.Given as goal
 
 abbrev rules_of : List Hypothesis → List Rule

@@ -1,10 +1,10 @@
 use Rattle.std.proofs.Common.{◌≡◌, ◌-◌, ◌∙◌, length, arith}
 use Rattle.kat_model.specs.declared.limits.TheConstants.{MAX_ACTIONS}
 use Rattle.kat_model.specs.Stores.{modulus}
-use Rattle.file_parts.specs.Trees.{goal_tree}
-use Rattle.abstract_tables.specs.Comparisons.{goal_assignments}
-use Rattle.abstract_tables.specs.Tables.{is_same_assignment}
-use Rattle.unique_rows.proofs.CappedTables.{first_rows, too_many_rows}
+use Rattle.while_lang.specs.Trees.{goal_tree}
+use Rattle.abstraction.specs.Comparisons.{goal_assignments}
+use Rattle.abstraction.specs.Tables.{is_same_assignment}
+use Rattle.kat_model.proofs.CappedTables.{first_rows, too_many_rows}
 use Rattle.abstraction.proofs.file_tables.action_table.Goals as goal
 
 pub returns-then-len-most : goal.returns-then-len-most

@@ -1,10 +1,10 @@
 use Rattle.std.proofs.Common.{◌≡◌, ◌-◌, ◌∙◌, length, arith}
 use Rattle.kat_model.specs.declared.limits.TheConstants.{MAX_TESTS}
 use Rattle.kat_model.specs.Stores.{modulus}
-use Rattle.file_parts.specs.Trees.{goal_tree}
-use Rattle.abstract_tables.specs.Comparisons.{goal_comparisons}
+use Rattle.while_lang.specs.Trees.{goal_tree}
+use Rattle.abstraction.specs.Comparisons.{goal_comparisons}
 use Rattle.linear_forms.specs.Sameness.{is_same_comparison}
-use Rattle.unique_rows.proofs.CappedTables.{first_rows, too_many_rows}
+use Rattle.kat_model.proofs.CappedTables.{first_rows, too_many_rows}
 use Rattle.abstraction.proofs.file_tables.test_table.Goals as goal
 
 pub returns-then-len-most : goal.returns-then-len-most

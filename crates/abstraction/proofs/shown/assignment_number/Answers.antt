@@ -1,6 +1,6 @@
 use Rattle.std.proofs.Common.{ap, arith}
 use Rattle.std.specs.List.{position_from}
-use Rattle.abstract_tables.specs.Tables.{is_same_assignment}
+use Rattle.abstraction.specs.Tables.{is_same_assignment}
 use Rattle.abstraction.specs.ShownTables.{row_assignments}
 use Rattle.abstraction.proofs.ShownRows.{action_row_count}
 use Rattle.abstraction.proofs.shown.assignment_number.Goals as goal

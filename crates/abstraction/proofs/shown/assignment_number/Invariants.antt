@@ -1,6 +1,6 @@
 use Rattle.std.proofs.Common.{◌≡◌, ◌+◌, length, drop}
 use Rattle.std.specs.List.{position_from}
-use Rattle.abstract_tables.specs.Tables.{is_same_assignment}
+use Rattle.abstraction.specs.Tables.{is_same_assignment}
 use Rattle.abstraction.specs.ShownTables.{declared_actions, row_assignments}
 use Rattle.abstraction.proofs.shown.assignment_number.Given as goal
 

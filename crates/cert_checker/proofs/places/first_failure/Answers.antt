@@ -4,7 +4,7 @@ use Rattle.kat_model.specs.Members.{Has}
 use Rattle.kat_model.proofs.Places.{has_at}
 use Rattle.certificate.specs.Certs.{nodes_of}
 use Rattle.certificate.specs.Accepted.{tested_pair_of}
-use Rattle.cert_matching.specs.LeastFailures.{IsFirstFailure}
+use Rattle.cert_checker.specs.LeastFailures.{IsFirstFailure}
 use Rattle.cert_questions.specs.Cases.{undecided}
 use Rattle.cert_questions.specs.Passes.{PassParts}
 use Rattle.cert_checker.specs.Working.Places.{IsFirstOf, PairHolds, reason_at, turn_number}

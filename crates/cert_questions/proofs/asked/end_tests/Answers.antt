@@ -2,7 +2,7 @@ use Rattle.std.proofs.Common.{ℕ, ⊎_elim, subst, rules}
 use Rattle.std.proofs.lemmas.Iterator.{YieldsList-from_slice, YieldsList-from_map}
 use Rattle.std.proofs.lemmas.Iterator.Adapters.{items_from_extend}
 use Rattle.std.proofs.lemmas.Result.{IfOk-weaker}
-use Rattle.cert_steps.specs.NodeTables.{IsTest}
+use Rattle.cert_questions.specs.NodeTables.{IsTest}
 use Rattle.cert_questions.proofs.NamedTests.{move_named, named_by_moves, named_stays, pair_named, named_by_pairs}
 use Rattle.cert_questions.proofs.asked.end_tests.Goals as goal
 

@@ -1,8 +1,8 @@
 use Rattle.std.proofs.Common.{◌≡◌, ◌<◌, ◌+◌, ℕ, List, ◌∷◌, length, get_or, drop, subst, arith}
 use Rattle.std.proofs.lemmas.List.{drop_more, drop_all}
-use Rattle.cert_steps.proofs.TargetSets.{test_within}
-use Rattle.cert_steps.proofs.StepLists.{below_at, accept_at}
-use Rattle.cert_steps.proofs.GrowingTables.{tests_trans}
+use Rattle.cert_questions.proofs.TargetSets.{test_within}
+use Rattle.cert_questions.proofs.StepLists.{below_at, accept_at}
+use Rattle.cert_questions.proofs.GrowingTables.{tests_trans}
 use Rattle.cert_questions.proofs.SetAcceptances.{IsAccepting, accepting_begins, accepting_more, accepting_ends}
 use Rattle.cert_questions.proofs.pass.acceptance.Goals as goal
 

@@ -6,9 +6,9 @@ use Rattle.kat_model.specs.Trees.{kat_tree}
 use Rattle.kat_model.specs.Problems.{ProblemParts, HasTestsBelow}
 use Rattle.kat_model.specs.Degrees.{is_short, short_hyps}
 use Rattle.term_nodes.specs.NumberSets.{terms_of}
-use Rattle.cert_steps.specs.NodeTables.{TableParts, nodes_in}
+use Rattle.cert_questions.specs.NodeTables.{TableParts, nodes_in}
 use Rattle.cert_questions.proofs.RootRanges.{AreShorts, hyp_below, shorts_more, shorts_same}
-use Rattle.cert_steps.proofs.GrowingTables.{grows_itself, grows_trans}
+use Rattle.cert_questions.proofs.GrowingTables.{grows_itself, grows_trans}
 use Rattle.cert_questions.proofs.pass.all_short.Goals as goal
 use Rattle.cert_questions.proofs.pass.all_short.Goals.{then-is_short+in_ok-number_of+in_ok-push, else-is_short}
 

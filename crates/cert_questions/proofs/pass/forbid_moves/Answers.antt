@@ -1,10 +1,10 @@
 use Rattle.std.proofs.Common.{◌<◌, length, sym, ap, arith, subst}
 use Rattle.std.proofs.lemmas.Result.{on_ok_weaker}
 use Rattle.term_nodes.specs.NumberSets.{terms_of}
-use Rattle.cert_steps.specs.NodeTables.{nodes_in}
-use Rattle.cert_steps.specs.Targets.{AreAcceptances, set_leads_to}
-use Rattle.cert_steps.proofs.GrowingTables.{tests_trans}
-use Rattle.cert_steps.proofs.StepSets.{stand_kept}
+use Rattle.cert_questions.specs.NodeTables.{nodes_in}
+use Rattle.cert_questions.specs.Targets.{AreAcceptances, set_leads_to}
+use Rattle.cert_questions.proofs.GrowingTables.{tests_trans}
+use Rattle.cert_questions.proofs.StepSets.{stand_kept}
 use Rattle.cert_questions.proofs.pass.forbid_moves.Goals as goal
 
 pub forbid_targets-requires : goal.forbid_targets-requires

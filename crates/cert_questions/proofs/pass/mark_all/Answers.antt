@@ -2,8 +2,8 @@ use Rattle.std.proofs.Common.{◌<◌, true, length, get_or, subst, arith, below
 use Rattle.std.proofs.lemmas.List.{length-set}
 use Rattle.std.proofs.lemmas.Option.{slice_get_within, get_or_from_slice_get}
 use Rattle.kat_model.proofs.Places.{place_of_member, slice_get-set_same, slice_get-set_kept}
-use Rattle.cert_steps.specs.Marks.{IsMarked}
-use Rattle.cert_steps.proofs.StepLists.{below_at}
+use Rattle.cert_questions.specs.Marks.{IsMarked}
+use Rattle.cert_questions.proofs.StepLists.{below_at}
 use Rattle.cert_questions.proofs.pass.mark_all.Goals as goal
 
 pub bounds-marks-number : goal.bounds-marks-number

@@ -1,5 +1,5 @@
 use Rattle.std.proofs.Common.{◌≡◌, ◌<◌, ℕ, length, get_or}
-use Rattle.cert_steps.specs.Marks.{IsMarked}
+use Rattle.cert_questions.specs.Marks.{IsMarked}
 use Rattle.cert_questions.proofs.pass.mark_all.Given as goal
 
 -- the old marks remain, and the processed numbers are marked

@@ -4,7 +4,7 @@ use Rattle.kat_model.specs.Members.{Has}
 use Rattle.kat_model.proofs.Places.{has_at}
 use Rattle.term_nodes.specs.NumberSets.{are_below}
 use Rattle.certificate.specs.PairParts.{PairParts}
-use Rattle.cert_steps.specs.Marks.{IsMarked, IsClosure}
+use Rattle.cert_questions.specs.Marks.{IsMarked, IsClosure}
 use Rattle.cert_questions.specs.Passes.{AreNeeded}
 use Rattle.cert_questions.proofs.CertPairs.{pair_at}
 use Rattle.term_nodes.proofs.Parts.{below_more}

@@ -3,10 +3,10 @@ use mathlib.Core.Path.{ap₂}
 use Rattle.kat_model.specs.Closed.{Closed}
 use Rattle.kat_model.specs.Steps.{set_out}
 use Rattle.term_nodes.specs.NumberSets.{are_below, terms_of}
-use Rattle.cert_steps.specs.NodeTables.{TableParts, HasValues, nodes_in}
-use Rattle.cert_steps.specs.Targets.{AreAcceptances}
-use Rattle.cert_steps.proofs.GrowingTables.{grows_trans}
-use Rattle.cert_steps.proofs.StepLists.{grows_longer}
+use Rattle.cert_questions.specs.NodeTables.{TableParts, HasValues, nodes_in}
+use Rattle.cert_questions.specs.Targets.{AreAcceptances}
+use Rattle.cert_questions.proofs.GrowingTables.{grows_trans}
+use Rattle.cert_questions.proofs.StepLists.{grows_longer}
 use Rattle.cert_questions.specs.Roots.{AreClosedBelow, AreClosedNumbers, compared, counted_short}
 use Rattle.cert_questions.specs.Passes.{AreNeeded, pass_of}
 use Rattle.cert_questions.proofs.Passes.{pass_made}

@@ -2,8 +2,8 @@ use Rattle.std.proofs.Common.{ℕ, ⊎_elim, List, length, refl, sym, ap, ◌∙
 use Rattle.std.specs.Bool.{IsTrue}
 use Rattle.std.proofs.lemmas.Result.{IfOk-weaker}
 use Rattle.term_nodes.specs.NumberSets.{are_below, terms_of}
-use Rattle.cert_steps.specs.NodeTables.{nodes_in}
-use Rattle.cert_steps.proofs.GrowingTables.{grows_itself}
+use Rattle.cert_questions.specs.NodeTables.{nodes_in}
+use Rattle.cert_questions.proofs.GrowingTables.{grows_itself}
 use Rattle.cert_questions.specs.Roots.{counted_short}
 use Rattle.cert_questions.proofs.pass.short_hyps.Goals as goal
 

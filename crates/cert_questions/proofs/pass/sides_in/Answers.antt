@@ -3,7 +3,7 @@ use Rattle.std.specs.Option.{option_map}
 use Rattle.kat_model.specs.Trees.{kat_tree}
 use Rattle.kat_model.specs.Problems.{HasTestsBelow}
 use Rattle.goal_forms.specs.ClosedTrees.{closed_trees}
-use Rattle.cert_steps.proofs.GrowingTables.{grows_itself, grows_trans}
+use Rattle.cert_questions.proofs.GrowingTables.{grows_itself, grows_trans}
 use Rattle.cert_questions.proofs.RootRanges.{universal_told, numbers_made}
 use Rattle.cert_questions.proofs.pass.sides_in.Goals as goal
 

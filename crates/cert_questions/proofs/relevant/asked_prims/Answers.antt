@@ -4,7 +4,7 @@ use Rattle.certificate.specs.declared.nodes.Style.{Style}
 use Rattle.certificate.specs.declared.nodes.Style.TheVariants.{Plain, UpTo, Under}
 use Rattle.certificate.specs.Certs.{HasItsTest}
 use Rattle.certificate.specs.PairParts.{PairParts}
-use Rattle.cert_steps.specs.NodeTables.{TableParts, IsTest}
+use Rattle.cert_questions.specs.NodeTables.{TableParts, IsTest}
 use Rattle.cert_questions.proofs.NamedTests.{named_by_pairs}
 use Rattle.cert_questions.proofs.relevant.asked_prims.Goals as goal
 

@@ -1,4 +1,4 @@
-use Rattle.flow_edges.specs.EdgeViews.{flow_action}
+use Rattle.flow_tables.specs.EdgeViews.{flow_action}
 use Rattle.flow_print.specs.NameTables.{names_of}
 use Rattle.flow_print.specs.FlowTexts.{action_comment}
 use Rattle.flow_print.proofs.WrittenLists.{comment_written}

@@ -1,6 +1,6 @@
 use Rattle.std.proofs.Common.{◌≡◌, ◌++◌, map}
 use Rattle.kat_model.specs.Trees.{kat_tree}
-use Rattle.flow_facts.specs.HypothesisViews.{flow_rule, flow_hypothesis}
+use Rattle.flow_questions.specs.HypothesisViews.{flow_rule, flow_hypothesis}
 use Rattle.flow_questions.proofs.hypotheses.rules_and_terms.Given as goal
 
 -- the rules and terms so far, and the remaining ones

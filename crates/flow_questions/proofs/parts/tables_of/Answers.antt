@@ -6,7 +6,7 @@ use Rattle.flow_forms.specs.Comparisons.{FlowComparisonTree}
 use Rattle.flow_problem.specs.Edges.{FlowActionTree}
 use Rattle.flow_problem.specs.FlowRounds.{flow_rounds}
 use Rattle.flow_problem.specs.FlowProblems.{flow_actions}
-use Rattle.flow_edges.specs.EdgeViews.{flow_action}
+use Rattle.flow_tables.specs.EdgeViews.{flow_action}
 use Rattle.flow_questions.specs.Asked.{question_of, marks_of, HasFault}
 use Rattle.flow_questions.specs.Working.Placed.{of_table_fault}
 use Rattle.flow_questions.specs.Working.Stages.{asked_by}

@@ -2,7 +2,7 @@ use Rattle.std.proofs.Common.{rules, map, flat_map, sym, ◌∙◌, ap}
 use Rattle.std.proofs.lemmas.List.{map-id}
 use Rattle.std.proofs.lemmas.Iterator.Adapters.{YieldsList-from_vec}
 use Rattle.std.proofs.lemmas.Iterator.Consumers.{YieldsList-end}
-use Rattle.flow_edges.specs.EdgeViews.{flow_edge}
+use Rattle.flow_tables.specs.EdgeViews.{flow_edge}
 use Rattle.flow_problem.specs.Splits.{split_edge}
 use Rattle.flow_splits.specs.CellTests.{cell_test_tree}
 use Rattle.flow_splits.proofs.SplitLists.{split_more}

@@ -1,6 +1,6 @@
 use Rattle.std.proofs.Common.{◌≡◌, map, flat_map}
 use Rattle.flow_problem.specs.Splits.{split_edge}
-use Rattle.flow_edges.specs.EdgeViews.{flow_edge}
+use Rattle.flow_tables.specs.EdgeViews.{flow_edge}
 use Rattle.flow_splits.specs.CellTests.{cell_test_tree}
 use Rattle.flow_splits.proofs.splits.split_once.Given as goal
 

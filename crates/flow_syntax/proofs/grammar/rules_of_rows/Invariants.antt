@@ -1,5 +1,5 @@
 use Rattle.std.proofs.Common.{◌≡◌, map, take}
-use Rattle.text_reader.specs.Rules.{parts_of_rules}
+use Rattle.flow_syntax.specs.Rules.{parts_of_rules}
 use Rattle.flow_syntax.specs.Working.Rows.{row_parts}
 use Rattle.flow_syntax.proofs.grammar.rules_of_rows.Given as goal
 

@@ -2,7 +2,7 @@ use Rattle.std.proofs.Common.{◌≤◌, ◌<◌, ◌++◌, length, refl, arith}
 use Rattle.std.specs.List.{flat_map}
 use Rattle.kat_model.specs.declared.limits.TheConstants.{MAX_ACTIONS}
 use Rattle.flow_problem.specs.Edges.{is_same_action}
-use Rattle.flow_edges.specs.EdgeViews.{flow_action}
+use Rattle.flow_tables.specs.EdgeViews.{flow_action}
 use Rattle.flow_problem.specs.EdgeTerms.{edge_actions}
 use Rattle.flow_tables.specs.GraphRows.{row_edges}
 use Rattle.flow_tables.proofs.TableRows.{all_rows, more_rows}

@@ -1,7 +1,7 @@
 use Rattle.kat_model.specs.declared.limits.TheConstants.{MAX_ACTIONS}
 use Rattle.flow_problem.specs.Edges.{is_same_action}
-use Rattle.flow_edges.specs.EdgeViews.{flow_action}
-use Rattle.unique_rows.proofs.MappedRows.{row_kept, row_added}
+use Rattle.flow_tables.specs.EdgeViews.{flow_action}
+use Rattle.kat_model.proofs.MappedRows.{row_kept, row_added}
 use Rattle.flow_tables.proofs.actions.add_action.Goals as goal
 
 pub returns-then-is_left_out : goal.returns-then-is_left_out

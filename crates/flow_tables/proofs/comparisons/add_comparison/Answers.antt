@@ -1,6 +1,6 @@
 use Rattle.kat_model.specs.declared.limits.TheConstants.{MAX_TESTS}
 use Rattle.flow_forms.specs.Comparisons.{comparison_tree, is_same_comparison}
-use Rattle.unique_rows.proofs.MappedRows.{row_kept, row_added}
+use Rattle.kat_model.proofs.MappedRows.{row_kept, row_added}
 use Rattle.flow_tables.proofs.comparisons.add_comparison.Goals as goal
 
 pub returns-then-is_left_out : goal.returns-then-is_left_out

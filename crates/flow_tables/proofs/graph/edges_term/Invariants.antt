@@ -3,7 +3,7 @@ use Rattle.std.specs.Prelude.{filter}
 use Rattle.kat_model.specs.Trees.{kat_tree}
 use Rattle.flow_forms.specs.Comparisons.{comparison_tree}
 use Rattle.flow_problem.specs.EdgeTerms.{edge_term}
-use Rattle.flow_edges.specs.EdgeViews.{flow_action, flow_edge}
+use Rattle.flow_tables.specs.EdgeViews.{flow_action, flow_edge}
 use Rattle.flow_tables.specs.GraphRows.{leads_to}
 use Rattle.flow_tables.proofs.graph.edges_term.Given as goal
 

@@ -4,7 +4,7 @@ use Rattle.std.proofs.lemmas.Result.{IfOk-weaker}
 use Rattle.flow_forms.specs.Comparisons.{comparison_tree}
 use Rattle.flow_terms.specs.Rows.{row_tree}
 use Rattle.flow_terms.specs.declared.fault.TermFault.TheVariants.{TooLarge}
-use Rattle.flow_edges.specs.EdgeViews.{flow_action}
+use Rattle.flow_tables.specs.EdgeViews.{flow_action}
 use Rattle.flow_tables.specs.GraphRows.{row_edges}
 use Rattle.flow_tables.proofs.GraphRows.{rows_same_fit, rows_graph}
 use Rattle.flow_tables.proofs.graph.graph_term.Goals as goal

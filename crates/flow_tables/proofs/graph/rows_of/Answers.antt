@@ -2,7 +2,7 @@ use Rattle.std.proofs.Common.{◌∙◌, ap, map}
 use Rattle.std.proofs.lemmas.Iterator.Adapters.{YieldsList-from_rev_slice}
 use Rattle.std.proofs.lemmas.Iterator.Consumers.{YieldsList-at, YieldsList-end}
 use Rattle.flow_forms.specs.Comparisons.{comparison_tree}
-use Rattle.flow_edges.specs.EdgeViews.{flow_action}
+use Rattle.flow_tables.specs.EdgeViews.{flow_action}
 use Rattle.flow_tables.specs.GraphRows.{row_edges, edge_row}
 use Rattle.flow_tables.proofs.GraphRows.{map-reverse}
 use Rattle.flow_tables.proofs.graph.rows_of.Goals as goal

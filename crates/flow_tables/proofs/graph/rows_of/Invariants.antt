@@ -1,7 +1,7 @@
 use Rattle.std.proofs.Common.{◌≡◌, map}
 use Rattle.flow_forms.specs.Comparisons.{comparison_tree}
 use Rattle.flow_terms.specs.Rows.{row_tree}
-use Rattle.flow_edges.specs.EdgeViews.{flow_action}
+use Rattle.flow_tables.specs.EdgeViews.{flow_action}
 use Rattle.flow_tables.specs.GraphRows.{row_edges, edge_row}
 use Rattle.flow_tables.proofs.graph.rows_of.Given as goal
 

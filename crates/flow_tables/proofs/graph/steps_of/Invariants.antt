@@ -1,7 +1,7 @@
 use Rattle.std.proofs.Common.{◌≡◌, map, Some}
 use Rattle.kat_model.specs.Trees.{kat_tree}
 use Rattle.flow_forms.specs.Comparisons.{comparison_tree}
-use Rattle.flow_edges.specs.EdgeViews.{flow_action, flow_edge}
+use Rattle.flow_tables.specs.EdgeViews.{flow_action, flow_edge}
 use Rattle.flow_tables.specs.GraphRows.{edges_term}
 use Rattle.flow_tables.proofs.graph.steps_of.Given as goal
 

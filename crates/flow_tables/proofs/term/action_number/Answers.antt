@@ -1,5 +1,5 @@
 use Rattle.flow_problem.specs.Edges.{is_same_action}
-use Rattle.flow_edges.specs.EdgeViews.{flow_action}
+use Rattle.flow_tables.specs.EdgeViews.{flow_action}
 use Rattle.flow_tables.proofs.TableRows.{number_of}
 use Rattle.flow_tables.proofs.term.action_number.Goals as goal
 

@@ -1,7 +1,7 @@
 use Rattle.std.proofs.Common.{◌≡◌, ◌∙◌, ◌++◌, ◌∷◌, ℕ, List, sym, ap, subst}
 use Rattle.kat_model.specs.Trees.{one, test_tree}
 use Rattle.kat_model.specs.Steps.{Atom, truth}
-use Rattle.outline_diagrams.proofs.StepSets.{KeepsSteps-trans, IsStepDiagram-kept}
+use Rattle.outline_rules.proofs.StepSets.{KeepsSteps-trans, IsStepDiagram-kept}
 use Rattle.hypothesis_kinds.specs.HypothesisForms.{allows}
 use Rattle.outline_rules.specs.Tasks.{task_parts}
 use Rattle.outline_rules.proofs.Soundness.{follows_same}

@@ -2,7 +2,7 @@ use Rattle.std.proofs.Common.{◌≡◌, ◌∙◌, ◌+◌, ◌∷◌, ◌++◌
 use Rattle.std.proofs.lemmas.List.{take_more}
 use Rattle.std.proofs.lemmas.Option.{slice_get-get_or}
 use Rattle.kat_model.proofs.Places.{has_at}
-use Rattle.outline_diagrams.proofs.StepSets.{KeepsSteps-trans}
+use Rattle.outline_rules.proofs.StepSets.{KeepsSteps-trans}
 use Rattle.hoare_outlines.specs.Working.Noted.{AreNodesFor}
 use Rattle.hoare_outlines.proofs.SetIds.{set_kept}
 use Rattle.hoare_outlines.proofs.Dependences.{depends_all}

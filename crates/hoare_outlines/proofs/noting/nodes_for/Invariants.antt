@@ -1,5 +1,5 @@
 use Rattle.std.proofs.Common.{take}
-use Rattle.outline_diagrams.specs.StepFunctions.{KeepsSteps}
+use Rattle.outline_rules.specs.StepFunctions.{KeepsSteps}
 use Rattle.hoare_outlines.specs.Working.Noted.{IsNodeWriter, AreNodesFor}
 use Rattle.hoare_outlines.proofs.noting.nodes_for.Given as goal
 

@@ -1,6 +1,6 @@
 use Rattle.std.proofs.Common.{List, sym, subst}
-use Rattle.outline_notes.specs.declared.notes.NoteNode.{NoteNode}
-use Rattle.outline_notes.specs.NoteLists.{NotesParts, AreNotes, notes_of}
+use Rattle.outline_rules.specs.declared.notes.NoteNode.{NoteNode}
+use Rattle.outline_rules.specs.NoteLists.{NotesParts, AreNotes, notes_of}
 use Rattle.hoare_outlines.specs.Working.Noted.{NotesSets}
 use Rattle.hoare_outlines.proofs.NodesFor.{are_notes, notes_sets, notes_older}
 use Rattle.hoare_outlines.proofs.noting.notes_of_sets.Goals as goal

@@ -1,5 +1,5 @@
 use Rattle.std.proofs.Common.{◌≡◌}
-use Rattle.file_parts.specs.Concrete.{Agrees}
+use Rattle.while_lang.specs.Concrete.{Agrees}
 use Rattle.tool_check.specs.Chain.{ChainHeadline, ChainReply}
 use Rattle.kat_c.proofs.Replies.{given_reply}
 use Rattle.kat_c.proofs.checking.kat_chain.Goals as goal

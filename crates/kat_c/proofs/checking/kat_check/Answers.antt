@@ -1,5 +1,5 @@
 use Rattle.std.proofs.Common.{◌≡◌}
-use Rattle.file_parts.specs.Concrete.{Agrees}
+use Rattle.while_lang.specs.Concrete.{Agrees}
 use Rattle.tool_inputs.specs.StoreAnswers.{AlwaysEndAlike, AlwaysMeets}
 use Rattle.tool_check.specs.Check.{CheckHeadline, CheckReply}
 use Rattle.kat_c.proofs.Replies.{given_reply}

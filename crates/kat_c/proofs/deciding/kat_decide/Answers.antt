@@ -1,5 +1,5 @@
 use Rattle.std.proofs.Common.{◌≡◌}
-use Rattle.file_parts.specs.Concrete.{Agrees}
+use Rattle.while_lang.specs.Concrete.{Agrees}
 use Rattle.tool_inputs.specs.StoreAnswers.{AlwaysEndAlike, AlwaysMeets, programs_abstraction, triple_abstraction, StoreHeadline}
 use Rattle.tool_decide.specs.Decide.{Headline, DecideReply}
 use Rattle.kat_c.proofs.Replies.{given_reply}

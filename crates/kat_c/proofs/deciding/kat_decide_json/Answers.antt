@@ -1,5 +1,5 @@
 use Rattle.std.proofs.Common.{◌≡◌}
-use Rattle.file_parts.specs.Concrete.{Agrees}
+use Rattle.while_lang.specs.Concrete.{Agrees}
 use Rattle.tool_decide.specs.DecideJson.{ReportHeadline, DecideJsonReply}
 use Rattle.kat_c.proofs.Replies.{given_reply}
 use Rattle.kat_c.proofs.deciding.kat_decide_json.Goals as goal

@@ -2,8 +2,8 @@ use Rattle.std.proofs.Common.{◌≡◌, length, map, refl, ap, ◌∙◌, arith
 use Rattle.std.proofs.lemmas.List.{length_push}
 use Rattle.while_lang.specs.Programs.{ProgTree}
 use Rattle.while_lang.specs.ProgramViews.{stmt_tree, list_tree}
-use Rattle.optimiser_theory.specs.Logs.{LogLineParts}
-use Rattle.optimiser_theory.proofs.LogMeanings.{step_in_range, logs_keep}
+use Rattle.optimiser_steps.specs.Logs.{LogLineParts}
+use Rattle.optimiser_steps.proofs.LogMeanings.{step_in_range, logs_keep}
 use Rattle.optimiser_steps.specs.declared.optimising.Ended.TheVariants.{Done, TurnLimit}
 use Rattle.optimiser_steps.proofs.ListedPrograms.{listed, listed_in}
 use Rattle.optimiser_steps.proofs.Endings.{finished_by_list, step_by_list, has_by_list, log_grows, done_at_end, limit_at_end, done_at_limit, limit_at_limit}

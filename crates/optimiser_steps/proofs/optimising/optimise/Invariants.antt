@@ -1,6 +1,6 @@
 use Rattle.std.proofs.Common.{◌≡◌, ◌+◌, length}
-use Rattle.optimiser_theory.specs.Logs.{IsLog}
-use Rattle.optimiser_theory.specs.Meanings.{HasProgInRange}
+use Rattle.optimiser_steps.specs.Logs.{IsLog}
+use Rattle.optimiser_steps.specs.Meanings.{HasProgInRange}
 use Rattle.optimiser_steps.proofs.optimising.optimise.Given as goal
 
 -- the log leads from the initial program to the current one, and its length is the number of turns used

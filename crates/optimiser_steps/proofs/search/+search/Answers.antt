@@ -3,8 +3,8 @@ use Rattle.std.proofs.lemmas.List.{take_rest, length-map}
 use Rattle.while_lang.specs.Programs.{StmtTree}
 use Rattle.while_lang.specs.ProgramViews.{stmt_tree, list_tree}
 use Rattle.while_lang.specs.declared.prog.Stmt.{Stmt}
-use Rattle.optimiser_theory.specs.Statements.{IsStmtInRange}
-use Rattle.optimiser_theory.proofs.FirstSteps.{none_at_end}
+use Rattle.optimiser_steps.specs.Statements.{IsStmtInRange}
+use Rattle.optimiser_steps.proofs.FirstSteps.{none_at_end}
 use Rattle.optimiser_steps.proofs.Alternatives.{one_of_five}
 use Rattle.optimiser_steps.proofs.Depths.{stmt_below, first_below, second_below, body_below}
 use Rattle.optimiser_steps.proofs.ListedPrograms.{listed_in}

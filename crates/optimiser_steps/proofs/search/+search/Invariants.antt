@@ -1,6 +1,6 @@
 use Rattle.std.proofs.Common.{[], ◌∷◌, map}
 use Rattle.while_lang.specs.ProgramViews.{stmt_tree}
-use Rattle.optimiser_theory.specs.Paths.{NoStepBefore}
+use Rattle.optimiser_steps.specs.Paths.{NoStepBefore}
 use Rattle.optimiser_steps.proofs.search.+search.Given as goal
 
 -- no step is possible before the position

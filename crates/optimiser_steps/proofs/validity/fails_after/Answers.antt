@@ -2,7 +2,7 @@ use Rattle.std.proofs.Common.{refl}
 use Rattle.std.proofs.lemmas.Result.{IfOk-weaker}
 use Rattle.kat_model.specs.Expressions.{always, negation, cond_tree}
 use Rattle.while_lang.specs.ProgramViews.{stmt_tree}
-use Rattle.optimiser_theory.specs.Statements.{single}
+use Rattle.optimiser_steps.specs.Statements.{single}
 use Rattle.optimiser_steps.proofs.ValidGoals.{valid_alike}
 use Rattle.optimiser_steps.proofs.validity.fails_after.Goals as goal
 

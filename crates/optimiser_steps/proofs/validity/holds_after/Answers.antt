@@ -2,8 +2,8 @@ use Rattle.std.proofs.Common.{refl, ap, ◌∙◌}
 use Rattle.std.proofs.lemmas.Result.{IfOk-weaker}
 use Rattle.kat_model.specs.Expressions.{always, cond_tree}
 use Rattle.while_lang.specs.ProgramViews.{stmt_tree}
-use Rattle.optimiser_theory.specs.Statements.{single}
-use Rattle.optimiser_theory.proofs.RangesKept.{single_in}
+use Rattle.optimiser_steps.specs.Statements.{single}
+use Rattle.optimiser_steps.proofs.RangesKept.{single_in}
 use Rattle.optimiser_steps.proofs.ValidGoals.{valid_alike}
 use Rattle.optimiser_steps.proofs.validity.holds_after.Goals as goal
 

@@ -1,6 +1,6 @@
 use Rattle.std.proofs.Common.{Ok, sym, ap, ◌∙◌}
 use Rattle.std.proofs.lemmas.Result.{IfOk-weaker}
-use Rattle.file_parts.specs.Trees.{goal_tree}
+use Rattle.while_lang.specs.Trees.{goal_tree}
 use Rattle.abstraction.specs.Abstracts.{with_goal}
 use Rattle.optimiser_steps.proofs.ValidGoals.{same_by_abstract}
 use Rattle.optimiser_steps.proofs.validity.is_goal_same.Goals as goal

@@ -1,6 +1,6 @@
 use Rattle.std.proofs.Common.{◌∙◌}
 use Rattle.std.proofs.lemmas.Result.{IfOk-weaker}
-use Rattle.outline_diagrams.proofs.StepSets.{KeepsSteps-trans}
+use Rattle.outline_rules.proofs.StepSets.{KeepsSteps-trans}
 use Rattle.outline_rules.proofs.HypothesisRanges.{problem_hyps, ruled_out_by}
 use Rattle.outline_rules.proofs.Entailments.{ends_are}
 use Rattle.outline_rules.proofs.checking.ends_of.Goals as goal

@@ -1,9 +1,9 @@
 use Rattle.std.proofs.Common.{◌∙◌, true}
 use Rattle.kat_model.specs.Trees.{test_tree}
 use Rattle.kat_model.specs.Steps.{Atom, truth}
-use Rattle.outline_diagrams.specs.declared.moments.Moment.TheVariants.{Before}
-use Rattle.outline_diagrams.proofs.StepSets.{IsStepDiagram-kept}
-use Rattle.outline_notes.specs.NoteLists.{note_holds}
+use Rattle.outline_rules.specs.declared.moments.Moment.TheVariants.{Before}
+use Rattle.outline_rules.proofs.StepSets.{IsStepDiagram-kept}
+use Rattle.outline_rules.specs.NoteLists.{note_holds}
 use Rattle.hypothesis_kinds.specs.HypothesisForms.{allows}
 use Rattle.outline_rules.proofs.NodeSets.{sets_kept}
 use Rattle.outline_rules.proofs.Entailments.{entails_implied, implied_tests, ends_implied, told_same, then_same}

@@ -1,8 +1,8 @@
 use Rattle.std.proofs.Common.{◌∙◌}
 use Rattle.kat_model.specs.Steps.{Atom, truth}
-use Rattle.outline_diagrams.specs.declared.moments.Moment.TheVariants.{Before}
-use Rattle.outline_diagrams.proofs.StepSets.{IsStepDiagram-kept}
-use Rattle.outline_notes.specs.NoteLists.{note_holds}
+use Rattle.outline_rules.specs.declared.moments.Moment.TheVariants.{Before}
+use Rattle.outline_rules.proofs.StepSets.{IsStepDiagram-kept}
+use Rattle.outline_rules.specs.NoteLists.{note_holds}
 use Rattle.hypothesis_kinds.specs.HypothesisForms.{allows}
 use Rattle.outline_rules.specs.Working.Checks.{guard_tree}
 use Rattle.outline_rules.proofs.NodeSets.{sets_kept}

@@ -1,6 +1,6 @@
-use Rattle.outline_diagrams.specs.declared.moments.Moment.TheVariants.{Before}
-use Rattle.outline_diagrams.proofs.StepSets.{KeepsSteps-trans}
-use Rattle.outline_notes.specs.NoteLists.{note_holds}
+use Rattle.outline_rules.specs.declared.moments.Moment.TheVariants.{Before}
+use Rattle.outline_rules.proofs.StepSets.{KeepsSteps-trans}
+use Rattle.outline_rules.specs.NoteLists.{note_holds}
 use Rattle.outline_rules.proofs.NodeSets.{moment_sets_kept}
 use Rattle.outline_rules.proofs.LeastTargets.{least_next}
 use Rattle.outline_rules.proofs.checking.least_unmet_check.Goals as goal

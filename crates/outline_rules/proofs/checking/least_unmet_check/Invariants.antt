@@ -1,7 +1,7 @@
 use Rattle.std.proofs.Common.{map, take}
-use Rattle.outline_diagrams.specs.declared.moments.Moment.TheVariants.{Before}
-use Rattle.outline_diagrams.specs.StepFunctions.{KeepsSteps}
-use Rattle.outline_notes.specs.NoteLists.{note_holds}
+use Rattle.outline_rules.specs.declared.moments.Moment.TheVariants.{Before}
+use Rattle.outline_rules.specs.StepFunctions.{KeepsSteps}
+use Rattle.outline_rules.specs.NoteLists.{note_holds}
 use Rattle.outline_rules.specs.Working.Checks.{condition_of}
 use Rattle.outline_rules.specs.Working.Sets.{AreMomentSets, TellsLeastUnmet}
 use Rattle.outline_rules.proofs.checking.least_unmet_check.Given as goal

@@ -1,8 +1,8 @@
 use Rattle.std.proofs.Common.{map}
-use Rattle.outline_diagrams.specs.declared.moments.Moment.TheVariants.{Before}
-use Rattle.outline_diagrams.proofs.StepSets.{KeepsSteps-trans}
+use Rattle.outline_rules.specs.declared.moments.Moment.TheVariants.{Before}
+use Rattle.outline_rules.proofs.StepSets.{KeepsSteps-trans}
 use Rattle.kat_model.specs.Trees.{test_tree}
-use Rattle.outline_notes.specs.NoteLists.{note_holds}
+use Rattle.outline_rules.specs.NoteLists.{note_holds}
 use Rattle.outline_rules.specs.Follows.{starts, ends}
 use Rattle.outline_rules.specs.Working.Checks.{condition_of}
 use Rattle.outline_rules.proofs.NodeSets.{moment_sets_kept}

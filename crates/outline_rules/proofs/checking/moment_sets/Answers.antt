@@ -1,4 +1,4 @@
-use Rattle.outline_diagrams.proofs.StepSets.{IsStepDiagram-kept}
+use Rattle.outline_rules.proofs.StepSets.{IsStepDiagram-kept}
 use Rattle.outline_rules.proofs.HypothesisRanges.{problem_hyps, allowed_by}
 use Rattle.outline_rules.proofs.checking.moment_sets.Goals as goal
 

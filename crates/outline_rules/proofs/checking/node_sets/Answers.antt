@@ -1,6 +1,6 @@
 use Rattle.std.proofs.Common.{◌≡◌, ◌<◌, ◌∙◌, ℕ, [], length, sym, ap, subst, arith}
 use Rattle.std.proofs.lemmas.List.{length-take-le}
-use Rattle.outline_diagrams.proofs.StepSets.{KeepsSteps-itself, KeepsSteps-trans}
+use Rattle.outline_rules.proofs.StepSets.{KeepsSteps-itself, KeepsSteps-trans}
 use Rattle.outline_rules.specs.Follows.{HasTests}
 use Rattle.outline_rules.specs.Working.Sets.{AreNodeSets}
 use Rattle.outline_rules.proofs.NodeSets.{sets_none, sets_next, parts_in_range}

@@ -1,5 +1,5 @@
 use Rattle.std.proofs.Common.{take}
-use Rattle.outline_diagrams.specs.StepFunctions.{KeepsSteps, AreStepDiagrams}
+use Rattle.outline_rules.specs.StepFunctions.{KeepsSteps, AreStepDiagrams}
 use Rattle.outline_rules.specs.Working.Sets.{AreNodeSets}
 use Rattle.outline_rules.proofs.checking.node_sets.Given as goal
 

@@ -1,5 +1,5 @@
 use Rattle.std.proofs.Common.{ap, ◌∙◌}
-use Rattle.file_parts.specs.Trees.{goal_tree}
+use Rattle.while_lang.specs.Trees.{goal_tree}
 use Rattle.store_trials.specs.Numbers.{tried, AreTriedNumbers}
 use Rattle.store_trials.proofs.StoreBounds.{are_tried, numbers_within, some_number}
 use Rattle.store_trials.proofs.numbers.tried_numbers.Goals as goal

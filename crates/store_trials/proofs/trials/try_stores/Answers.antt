@@ -1,7 +1,7 @@
 use Rattle.std.proofs.Common.{sym, subst, arith}
 use Rattle.std.proofs.lemmas.Bool.{both_ways}
 use Rattle.kat_model.specs.Stores.{IsStore}
-use Rattle.file_parts.specs.Trees.{goal_tree}
+use Rattle.while_lang.specs.Trees.{goal_tree}
 use Rattle.store_trials.specs.Trials.{ShowFalse}
 use Rattle.store_trials.proofs.TrialFacts.{none_more, counted_more, none_found}
 use Rattle.store_trials.proofs.trials.try_stores.Goals as goal

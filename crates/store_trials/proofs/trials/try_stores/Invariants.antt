@@ -1,5 +1,5 @@
 use Rattle.std.proofs.Common.{◌≤◌, ◌<◌, ◌+◌, ◌*◌, ℕ, drop}
-use Rattle.file_parts.specs.Trees.{goal_tree}
+use Rattle.while_lang.specs.Trees.{goal_tree}
 use Rattle.store_trials.specs.Trials.{NeverShown, NoneShown}
 use Rattle.store_trials.proofs.trials.try_stores.Given as goal
 

@@ -1,5 +1,5 @@
 use Rattle.std.proofs.Common.{codes, sym}
-use Rattle.optimiser_theory.proofs.ProgramRanges.{program_in_range}
+use Rattle.optimiser_steps.proofs.ProgramRanges.{program_in_range}
 use Rattle.tests_programs.proofs.optimising.is_optimised_in.Goals as goal
 
 pub optimise-requires : goal.optimise-requires

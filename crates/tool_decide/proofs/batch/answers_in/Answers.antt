@@ -1,6 +1,6 @@
 use Rattle.std.proofs.Common.{map, inl, inr, refl, sym, subst, ap, ◌∙◌, ◌++◌, arith}
 use Rattle.abstraction.specs.Abstracts.{HasNumbersInRange}
-use Rattle.file_parts.specs.Trees.{goal_tree}
+use Rattle.while_lang.specs.Trees.{goal_tree}
 use Rattle.tool_decide.specs.Batch.{AsksSome, goal_line, IsGoalAnswer, AnswersFrom}
 use Rattle.tool_decide.specs.Working.GoalLists.{own_goal, goal_at, other_has, all_first}
 use Rattle.tool_decide.specs.Working.BatchReplies.{first_answered, next_answered}

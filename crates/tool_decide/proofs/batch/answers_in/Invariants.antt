@@ -1,5 +1,5 @@
 use Rattle.std.proofs.Common.{map}
-use Rattle.file_parts.specs.Trees.{goal_tree}
+use Rattle.while_lang.specs.Trees.{goal_tree}
 use Rattle.tool_decide.specs.Batch.{AnswersFrom}
 use Rattle.tool_decide.specs.Working.GoalLists.{with_first}
 use Rattle.tool_decide.proofs.batch.answers_in.Given as goal

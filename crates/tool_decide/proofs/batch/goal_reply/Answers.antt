@@ -1,6 +1,6 @@
 use Rattle.std.proofs.lemmas.Result.{IfOk-weaker}
 use Rattle.abstraction.specs.Abstracts.{with_goal}
-use Rattle.file_parts.specs.Trees.{goal_tree}
+use Rattle.while_lang.specs.Trees.{goal_tree}
 use Rattle.tool_decide.specs.Working.BatchReplies.{question_answered}
 use Rattle.tool_decide.proofs.batch.goal_reply.Goals as goal
 

@@ -1,7 +1,7 @@
 use Rattle.std.proofs.Common.{map, inl, inr, refl, sym, subst, arith, rules}
 use Rattle.kat_model.specs.Members.{Has}
 use Rattle.abstraction.specs.Abstracts.{HasNumbersInRange, with_goal}
-use Rattle.file_parts.specs.Trees.{goal_tree}
+use Rattle.while_lang.specs.Trees.{goal_tree}
 use Rattle.tool_inputs.specs.TextProblem.{HasNoAbstraction}
 use Rattle.tool_inputs.specs.Steps.{IsRefusal}
 use Rattle.tool_decide.specs.Batch.{with_each, AsksSome, IsFirstRefused}

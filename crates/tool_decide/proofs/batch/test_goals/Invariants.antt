@@ -1,7 +1,7 @@
 use Rattle.std.proofs.Common.{map}
 use Rattle.kat_model.specs.Members.{Has}
-use Rattle.file_parts.specs.Files.{FileParts}
-use Rattle.file_parts.specs.Trees.{goal_tree}
+use Rattle.while_lang.specs.Files.{FileParts}
+use Rattle.while_lang.specs.Trees.{goal_tree}
 use Rattle.tool_decide.specs.Batch.{AsksSome}
 use Rattle.tool_decide.specs.Working.GoalLists.{with_first}
 use Rattle.tool_decide.proofs.batch.test_goals.Given as goal

@@ -2,7 +2,7 @@ use Rattle.std.proofs.Common.{List, Bool, ℕ, ◌++◌, map, subst, ap, ◌∙�
 use Rattle.kat_model.specs.Trees.{kat_tree}
 use Rattle.kat_model.specs.Problems.{ProblemParts}
 use Rattle.abstraction.specs.Abstracts.{AbstractParts}
-use Rattle.abstraction.specs.Rule.{Rule}
+use Rattle.abstraction.specs.declared.rule.Rule.{Rule}
 use Rattle.certificate.specs.declared.evidence.Evidence.TheVariants.{Equal}
 use Rattle.cert_checker.specs.Answers.{Shows}
 use Rattle.tool_explain.specs.Used.{marked, with_marked}

@@ -1,6 +1,6 @@
 use Rattle.std.proofs.Common.{ap}
 use Rattle.std.proofs.lemmas.Bool.{both_ways}
-use Rattle.file_parts.specs.Files.{FileParts}
+use Rattle.while_lang.specs.Files.{FileParts}
 use Rattle.tool_explain.proofs.SideNames.{none_more, first_named, not_listed}
 use Rattle.tool_explain.proofs.sides.prog_name.Goals as goal
 

@@ -1,5 +1,5 @@
 use Rattle.std.proofs.Common.{◌≡◌, ap, subst}
-use Rattle.file_parts.specs.Files.{FileParts}
+use Rattle.while_lang.specs.Files.{FileParts}
 use Rattle.text_scopes.specs.ScopeParts.{ScopeParts}
 use Rattle.tool_optimise.specs.LogTexts.{optimised_text}
 use Rattle.tool_optimise.proofs.optimise.log_of.Goals as goal

@@ -1,6 +1,6 @@
 use Rattle.std.proofs.Common.{◌≡◌, Option, IfOk, ap, subst}
 use Rattle.std.specs.Option.{option_map}
-use Rattle.file_parts.specs.Files.{FileParts}
+use Rattle.while_lang.specs.Files.{FileParts}
 use Rattle.outline_rules.specs.Tasks.{TaskParts, task_parts}
 use Rattle.tool_outline.specs.Working.TextTriples.{shown_task}
 use Rattle.tool_outline.proofs.triple.file_task.Goals as goal

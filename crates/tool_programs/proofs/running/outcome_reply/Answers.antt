@@ -1,5 +1,5 @@
 use Rattle.std.proofs.Common.{subst}
-use Rattle.file_parts.specs.Files.{FileParts}
+use Rattle.while_lang.specs.Files.{FileParts}
 use Rattle.tool_programs.specs.Running.{HasRun}
 use Rattle.tool_programs.proofs.RunOutcomes.{outcome_reached}
 use Rattle.tool_programs.proofs.running.outcome_reply.Goals as goal

@@ -1,7 +1,7 @@
 use Rattle.std.proofs.Common.{subst}
 use Rattle.kat_model.specs.Problems.{IsProblem}
 use Rattle.text_scopes.specs.ScopeParts.{IsWellFormed}
-use Rattle.file_parts.specs.Files.{FileParts}
+use Rattle.while_lang.specs.Files.{FileParts}
 use Rattle.abstraction.specs.Abstracts.{AbstractParts}
 use Rattle.tool_programs.proofs.show.know_limits.Goals as goal
 

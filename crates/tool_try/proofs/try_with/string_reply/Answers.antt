@@ -1,7 +1,7 @@
 use Rattle.std.proofs.Common.{List, sym, subst, ◌∙◌}
 use Rattle.std.specs.Prelude.{All}
 use Rattle.kat_model.specs.Stores.{Store}
-use Rattle.file_parts.specs.Concrete.{IsStoreOf}
+use Rattle.while_lang.specs.Concrete.{IsStoreOf}
 use Rattle.store_trials.proofs.FalseGoals.{concrete_goal}
 use Rattle.tool_try.specs.Working.TrialStores.{followers_within}
 use Rattle.tool_try.proofs.try_with.string_reply.Goals as goal

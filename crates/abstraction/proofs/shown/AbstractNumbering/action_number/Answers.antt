@@ -1,6 +1,6 @@
 use Rattle.std.proofs.Common.{ap, ◌∙◌}
 use Rattle.std.specs.List.{position_from}
-use Rattle.abstract_tables.specs.Tables.{is_same_assignment}
+use Rattle.abstraction.specs.Tables.{is_same_assignment}
 use Rattle.abstraction.specs.ShownTables.{declared_actions, row_assignments}
 use Rattle.abstraction.proofs.ShownRows.{position_from-position}
 use Rattle.abstraction.proofs.shown.AbstractNumbering.action_number.Goals as goal

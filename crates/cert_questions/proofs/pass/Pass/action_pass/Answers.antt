@@ -4,9 +4,9 @@ use Rattle.std.proofs.lemmas.List.{length-map}
 use Rattle.kat_model.specs.Members.{Has}
 use Rattle.certificate.specs.declared.nodes.Style.TheVariants.{UpTo}
 use Rattle.certificate.specs.PairParts.{PairParts}
-use Rattle.cert_steps.specs.NodeTables.{IsTest}
-use Rattle.cert_steps.specs.Marks.{IsMarked}
-use Rattle.cert_steps.specs.Targets.{AreSteps}
+use Rattle.cert_questions.specs.NodeTables.{IsTest}
+use Rattle.cert_questions.specs.Marks.{IsMarked}
+use Rattle.cert_questions.specs.Targets.{AreSteps}
 use Rattle.cert_questions.specs.Cases.{AreAsked}
 use Rattle.cert_questions.specs.Passes.{PassParts, IsPass, AreForbidden, StepsOf}
 use Rattle.cert_questions.proofs.Passes.{pass_with, pass_kept, steps_stay, passes_trans, grown}

@@ -5,11 +5,11 @@ use Rattle.kat_model.specs.Members.{Has}
 use Rattle.kat_model.specs.Trees.{Term}
 use Rattle.kat_model.specs.Steps.{set_out}
 use Rattle.term_nodes.specs.NumberSets.{terms_of}
-use Rattle.cert_steps.specs.NodeTables.{TablesGrow, nodes_in}
-use Rattle.cert_steps.specs.Marks.{IsMarked}
-use Rattle.cert_steps.specs.Targets.{AreSteps, set_leads_to}
-use Rattle.cert_steps.proofs.GrowingTables.{grows_trans}
-use Rattle.cert_steps.proofs.StepLists.{all_step}
+use Rattle.cert_questions.specs.NodeTables.{TablesGrow, nodes_in}
+use Rattle.cert_questions.specs.Marks.{IsMarked}
+use Rattle.cert_questions.specs.Targets.{AreSteps, set_leads_to}
+use Rattle.cert_questions.proofs.GrowingTables.{grows_trans}
+use Rattle.cert_questions.proofs.StepLists.{all_step}
 use Rattle.cert_questions.specs.Roots.{counted_short}
 use Rattle.cert_questions.specs.Passes.{PassParts, IsPass, AddsMoves, AreForbidden}
 use Rattle.cert_questions.proofs.ForbiddenMoves.{forbidden_without, forbidden_by, none_forbidden}

@@ -1,5 +1,5 @@
 use Rattle.std.proofs.Common.{sym, ap, ◌∙◌, subst}
-use Rattle.cert_steps.specs.NodeTables.{ArePrimsBelow, tables_of}
+use Rattle.cert_questions.specs.NodeTables.{ArePrimsBelow, tables_of}
 use Rattle.cert_questions.proofs.pass.Pass.of.Goals as goal
 
 pub of-requires : goal.of-requires

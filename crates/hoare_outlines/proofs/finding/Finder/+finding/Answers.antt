@@ -7,8 +7,8 @@ use Rattle.kat_model.specs.Steps.{truth}
 use Rattle.while_lang.specs.Flows.{FlowTree, loop}
 use Rattle.while_lang.specs.FlowViews.{flow_stmt, flows_tree}
 use Rattle.while_lang.specs.declared.flow.Flow.{Flow}
-use Rattle.outline_diagrams.specs.StepFunctions.{StepDiagramsParts, AreStepDiagrams, IsStepId, KeepsSteps}
-use Rattle.outline_diagrams.proofs.StepSets.{KeepsSteps-itself, KeepsSteps-trans, IsStepId-kept}
+use Rattle.outline_rules.specs.StepFunctions.{StepDiagramsParts, AreStepDiagrams, IsStepId, KeepsSteps}
+use Rattle.outline_rules.proofs.StepSets.{KeepsSteps-itself, KeepsSteps-trans, IsStepId-kept}
 use Rattle.hoare_outlines.specs.declared.finding.Finder.{Finder}
 use Rattle.hoare_outlines.specs.Working.AtomSets.{AtomSet, IsSetId}
 use Rattle.hoare_outlines.specs.Working.Reached.{IsFlowInRange, IsStmtInRange}

@@ -2,7 +2,7 @@ use Rattle.std.proofs.Common.{◌≡◌, ◌++◌, ℕ, List, drop}
 use Rattle.kat_model.specs.Trees.{test_tree}
 use Rattle.while_lang.specs.Flows.{loop}
 use Rattle.while_lang.specs.FlowViews.{flows_tree}
-use Rattle.outline_diagrams.specs.StepFunctions.{KeepsSteps}
+use Rattle.outline_rules.specs.StepFunctions.{KeepsSteps}
 use Rattle.hoare_outlines.specs.Working.AtomSets.{AtomSet, IsSetId, IsAllowedSet}
 use Rattle.hoare_outlines.specs.Working.Reached.{IsFlowInRange}
 use Rattle.hoare_outlines.specs.Working.Found.{IsFinder, FlowSoFar}

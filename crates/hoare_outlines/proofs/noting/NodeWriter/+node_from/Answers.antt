@@ -1,8 +1,8 @@
 use Rattle.std.proofs.Common.{◌≡◌, ◌∙◌, ◌+◌, ◌<◌, List, length, false, true, refl, sym, subst, arith, rules}
 use Rattle.std.proofs.lemmas.Result.{IfOk-weaker}
-use Rattle.outline_diagrams.proofs.StepSets.{KeepsSteps-itself, KeepsSteps-trans}
-use Rattle.outline_notes.specs.declared.notes.NoteNode.{NoteNode}
-use Rattle.outline_notes.specs.declared.notes.NoteNode.TheVariants.{Branch}
+use Rattle.outline_rules.proofs.StepSets.{KeepsSteps-itself, KeepsSteps-trans}
+use Rattle.outline_rules.specs.declared.notes.NoteNode.{NoteNode}
+use Rattle.outline_rules.specs.declared.notes.NoteNode.TheVariants.{Branch}
 use Rattle.hoare_outlines.specs.Working.Noted.{IsNodeFor, AreNoteNodes}
 use Rattle.hoare_outlines.proofs.Dependences.{from_kept, fixed_from}
 use Rattle.hoare_outlines.proofs.NodeLists.{adds_one, adds_longer}

@@ -1,6 +1,6 @@
 use Rattle.std.proofs.Common.{map, inl, inr, sym, subst, rules}
 use Rattle.problem_file.specs.Reads.{FirstFaultOfAll}
-use Rattle.file_parts.specs.Trees.{goal_tree}
+use Rattle.while_lang.specs.Trees.{goal_tree}
 use Rattle.tool_inputs.specs.TextProblem.{IsFaultOf}
 use Rattle.tool_inputs.specs.Steps.{IsRefusal}
 use Rattle.tool_inputs.specs.ReplySpecs.{RepliesWith}

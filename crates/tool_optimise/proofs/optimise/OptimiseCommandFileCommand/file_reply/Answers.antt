@@ -1,5 +1,5 @@
 use Rattle.std.proofs.Common.{inr, refl, sym}
-use Rattle.optimiser_theory.proofs.ProgramRanges.{program_in_range}
+use Rattle.optimiser_steps.proofs.ProgramRanges.{program_in_range}
 use Rattle.tool_optimise.proofs.optimise.OptimiseCommandFileCommand.file_reply.Goals as goal
 
 pub log_of-requires : goal.log_of-requires

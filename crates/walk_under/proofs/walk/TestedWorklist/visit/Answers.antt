@@ -11,12 +11,12 @@ use Rattle.walk_entries.specs.declared.parts.Part.{Part}
 use Rattle.walk_under.specs.declared.walk.TestedWorklist.{TestedWorklist}
 use Rattle.walk_under.specs.declared.walk.StepSource.{StepSource}
 use Rattle.walk_entries.specs.Entries.{EntryParts}
-use Rattle.walk_moves.specs.Allowance.{IsWithin}
+use Rattle.walk_entries.specs.Allowance.{IsWithin}
 use Rattle.walk_entries.specs.Reaching.{IsPartOf}
 use Rattle.walk_entries.specs.Parts.{HasPartAt, AreParts}
 use Rattle.walk_under.specs.Working.IdEntries.{IsNextPart}
 use Rattle.walk_under.specs.Working.Walking.{WalkContext, IsAtSource, AreNextItems}
-use Rattle.walk_moves.proofs.AllowedImages.{within_kept}
+use Rattle.walk_entries.proofs.AllowedImages.{within_kept}
 use Rattle.walk_entries.proofs.PartCases.{region_somewhere, part_at_last}
 use Rattle.walk_under.proofs.Standing.{next_part_kept, source_later}
 use Rattle.walk_under.proofs.Visiting.{visited_then, visited_part, visited_nowhere, visited_from, next_items_kept, next_same, part_next}

@@ -1,4 +1,0 @@
-pub mod ConstantForms
-pub mod NumberedRows
-pub mod SharedTests
-pub mod JoinedHypotheses

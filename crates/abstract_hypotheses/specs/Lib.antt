@@ -1,3 +1,0 @@
-pub mod Facts
-pub mod Derived
-pub mod Working

@@ -1,3 +1,0 @@
-pub mod ConstantForms
-pub mod PairFacts
-pub mod PairTests

@@ -1,7 +1,0 @@
-use Rattle.std.proofs.Common.{rules}
-use Rattle.std.proofs.lemmas.Result.{IfOk-equal}
-use Rattle.unique_rows.proofs.CappedTables.{with_all_new_within-append}
-use Rattle.abstract_tables.proofs.assignments.add_goal.Goals as goal
-
-pub returns-in_ok-add_side-in-Equal : goal.returns-in_ok-add_side-in-Equal
-returns-in_ok-add_side-in-Equal c = search (rules, IfOk-equal, with_all_new_within-append)

@@ -1,7 +1,0 @@
-use Rattle.std.proofs.Common.{rules}
-use Rattle.std.proofs.lemmas.Result.{IfOk-equal}
-use Rattle.unique_rows.proofs.CappedTables.{with_all_new_within-append}
-use Rattle.abstract_tables.proofs.comparisons.+add_cond.Goals as goal
-
-pub returns-in_ok-add_cond-in-And : goal.returns-in_ok-add_cond-in-And
-returns-in_ok-add_cond-in-And t c = search (rules, IfOk-equal, with_all_new_within-append)

@@ -1,4 +1,0 @@
-use Rattle.abstract_tables.proofs.tables.AssignedFormTableRow.is_same.Goals as goal
-
-pub returns : goal.returns
-returns c = rw (← c.other.view_is) c.assigns.ensures

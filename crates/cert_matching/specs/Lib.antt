@@ -1,3 +1,0 @@
-pub mod AtomOrder
-pub mod LeastFailures
-pub mod Working

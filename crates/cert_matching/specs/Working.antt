@@ -1,4 +1,0 @@
-pub mod Outcomes
-pub mod Reaching
-pub mod Matching
-pub mod Rounds

@@ -1,3 +1,0 @@
-pub mod NodeTables
-pub mod Marks
-pub mod Targets

@@ -1,4 +1,0 @@
-pub mod Files
-pub mod Trees
-pub mod Concrete
-pub mod Ranges

@@ -1,2 +1,0 @@
-pub mod EdgesOfTables
-mod SameActions

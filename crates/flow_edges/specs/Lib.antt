@@ -1,2 +1,0 @@
-pub mod EdgeViews
-pub mod EdgeTables

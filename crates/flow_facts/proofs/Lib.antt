@@ -1,4 +1,0 @@
-pub mod CappedHypotheses
-pub mod ArcFacts
-pub mod FactsByList
-pub mod IntervalSteps

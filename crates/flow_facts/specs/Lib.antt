@@ -1,5 +1,0 @@
-pub mod CappedLists
-pub mod HypothesisViews
-pub mod Completions
-pub mod IntervalViews
-pub mod FactLists

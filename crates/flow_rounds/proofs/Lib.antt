@@ -1,2 +1,0 @@
-pub mod AssignedForms
-pub mod GrownTables

@@ -1,0 +1,46 @@
+-- What fits the parts of a derivation, where each rule keeps it.
+use Rattle.std.proofs.Common.{◌≡◌, ℕ, List, [], ◌∷◌, ◌++◌, map, Some, slice_get}
+use Rattle.text_tokens.specs.TokenParts.{TokenParts}
+use Rattle.flow_syntax.specs.declared.rule.TheConstants.{OPEN_ROUND}
+use Rattle.flow_syntax.specs.declared.rule.Mark.{Mark}
+use Rattle.flow_syntax.specs.declared.rule.Part.{Part}
+use Rattle.flow_syntax.specs.declared.rule.Part.TheVariants.{Token, Opening, Closing, Phrase}
+use Rattle.flow_syntax.specs.declared.rule.Start.{Start}
+use Rattle.flow_syntax.specs.declared.rule.Start.TheVariants.{Take, Open, Group, Otherwise}
+use Rattle.flow_syntax.specs.declared.rule.Step.{Step}
+use Rattle.flow_syntax.specs.declared.rule.Step.TheVariants.{Shift, Apply, Match, Close}
+use Rattle.flow_syntax.specs.Rules.{RuleParts, rule_parts}
+use Rattle.flow_syntax.specs.Derivations.{MayStart, IsLeftmost}
+use Rattle.flow_syntax.specs.Values.{Actions, values}
+
+-- the first token of a rule before other parts
+abbrev pub started : Start → List Part → List Part
+started (Take t) ps = Token t ∷ ps
+started (Open t) ps = Opening t ∷ ps
+started (Group g) ps = Opening OPEN_ROUND ∷ ps
+started Otherwise ps = ps
+
+-- values fit the parts that they are of, with another first step
+pub record Keeps {V : Type 0} (rules : List RuleParts) (g : Actions V) (Fits : List Part → List V → Type 0) : Type 0 where
+  pub nothing : Fits [] []
+  pub token : (t : ℕ) (ps : List Part) (x : TokenParts) (vs : List V) → Fits ps vs → Fits (Token t ∷ ps) (g.leaf x ∷ vs)
+  pub opening : (t : ℕ) (ps : List Part) (x : TokenParts) (vs : List V) → Fits ps vs → Fits (Opening t ∷ ps) (g.leaf x ∷ vs)
+  pub closing : (ps : List Part) (vs : List V) → Fits ps vs → Fits (Closing ∷ ps) vs
+  pub rule : (k n : ℕ) (start : Start) (parts ps : List Part) (vs : List V) → slice_get rules k ≡ Some (rule_parts n start parts) → Fits (started start (parts ++ ps)) vs → Fits (Phrase n ∷ ps) (g.apply k vs)
+
+first_fits : {V : Type 0} (rules : List RuleParts) (g : Actions V) (Fits : List Part → List V → Type 0) → Keeps rules g Fits → (start : Start) (t : ℕ) (ps : List Part) (x : TokenParts) (vs : List V) → MayStart start t → Fits ps vs → Fits (started start ps) (g.leaf x ∷ vs)
+first_fits rules g Fits k (Take u) t ps x vs m h = k.token u ps x vs h
+first_fits rules g Fits k (Open u) t ps x vs m h = k.opening u ps x vs h
+first_fits rules g Fits k (Group n) t ps x vs m h = k.opening OPEN_ROUND ps x vs h
+first_fits rules g Fits k Otherwise t ps x vs m h = absurd m
+
+pub values_fit : {V : Type 0} (rules : List RuleParts) (g : Actions V) (Fits : List Part → List V → Type 0) → Keeps rules g Fits → (mark : TokenParts → Mark) (ps : List Part) (steps : List Step) (ts : List TokenParts) → IsLeftmost rules ps steps (map mark ts) → Fits ps (values g steps ts)
+values_fit rules g Fits k mark [] [] [] l = k.nothing
+values_fit rules g Fits k mark (Token t ∷ ps) (Match ∷ steps) (x ∷ ts) (e, l) = k.token t ps x (values g steps ts) (values_fit rules g Fits k mark ps steps ts l)
+values_fit rules g Fits k mark (Opening t ∷ ps) (Match ∷ steps) (x ∷ ts) (e, l) = k.opening t ps x (values g steps ts) (values_fit rules g Fits k mark ps steps ts l)
+values_fit rules g Fits k mark (Closing ∷ ps) (Close ∷ steps) ts l = k.closing ps (values g steps ts) (values_fit rules g Fits k mark ps steps ts l)
+values_fit rules g Fits k mark (Phrase n ∷ ps) (Shift i ∷ steps) (x ∷ ts) (start, parts, e, m, l) =
+    k.rule i n start parts ps _ e (first_fits rules g Fits k start _ (parts ++ ps) x (values g steps ts) m (values_fit rules g Fits k mark (parts ++ ps) steps ts l))
+values_fit rules g Fits k mark (Phrase n ∷ ps) (Apply i ∷ steps) ts (parts, e, l) =
+    k.rule i n Otherwise parts ps (values g steps ts) e (values_fit rules g Fits k mark (parts ++ ps) steps ts l)
+values_fit rules g Fits k mark ps steps ts l = absurd l

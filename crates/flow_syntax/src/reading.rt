@@ -1,0 +1,334 @@
+//! The reader.
+ghost use Rattle.std.specs.Prelude.{◌≡◌, ◌<◌, ◌≤◌, ◌+◌, [], ◌∷◌, ◌++◌, length, drop, reverse, None, Some, IfOk, IfErr, IfSome, IfNone, OnOk};
+ghost use Rattle.kat_model.specs.declared.limits.TheConstants.{MAX_OPEN};
+ghost use Rattle.flow_syntax.specs.Rules.{parts_of_rule, parts_of_rules, first_terminal, after_close, starts_with, begins, suits, applies, chosen};
+ghost use Rattle.flow_syntax.specs.Moves.{state, place_of, mismatch, taking, opening, move, predicted};
+ghost use Rattle.flow_syntax.specs.Derivations.{Derives, IsReaderFault};
+ghost use Rattle.flow_syntax.specs.Weights.{AreLight};
+ghost use Rattle.flow_syntax.specs.Working.Reading.{Sees, Takes, Makes};
+
+use crate::rule::{
+    CLOSE_ROUND, END_OF_TEXT, Grammar, Mark, NUMBER, OPEN_ROUND, Part, Rule, Start, Step,
+    WIDE_NUMBER,
+};
+use kat_model::{MAX_OPEN, NoMemory};
+use std::alloc::Global;
+use text_tokens::TextFault;
+
+fn mark_at(marks: &[Mark], i: usize) -> Option<Mark>
+    ensures { Sees result marks.now i }
+{
+    match marks.get(i) {
+        Some(mark) => Some(*mark),
+        None => None,
+    }
+}
+
+fn place_at(marks: &[Mark], i: usize, end: usize) -> usize
+    ensures { result ≡ place_of end (drop i marks.now) }
+{
+    match mark_at(marks, i) {
+        Some(mark) => mark.at,
+        None => end,
+    }
+}
+
+fn first_terminal(marks: &[Mark], i: usize) -> usize
+    ensures { result ≡ first_terminal (drop i marks.now) }
+{
+    match mark_at(marks, i) {
+        None => END_OF_TEXT,
+        Some(mark) => {
+            if mark.terminal == WIDE_NUMBER {
+                NUMBER
+            } else {
+                mark.terminal
+            }
+        }
+    }
+}
+
+// Returns the index after the parenthesis that matches one just before `from`, or the number of tokens if there is none.
+#[tactic(auto, using(crate::proofs::Parentheses::next_drop))]
+fn after_close(marks: &[Mark], from: usize) -> usize
+    ensures { drop result marks.now ≡ after_close 0 (drop from marks.now) }
+{
+    let mut open: usize = 0;
+    for i in from..marks.len() {
+        let terminal = marks[i].terminal;
+        if terminal == OPEN_ROUND {
+            open += 1;
+        } else if terminal == CLOSE_ROUND {
+            if open == 0 {
+                return i + 1;
+            }
+            open -= 1;
+        }
+    }
+    marks.len()
+}
+
+fn starts_with(terminal: usize, start: Start) -> bool
+    ensures { result ≡ starts_with terminal start }
+{
+    match start {
+        Start::Take(wanted) => terminal == wanted,
+        Start::Open(wanted) => terminal == wanted,
+        Start::Group(_) => terminal == OPEN_ROUND,
+        Start::Otherwise => false,
+    }
+}
+
+// Whether some rule of the phrase begins with a token of this terminal.
+fn begins(rules: &[Rule], phrase: usize, terminal: usize) -> bool
+    ensures { result ≡ begins (parts_of_rules rules.now) phrase terminal }
+{
+    for rule in rules {
+        if rule.phrase == phrase && starts_with(terminal, rule.start) {
+            return true;
+        }
+    }
+    false
+}
+
+fn suits_group(rules: &[Rule], phrase: usize, marks: &[Mark], at: usize) -> bool
+    ensures { result ≡ begins (parts_of_rules rules.now) phrase (first_terminal (after_close 0 (drop 1 (drop at marks.now)))) }
+{
+    match mark_at(marks, at) {
+        None => begins(rules, phrase, END_OF_TEXT),
+        Some(_) => {
+            let after = after_close(marks, at + 1);
+            begins(rules, phrase, first_terminal(marks, after))
+        }
+    }
+}
+
+// Whether a rule with this start applies before the token at index `at`.
+fn suits(rules: &[Rule], start: Start, marks: &[Mark], at: usize) -> bool
+    ensures { result ≡ suits (parts_of_rules rules.now) start (drop at marks.now) }
+{
+    match start {
+        Start::Take(wanted) => first_terminal(marks, at) == wanted,
+        Start::Open(wanted) => first_terminal(marks, at) == wanted,
+        Start::Group(phrase) => {
+            first_terminal(marks, at) == OPEN_ROUND && !suits_group(rules, phrase, marks, at)
+        }
+        Start::Otherwise => true,
+    }
+}
+
+fn applies(rules: &[Rule], rule: &Rule, phrase: usize, marks: &[Mark], at: usize) -> bool
+    ensures { result ≡ applies (parts_of_rules rules.now) phrase (drop at marks.now) (parts_of_rule rule.now) }
+{
+    rule.phrase == phrase && suits(rules, rule.start, marks, at)
+}
+
+// Returns the rule by which the phrase is read before the token at index `at`, with its number.
+fn chosen<'a>(
+    rules: &'a [Rule],
+    phrase: usize,
+    marks: &[Mark],
+    at: usize,
+) -> Option<(usize, &'a Rule)>
+    ensures some { IfSome result (λ x. chosen (parts_of_rules rules.now) phrase (drop at marks.now) ≡ Some (x.0, parts_of_rule x.1.now)) }
+    ensures none { IfNone result (chosen (parts_of_rules rules.now) phrase (drop at marks.now) ≡ None) }
+{
+    for (k, rule) in rules.iter().enumerate() {
+        if applies(rules, rule, phrase, marks, at) {
+            return Some((k, rule));
+        }
+    }
+    None
+}
+
+fn mismatch(wanted: usize, mark: Mark) -> TextFault
+    ensures { result ≡ mismatch wanted mark }
+{
+    if wanted == NUMBER && mark.terminal == WIDE_NUMBER {
+        return TextFault::NumberTooWide(mark.at);
+    }
+    TextFault::Syntax(mark.at)
+}
+
+// Returns the index after a token of this terminal, or its fault.
+fn take(marks: &[Mark], at: usize, wanted: usize, end: usize) -> Result<usize, TextFault>
+    ensures value { Takes marks.now result (taking end wanted (drop at marks.now)) }
+    ensures goes { IfOk result (λ next. (next ≡ at + 1) × (at < length marks.now)) }
+{
+    match mark_at(marks, at) {
+        None => Err(TextFault::Syntax(end)),
+        Some(mark) => {
+            if mark.terminal != wanted {
+                return Err(mismatch(wanted, mark));
+            }
+            Ok(at + 1)
+        }
+    }
+}
+
+// Likewise, for a token that opens a construct inside `depth` others.
+fn take_opening(
+    marks: &[Mark],
+    at: usize,
+    wanted: usize,
+    depth: usize,
+    end: usize,
+) -> Result<usize, TextFault>
+    ensures value { Takes marks.now result (opening end depth wanted (drop at marks.now)) }
+    ensures goes { IfOk result (λ next. (next ≡ at + 1) × (at < length marks.now) × (depth < MAX_OPEN)) }
+{
+    match mark_at(marks, at) {
+        None => Err(TextFault::Syntax(end)),
+        Some(mark) => {
+            if mark.terminal != wanted {
+                return Err(mismatch(wanted, mark));
+            }
+            if depth >= MAX_OPEN {
+                return Err(TextFault::TooDeep(mark.at));
+            }
+            Ok(at + 1)
+        }
+    }
+}
+
+// The parts that are still to be read are on a stack, whose last element is the next part.
+
+fn next_part(stack: &mut Vec<Part>) -> Option<Part>
+    ensures some { IfSome result (λ part. reverse stack.old.items ≡ part ∷ reverse stack.new.items) }
+    ensures none { IfNone result (reverse stack.old.items ≡ []) }
+{
+    stack.pop()
+}
+
+fn push_part(stack: &mut Vec<Part>, part: Part) -> Result<(), NoMemory>
+    ensures { OnOk result (reverse stack.new.items ≡ part ∷ reverse stack.old.items) }
+{
+    Ok(stack.push(part)?)
+}
+
+fn push_parts(stack: &mut Vec<Part>, parts: &[Part]) -> Result<(), NoMemory>
+    ensures { OnOk result (reverse stack.new.items ≡ parts.now ++ reverse stack.old.items) }
+{
+    let mut left = parts.len();
+    while left > 0 {
+        left -= 1;
+        push_part(stack, parts[left])?;
+    }
+    Ok(())
+}
+
+// Reads the start of a rule and pushes its parts.
+fn begin(
+    rule: &Rule,
+    number: usize,
+    marks: &[Mark],
+    end: usize,
+    at: usize,
+    depth: usize,
+    stack: &mut Vec<Part>,
+) -> Result<(Step, usize, usize), TextFault>
+    ensures value { Makes marks.now (reverse stack.new.items) result (predicted end depth (reverse stack.old.items) (drop at marks.now) (Some (number, parts_of_rule rule.now))) }
+{
+    match rule.start {
+        Start::Take(wanted) => {
+            let next = take(marks, at, wanted, end)?;
+            push_parts(stack, &rule.parts)?;
+            Ok((Step::Shift(number), next, depth))
+        }
+        Start::Open(wanted) => {
+            let next = take_opening(marks, at, wanted, depth, end)?;
+            push_parts(stack, &rule.parts)?;
+            Ok((Step::Shift(number), next, depth + 1))
+        }
+        Start::Group(_) => {
+            let next = take_opening(marks, at, OPEN_ROUND, depth, end)?;
+            push_parts(stack, &rule.parts)?;
+            Ok((Step::Shift(number), next, depth + 1))
+        }
+        Start::Otherwise => {
+            push_parts(stack, &rule.parts)?;
+            Ok((Step::Apply(number), at, depth))
+        }
+    }
+}
+
+// Reads one part, which was taken from the stack.
+fn advance(
+    rules: &[Rule],
+    marks: &[Mark],
+    end: usize,
+    part: Part,
+    at: usize,
+    depth: usize,
+    stack: &mut Vec<Part>,
+) -> Result<(Step, usize, usize), TextFault>
+    ensures value { Makes marks.now (reverse stack.new.items) result (move (parts_of_rules rules.now) end (state depth (part ∷ reverse stack.old.items) (drop at marks.now))) }
+{
+    match part {
+        Part::Token(wanted) => {
+            let next = take(marks, at, wanted, end)?;
+            Ok((Step::Match, next, depth))
+        }
+        Part::Opening(wanted) => {
+            let next = take_opening(marks, at, wanted, depth, end)?;
+            Ok((Step::Match, next, depth + 1))
+        }
+        Part::Closing => Ok((Step::Close, at, depth.saturating_sub(1))),
+        Part::Phrase(phrase) => match chosen(rules, phrase, marks, at) {
+            None => Err(TextFault::Syntax(place_at(marks, at, end))),
+            Some((number, rule)) => begin(rule, number, marks, end, at, depth, stack),
+        },
+    }
+}
+
+// Reads the parts until none is left. `weights` shows that the steps end.
+#[tactic(auto, using(crate::proofs::Leading::leads_push, crate::proofs::MovesMade::refused_by))]
+fn read_parts(
+    alloc: Global,
+    rules: &[Rule],
+    weights: &[usize],
+    marks: &[Mark],
+    phrase: usize,
+    end: usize,
+) -> Result<Vec<Step>, TextFault>
+    requires { AreLight weights.now (parts_of_rules rules.now) }
+    ensures read { IfOk result (λ steps. Derives (parts_of_rules rules.now) phrase marks.now end steps.items) }
+    ensures refused { IfErr result (λ fault. IsReaderFault (parts_of_rules rules.now) phrase marks.now end fault) }
+{
+    let mut steps = Vec::new(alloc);
+    let mut stack = Vec::new(alloc);
+    push_part(&mut stack, Part::Phrase(phrase))?;
+    let mut at = 0;
+    let mut depth: usize = 0;
+    'parts: loop {
+        let Some(part) = next_part(&mut stack) else {
+            if at < marks.len() {
+                return Err(TextFault::Syntax(place_at(marks, at, end)));
+            }
+            return Ok(steps);
+        };
+        let (step, next, inside) = advance(rules, marks, end, part, at, depth, &mut stack)?;
+        steps.push(step)?;
+        at = next;
+        depth = inside;
+    }
+}
+
+/// Returns the leftmost derivation of the tokens from a phrase, in a text of `end` bytes, or its first fault: `Syntax`
+/// at a token that is not allowed there (or at `end`), `TooDeep` at a token that opens a construct inside `MAX_OPEN`
+/// others, or `NumberTooWide` at a number of 2^64 or more. Fails with `NoMemory` only when out of memory.
+pub fn read(
+    alloc: Global,
+    grammar: &Grammar,
+    marks: &[Mark],
+    phrase: usize,
+    end: usize,
+) -> Result<Vec<Step>, TextFault>
+    requires { AreLight grammar.now.weights.items (parts_of_rules grammar.now.rules.items) }
+    ensures read { IfOk result (λ steps. Derives (parts_of_rules grammar.now.rules.items) phrase marks.now end steps.items) }
+    ensures refused { IfErr result (λ fault. IsReaderFault (parts_of_rules grammar.now.rules.items) phrase marks.now end fault) }
+{
+    let rules = grammar.rules.as_slice();
+    let weights = grammar.weights.as_slice();
+    read_parts(alloc, rules, weights, marks, phrase, end)
+}

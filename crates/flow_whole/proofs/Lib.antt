@@ -1,2 +1,0 @@
-pub mod TreeFits
-pub mod OneOutcome

@@ -1,3 +1,0 @@
-pub mod GuardedForms
-pub mod PairBounds
-pub mod GuardedExpressions

@@ -1,5 +1,0 @@
-use Rattle.gkat_terms.proofs.GuardedForms.{guarded_by_form}
-use Rattle.gkat_terms.proofs.guards.guarded.Goals as goal
-
-pub returns : goal.returns
-returns c = guarded_by_form _ _ c.is_guarded.ensures

@@ -1,5 +1,0 @@
-use Rattle.gkat_terms.proofs.GuardedExpressions.{kat_of_guarded}
-use Rattle.gkat_terms.proofs.laws.expressions_are_guarded.Goals as goal
-
-pub returns : goal.returns
-returns c e = kat_of_guarded e

@@ -1,4 +1,0 @@
-use Rattle.gkat_terms.proofs.products.+product_of_last.Given as goal
-
-abbrev pub decreases-product_of_last : goal.decreases-product_of_last
-decreases-product_of_last l = l.count

@@ -1,5 +1,0 @@
-use Rattle.optimiser_theory.proofs.OneFirstStep.{first_step_is_one_lem}
-use Rattle.optimiser_theory.proofs.laws.first_step_is_one.Goals as goal
-
-pub returns : goal.returns
-returns c f p q r line other a b = first_step_is_one_lem f p q r line other a b

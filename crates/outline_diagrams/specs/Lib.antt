@@ -1,3 +1,0 @@
-pub mod Interleaved
-pub mod StepFunctions
-pub mod Working

@@ -1,5 +1,0 @@
-use Rattle.outline_notes.proofs.Exactness.{faults_are_first_lem}
-use Rattle.outline_notes.proofs.laws.faults_are_first.Goals as goal
-
-pub returns : goal.returns
-returns c = faults_are_first_lem

@@ -1,5 +1,0 @@
-use Rattle.outline_notes.proofs.Exactness.{is_text_or_faulty_lem}
-use Rattle.outline_notes.proofs.laws.is_text_or_faulty.Goals as goal
-
-pub returns : goal.returns
-returns c = is_text_or_faulty_lem

@@ -1,9 +1,0 @@
-pub mod Parentheses
-pub mod Leading
-pub mod Light
-pub mod Ending
-pub mod Leftmost
-pub mod ValuesMade
-pub mod MovesMade
-pub mod ReaderExamples
-pub mod KeptValues

@@ -1,3 +1,0 @@
-pub mod RowMembers
-pub mod CappedTables
-pub mod MappedRows

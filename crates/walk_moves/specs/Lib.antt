@@ -1,3 +1,0 @@
-pub mod Bars
-pub mod Allowance
-pub mod Working
