@@ -2,20 +2,36 @@
 //! diagrams are true, and the certificate of listed pairs.
 #![tactic(auto)]
 
+mod allowed;
+mod asking;
+mod bars;
 mod cert;
 mod closed;
+mod entry;
+mod entry_list;
 mod found;
 mod items;
+mod listing;
+mod merging;
 mod needed;
 mod order;
 mod outputs;
 mod pair;
+mod parts;
+mod reaching;
+mod test_table;
 
+pub use allowed::AllowedMoves;
 pub use cert::cert_of;
 pub use closed::{ClosedIds, closed_ids};
+pub use entry::{Entry, StepOrigin};
+pub use entry_list::EntryList;
 pub use found::{BothSteps, Difference};
 pub use items::{Ends, Item, Side, ends_of, guard_across, guard_on, items_of};
+pub use listing::{Listing, TargetSets, listed_atoms, place_with, unlisted_part};
+pub use merging::merged_pairs;
 pub use needed::add_all;
 pub use order::actions_in_order;
 pub use outputs::{and_not, difference, differing_atom, true_atom};
 pub use pair::StoredPair;
+pub use parts::{Part, differing_part, parts_of};

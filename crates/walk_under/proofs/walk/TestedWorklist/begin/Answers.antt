@@ -1,7 +1,7 @@
 use Rattle.std.proofs.Common.{List, ◌∷◌, ◌++◌, [], map, refl, ap, ◌∙◌, subst}
 use Rattle.term_nodes.specs.NodeTrees.{tree_at}
-use Rattle.walk_entries.specs.Entries.{EntryParts}
-use Rattle.walk_entries.specs.Allowance.{IsAllowance}
+use Rattle.walk_pairs.specs.Entries.{EntryParts}
+use Rattle.walk_pairs.specs.Allowance.{IsAllowance}
 use Rattle.walk_under.specs.declared.walk.TestedWorklist.{TestedWorklist}
 use Rattle.walk_under.proofs.Running.{walk_begun}
 use Rattle.walk_under.proofs.walk.TestedWorklist.begin.Goals as goal
