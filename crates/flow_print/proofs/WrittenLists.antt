@@ -5,9 +5,9 @@ use Rattle.std.proofs.lemmas.List.{drop_more}
 use Rattle.kat_model.specs.declared.expression.Width.{Width}
 use Rattle.flow_forms.specs.declared.form.FlowForm.{FlowForm}
 use Rattle.flow_forms.specs.Forms.{FlowFormTree, form_tree}
-use Rattle.flow_symbolic.specs.declared.way.SortedForm.{SortedForm}
-use Rattle.flow_symbolic.specs.ActionTrees.{set_tree}
-use Rattle.flow_symbolic.specs.WayTrees.{sorted_form}
+use Rattle.flow_ways.specs.declared.way.SortedForm.{SortedForm}
+use Rattle.flow_ways.specs.ActionTrees.{set_tree}
+use Rattle.flow_ways.specs.WayTrees.{sorted_form}
 use Rattle.problem_texts.specs.CommentedTexts.{comment_text, comments_text}
 use Rattle.flow_print.specs.NameTables.{NameTable, sort_width}
 use Rattle.flow_print.specs.FormTexts.{comma_text, form_text}

@@ -8,7 +8,7 @@ use Rattle.flow_problem.specs.Substitutions.{some_set, forms_from, forms_after, 
 use Rattle.flow_problem.specs.FlowRounds.{comparisons_if_any, comparisons_before, with_comparisons}
 use Rattle.flow_problem.specs.Edges.{assigned}
 use Rattle.flow_questions.specs.LiteralsWith.{literal_with, comparisons_with}
-use Rattle.flow_symbolic.proofs.CourseLists.{pushed_then}
+use Rattle.flow_ways.proofs.CourseLists.{pushed_then}
 
 next_is : (k : ℕ) → k + 1 ≡ suc k
 next_is k = omega arith

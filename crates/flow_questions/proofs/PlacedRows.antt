@@ -11,9 +11,9 @@ use Rattle.flow_model.specs.declared.graph.Block.{Block}
 use Rattle.flow_model.specs.Graphs.{Graph}
 use Rattle.flow_model.specs.Polish.{graph_of}
 use Rattle.flow_ways.specs.Ways.{ways}
-use Rattle.flow_symbolic.specs.declared.limits.TheConstants.{MAX_WAYS}
-use Rattle.flow_symbolic.specs.declared.fault.WayFault.{WayFault}
-use Rattle.flow_symbolic.specs.declared.fault.WayFault.TheVariants as way
+use Rattle.flow_ways.specs.declared.limits.TheConstants.{MAX_WAYS}
+use Rattle.flow_ways.specs.declared.fault.WayFault.{WayFault}
+use Rattle.flow_ways.specs.declared.fault.WayFault.TheVariants as way
 use Rattle.flow_places.specs.Places.{place_marks, is_place, places}
 use Rattle.flow_places.specs.Loops.{HasUncutLoop}
 use Rattle.flow_places.specs.Live.{live}

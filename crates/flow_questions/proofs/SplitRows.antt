@@ -4,7 +4,7 @@ use Rattle.std.proofs.lemmas.List.{map-id}
 use Rattle.kat_model.specs.Members.{Has}
 use Rattle.flow_model.specs.declared.sort.Sort.{Sort}
 use Rattle.flow_forms.specs.Comparisons.{FlowComparisonTree}
-use Rattle.flow_symbolic.specs.declared.limits.TheConstants.{MAX_WAYS}
+use Rattle.flow_ways.specs.declared.limits.TheConstants.{MAX_WAYS}
 use Rattle.flow_problem.specs.Edges.{Edge}
 use Rattle.flow_problem.specs.Splits.{cell_tests, split_edges}
 use Rattle.flow_problem.specs.FlowProblems.{edges_with}

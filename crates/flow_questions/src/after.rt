@@ -4,7 +4,7 @@ ghost use Rattle.flow_forms.specs.Forms.{form_tree};
 ghost use Rattle.flow_forms.specs.Comparisons.{comparison_tree, literal_tree};
 ghost use Rattle.flow_forms.specs.Substitution.{comparison_after as compared_after};
 ghost use Rattle.flow_ways.specs.CondForms.{comparison_is_small as is_small_comparison, literal_is_small as is_small_literal};
-ghost use Rattle.flow_symbolic.specs.ActionTrees.{set_tree};
+ghost use Rattle.flow_ways.specs.ActionTrees.{set_tree};
 ghost use Rattle.flow_problem.specs.Substitutions.{comparison_fits, literal_if_small as literal_unless_large, literal_if_fits, literal_after as literal_after_set};
 ghost use Rattle.flow_questions.specs.LiteralsWith.{literal_with as literal_with_forms};
 

@@ -1,12 +1,12 @@
 //! The forms of the variables after a parallel assignment.
 ghost use Rattle.std.specs.Prelude.{◌≡◌, ◌+◌, ◌<◌, ◌^◌, ◌∷◌, ◌++◌, IfOk, OnOk, length, map, suc};
 ghost use Rattle.flow_forms.specs.Forms.{form_tree};
-ghost use Rattle.flow_symbolic.specs.ActionTrees.{set_tree};
+ghost use Rattle.flow_ways.specs.ActionTrees.{set_tree};
 ghost use Rattle.flow_problem.specs.Substitutions.{set_or_own as form_set_or_own, forms_from, forms_after as forms_after_set};
 
 use flow_forms::FlowForm;
 use flow_model::Sort;
-use flow_symbolic::{own_form, push_form};
+use flow_ways::{own_form, push_form};
 use kat_model::NoMemory;
 use std::alloc::Global;
 
@@ -26,7 +26,7 @@ fn set_or_own(
 
 // Appends the forms of the variables from `number` on.
 #[cycle(push_forms)]
-#[tactic(auto, using(flow_symbolic::proofs::CourseLists::none_then))]
+#[tactic(auto, using(flow_ways::proofs::CourseLists::none_then))]
 fn push_forms(
     alloc: Global,
     sorts: &[Sort],

@@ -4,7 +4,7 @@ ghost use Rattle.std.specs.List.{enumerate_from};
 ghost use Rattle.kat_model.specs.Trees.{test_tree, kat_tree};
 ghost use Rattle.flow_forms.specs.Forms.{form_tree};
 ghost use Rattle.flow_forms.specs.Comparisons.{comparison_tree, literal_tree};
-ghost use Rattle.flow_symbolic.specs.ActionTrees.{set_tree};
+ghost use Rattle.flow_ways.specs.ActionTrees.{set_tree};
 ghost use Rattle.flow_tables.specs.EdgeViews.{flow_action};
 ghost use Rattle.flow_problem.specs.Edges.{assigned};
 ghost use Rattle.flow_problem.specs.Substitutions.{prim_of};

@@ -6,7 +6,7 @@ ghost use Rattle.flow_questions.specs.Working.Placed.{of_place_fault, of_way_fau
 use crate::hypothesis_fault::HypothesisFault;
 use flow_places::PlaceFault;
 use flow_splits::SplitFault;
-use flow_symbolic::WayFault;
+use flow_ways::WayFault;
 use flow_tables::TableFault;
 use flow_terms::TermFault;
 use kat_model::NoMemory;

@@ -21,7 +21,7 @@ pub(crate) struct Reasons {
 }
 
 // Appends a rule and a term.
-#[tactic(auto, using(flow_symbolic::proofs::CourseLists::map_pushed))]
+#[tactic(auto, using(flow_ways::proofs::CourseLists::map_pushed))]
 fn push_parts(
     rules: &mut Vec<FlowRule>,
     terms: &mut Vec<Kat>,

@@ -10,7 +10,7 @@ ghost use Rattle.flow_questions.specs.Working.Placed.{AllAre, table_edges, AreFe
 use crate::fault::FlowFault;
 use flow_model::{Block, Sort};
 use flow_places::{live_sets, places};
-use flow_symbolic::WayFault;
+use flow_ways::WayFault;
 use flow_tables::{FlowEdge, edges_from};
 use kat_model::NoMemory;
 use std::alloc::Global;
@@ -38,7 +38,7 @@ fn is_place(places: &[bool], block: usize) -> bool
 }
 
 // Appends a block if it is a place.
-#[tactic(auto, using(flow_symbolic::proofs::CourseLists::none_then))]
+#[tactic(auto, using(flow_ways::proofs::CourseLists::none_then))]
 fn push_place(places: &[bool], block: usize, list: &mut Vec<usize>) -> Result<(), NoMemory>
     ensures { OnOk result (list.new.items ≡ list.old.items ++ (if slice_index_or places.now block false then block ∷ [] else [])) }
 {
@@ -60,7 +60,7 @@ fn place_list(alloc: Global, places: &[bool]) -> Result<Vec<usize>, NoMemory>
 }
 
 /// Appends the edges from one more place.
-#[tactic(auto, using(flow_symbolic::proofs::CourseLists::map_pushed))]
+#[tactic(auto, using(flow_ways::proofs::CourseLists::map_pushed))]
 pub(crate) fn push_row(list: &mut Vec<Vec<FlowEdge>>, row: Vec<FlowEdge>) -> Result<(), NoMemory>
     ensures { OnOk result (map row_edges list.new.items ≡ map row_edges list.old.items ++ row_edges row ∷ []) }
 {
@@ -70,7 +70,7 @@ pub(crate) fn push_row(list: &mut Vec<Vec<FlowEdge>>, row: Vec<FlowEdge>) -> Res
 
 // Appends the edges from each of some blocks.
 #[cycle(push_rows)]
-#[tactic(auto, using(flow_symbolic::proofs::CourseLists::none_then))]
+#[tactic(auto, using(flow_ways::proofs::CourseLists::none_then))]
 fn push_rows(
     alloc: Global,
     graph: &Marked,
@@ -88,7 +88,7 @@ fn push_rows(
 }
 
 #[cycle(push_rows)]
-#[tactic(auto, using(flow_symbolic::proofs::CourseLists::pushed_then, crate::proofs::PlacedRows::here_refused, crate::proofs::PlacedRows::later_refused, crate::proofs::PlacedRows::are_few))]
+#[tactic(auto, using(flow_ways::proofs::CourseLists::pushed_then, crate::proofs::PlacedRows::here_refused, crate::proofs::PlacedRows::later_refused, crate::proofs::PlacedRows::are_few))]
 fn push_rows_from(
     alloc: Global,
     graph: &Marked,

@@ -2,7 +2,7 @@
 ghost use Rattle.std.specs.Prelude.{◌≡◌, ◌∷◌, IfOk, OnOk, map, flat_map, option_map};
 ghost use Rattle.flow_forms.specs.Forms.{form_tree};
 ghost use Rattle.flow_forms.specs.Comparisons.{comparison_tree, literal_tree};
-ghost use Rattle.flow_symbolic.specs.ActionTrees.{set_tree};
+ghost use Rattle.flow_ways.specs.ActionTrees.{set_tree};
 ghost use Rattle.flow_tables.specs.EdgeViews.{flow_action};
 ghost use Rattle.flow_problem.specs.Edges.{assigned};
 ghost use Rattle.flow_problem.specs.FlowRounds.{comparisons_if_any, comparisons_before, with_comparison, with_comparisons, flow_round, flow_rounds};

@@ -2,7 +2,7 @@
 ghost use Rattle.std.specs.Prelude.{◌≡◌, ◌+◌, ◌<◌, ◌^◌, ◌∷◌, length, map};
 ghost use Rattle.flow_forms.specs.Forms.{form_tree};
 ghost use Rattle.flow_forms.specs.Comparisons.{comparison_tree};
-ghost use Rattle.flow_symbolic.specs.ActionTrees.{set_tree};
+ghost use Rattle.flow_ways.specs.ActionTrees.{set_tree};
 ghost use Rattle.flow_problem.specs.Substitutions.{has_variable as form_has_variable, comparison_has as comparison_has_variable, some_set as some_set_has, sets_cell_of as sets_cell};
 
 use flow_forms::{FlowComparison, FlowForm};

@@ -10,7 +10,7 @@ use Rattle.flow_model.specs.declared.graph.Block.{Block as ABlock}
 use Rattle.flow_model.specs.Polish.{cond_of, values_of, statement_of, jump_of, block_of, graph_of}
 use Rattle.flow_ways.specs.Conditions.{FlowCondTree, opposite_cond}
 use Rattle.flow_ways.specs.Ways.{Course, with_test, condition_on, after_statements, first_course}
-use Rattle.flow_symbolic.specs.Outcomes.{Outcome, together, if_fits, outcome_if, one_way, placed_way, branch_outcome, jump_outcome, block_outcome, outcome_from}
+use Rattle.flow_ways.specs.Outcomes.{Outcome, together, if_fits, outcome_if, one_way, placed_way, branch_outcome, jump_outcome, block_outcome, outcome_from}
 use Rattle.flow_sorts.specs.WholeGraphs.{is_whole_statement, is_whole_jump, is_whole_block, are_whole_blocks}
 use Rattle.flow_sorts.specs.GraphOutcomes.{result_way, jump_tree_outcome, block_tree_outcome, graph_outcome_from}
 use Rattle.flow_sorts.specs.Laws.{WholeOutcomes}

@@ -12,7 +12,7 @@ use Rattle.flow_forms.specs.Evaluation.{expr_fits, all_fit}
 use Rattle.flow_ways.specs.Conditions.{compared_values}
 use Rattle.flow_ways.specs.CondForms.{literal_is_small}
 use Rattle.flow_ways.specs.Ways.{Course, at_return, Way, condition_on, after_statements, first_course}
-use Rattle.flow_symbolic.specs.Outcomes.{Outcome, no_way, aborted, one_way, if_fits, outcome_if, after_statement, fits_if, branch_outcome, placed_way}
+use Rattle.flow_ways.specs.Outcomes.{Outcome, no_way, aborted, one_way, if_fits, outcome_if, after_statement, fits_if, branch_outcome, placed_way}
 
 -- whether no form of a condition is too large
 abbrev pub cond_fits : List Sort → List FlowFormTree → CondTree → Bool

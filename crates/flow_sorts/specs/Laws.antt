@@ -3,7 +3,7 @@ use Rattle.std.specs.Prelude.{◌≡◌, ℕ, Bool, true, List}
 use Rattle.flow_model.specs.declared.sort.Sort.{Sort}
 use Rattle.flow_model.specs.declared.graph.Block.{Block}
 use Rattle.flow_model.specs.Polish.{graph_of}
-use Rattle.flow_symbolic.specs.Outcomes.{all_ways}
+use Rattle.flow_ways.specs.Outcomes.{all_ways}
 use Rattle.flow_sorts.specs.WholeGraphs.{are_whole_blocks}
 use Rattle.flow_sorts.specs.GraphOutcomes.{graph_outcome}
 

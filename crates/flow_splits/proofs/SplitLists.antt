@@ -3,7 +3,7 @@ use Rattle.std.proofs.Common.{◌≡◌, ℕ, suc, ◌+◌, List, [], ◌∷◌,
 use Rattle.std.proofs.lemmas.List.{append-nil}
 use Rattle.flow_model.specs.declared.sort.Sort.{Sort}
 use Rattle.flow_forms.specs.Forms.{FlowFormTree}
-use Rattle.flow_symbolic.proofs.CourseLists.{pushed_then}
+use Rattle.flow_ways.proofs.CourseLists.{pushed_then}
 use Rattle.flow_ways.specs.Conditions.{FlowCondTree}
 use Rattle.flow_problem.specs.Edges.{FlowActionTree, Edge}
 use Rattle.flow_problem.specs.Splits.{CellTest, sets_with}

@@ -2,8 +2,8 @@
 ghost use Rattle.std.specs.Prelude.{◌≡◌, ◌&&◌, ◌+◌, ◌^◌, ◌<◌, ◌∷◌, ◌++◌, [], suc, true, false, IfOk, IfErr, OnOk, Some, map, length, option_map};
 ghost use Rattle.std.specs.List.{list_any, list_all};
 ghost use Rattle.flow_forms.specs.Forms.{form_tree};
-ghost use Rattle.flow_symbolic.specs.ActionTrees.{set_tree};
-ghost use Rattle.flow_symbolic.specs.WayTrees.{sorted_form};
+ghost use Rattle.flow_ways.specs.ActionTrees.{set_tree};
+ghost use Rattle.flow_ways.specs.WayTrees.{sorted_form};
 ghost use Rattle.flow_tables.specs.EdgeViews.{flow_action};
 ghost use Rattle.flow_problem.specs.Splits.{set_has as set_has_cell, action_reads as action_reads_cell, number_fits, set_fits, sets_fit, action_fits, set_with as with_set, sets_with, with_cell_number, action_with as with_action};
 ghost use Rattle.flow_splits.specs.CellTests.{cell_test_tree};
@@ -13,7 +13,7 @@ use crate::cell::{has_cell, is_same_cell};
 use crate::number::{Split, with_number};
 use flow_forms::{FlowForm, FormFault};
 use flow_model::Sort;
-use flow_symbolic::{SortedForm, own_form};
+use flow_ways::{SortedForm, own_form};
 use flow_tables::FlowAction;
 use kat_model::NoMemory;
 use std::alloc::Global;
@@ -113,7 +113,7 @@ fn set_if_any(
     }
 }
 
-#[tactic(auto, using(flow_symbolic::proofs::CourseLists::map_pushed))]
+#[tactic(auto, using(flow_ways::proofs::CourseLists::map_pushed))]
 fn push_set(list: &mut Vec<Option<FlowForm>>, set: Option<FlowForm>) -> Result<(), NoMemory>
     ensures { OnOk result (map set_tree list.new.items ≡ map set_tree list.old.items ++ set_tree set ∷ []) }
 {
@@ -123,7 +123,7 @@ fn push_set(list: &mut Vec<Option<FlowForm>>, set: Option<FlowForm>) -> Result<(
 
 // Appends what the variables from `number` on, whose sorts are `own`, are set to.
 #[cycle(push_sets)]
-#[tactic(auto, using(flow_symbolic::proofs::CourseLists::none_then))]
+#[tactic(auto, using(flow_ways::proofs::CourseLists::none_then))]
 fn push_sets(
     alloc: Global,
     split: &Split,
@@ -145,7 +145,7 @@ fn push_sets(
 }
 
 #[cycle(push_sets)]
-#[tactic(auto, using(flow_symbolic::proofs::CourseLists::none_then, crate::proofs::Numbered::no_second))]
+#[tactic(auto, using(flow_ways::proofs::CourseLists::none_then, crate::proofs::Numbered::no_second))]
 fn push_sets_of(
     alloc: Global,
     split: &Split,
@@ -222,7 +222,7 @@ fn result_with(alloc: Global, split: &Split, sorted: &SortedForm) -> Result<Sort
     })
 }
 
-#[tactic(auto, using(flow_symbolic::proofs::CourseLists::map_pushed))]
+#[tactic(auto, using(flow_ways::proofs::CourseLists::map_pushed))]
 fn push_result(list: &mut Vec<SortedForm>, sorted: SortedForm) -> Result<(), NoMemory>
     ensures { OnOk result (map sorted_form list.new.items ≡ map sorted_form list.old.items ++ sorted_form sorted ∷ []) }
 {
@@ -232,7 +232,7 @@ fn push_result(list: &mut Vec<SortedForm>, sorted: SortedForm) -> Result<(), NoM
 
 // Appends results with the number in the place of the cell.
 #[cycle(push_results)]
-#[tactic(auto, using(flow_symbolic::proofs::CourseLists::none_then))]
+#[tactic(auto, using(flow_ways::proofs::CourseLists::none_then))]
 fn push_results(
     alloc: Global,
     split: &Split,
@@ -251,7 +251,7 @@ fn push_results(
 }
 
 #[cycle(push_results)]
-#[tactic(auto, using(flow_symbolic::proofs::CourseLists::pushed_then, crate::proofs::Numbered::no_second))]
+#[tactic(auto, using(flow_ways::proofs::CourseLists::pushed_then, crate::proofs::Numbered::no_second))]
 fn push_results_from(
     alloc: Global,
     split: &Split,

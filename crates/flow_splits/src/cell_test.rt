@@ -197,7 +197,7 @@ fn cell_test(
     }
 }
 
-#[tactic(auto, using(flow_symbolic::proofs::CourseLists::none_then, flow_symbolic::proofs::CourseLists::map_pushed))]
+#[tactic(auto, using(flow_ways::proofs::CourseLists::none_then, flow_ways::proofs::CourseLists::map_pushed))]
 fn push_if_any(list: &mut Vec<CellTest>, test: Option<CellTest>) -> Result<(), NoMemory>
     ensures { OnOk result (map cell_test_tree list.new.items ≡ map cell_test_tree list.old.items ++ test_if_any test) }
 {

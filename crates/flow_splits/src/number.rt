@@ -9,7 +9,7 @@ use crate::cell::named;
 use crate::cell_test::CellTest;
 use flow_forms::{FlowForm, FormFault, place_of, substitute};
 use flow_model::Sort;
-use flow_symbolic::{own_forms, push_form};
+use flow_ways::{own_forms, push_form};
 use kat_model::NoMemory;
 use std::alloc::Global;
 

@@ -4,7 +4,7 @@ ghost use Rattle.flow_forms.specs.Comparisons.{comparison_tree};
 ghost use Rattle.flow_ways.specs.Conditions.{atom, negation};
 ghost use Rattle.flow_ways.specs.CondTrees.{cond_tree};
 ghost use Rattle.flow_tables.specs.EdgeViews.{flow_action, flow_edge};
-ghost use Rattle.flow_symbolic.specs.declared.limits.TheConstants.{MAX_WAYS as MOST};
+ghost use Rattle.flow_ways.specs.declared.limits.TheConstants.{MAX_WAYS as MOST};
 ghost use Rattle.flow_problem.specs.Splits.{cell_tests as tests_of, edge_where_equal, edge_where_other, split_edge as edges_split, split_edges as all_split};
 ghost use Rattle.flow_splits.specs.CellTests.{cell_test_tree};
 ghost use Rattle.flow_splits.specs.Numbers.{HasNumber, with_action, edges_known, edges_or_whole};
@@ -16,13 +16,12 @@ use crate::known::value_by_tests;
 use crate::number::{Split, variables_with};
 use flow_forms::FlowComparison;
 use flow_model::Sort;
-use flow_symbolic::MAX_WAYS;
 use flow_tables::{FlowAction, FlowEdge};
-use flow_ways::FlowCond;
+use flow_ways::{FlowCond, MAX_WAYS};
 use kat_model::NoMemory;
 use std::alloc::Global;
 
-#[tactic(auto, using(flow_symbolic::proofs::CourseLists::map_pushed))]
+#[tactic(auto, using(flow_ways::proofs::CourseLists::map_pushed))]
 fn push_edge(list: &mut Vec<FlowEdge>, edge: FlowEdge) -> Result<(), NoMemory>
     ensures { OnOk result (map flow_edge list.new.items ≡ map flow_edge list.old.items ++ flow_edge edge ∷ []) }
 {
@@ -30,7 +29,7 @@ fn push_edge(list: &mut Vec<FlowEdge>, edge: FlowEdge) -> Result<(), NoMemory>
     Ok(())
 }
 
-#[tactic(auto, using(flow_symbolic::proofs::CourseLists::map_pushed))]
+#[tactic(auto, using(flow_ways::proofs::CourseLists::map_pushed))]
 fn push_test(list: &mut Vec<FlowCond>, test: FlowCond) -> Result<(), NoMemory>
     ensures { OnOk result (map cond_tree list.new.items ≡ map cond_tree list.old.items ++ cond_tree test ∷ []) }
 {
@@ -166,7 +165,7 @@ fn split_once(
 
 // Splits edges by each of the tests in turn.
 #[cycle(split_by)]
-#[tactic(auto, using(crate::proofs::SplitCounts::splits_grow, flow_symbolic::proofs::CourseLists::mapped_length))]
+#[tactic(auto, using(crate::proofs::SplitCounts::splits_grow, flow_ways::proofs::CourseLists::mapped_length))]
 fn split_by(
     alloc: Global,
     sorts: &[Sort],

@@ -9,7 +9,7 @@ use Rattle.flow_ways.specs.Ways.{WayEnd, at_place, at_return, Way, ways}
 use Rattle.flow_places.specs.Places.{place_marks, is_place}
 use Rattle.flow_places.specs.Live.{live}
 use Rattle.flow_places.specs.Tables.{noted}
-use Rattle.flow_symbolic.proofs.ActionForms.{action_same}
+use Rattle.flow_ways.proofs.ActionForms.{action_same}
 use Rattle.flow_problem.specs.Edges.{assigned, Edge, Marks, end_action, end_target, edge_of, way_edges}
 use Rattle.flow_problem.specs.PlacedProblems.{graph_marks}
 use Rattle.flow_tables.specs.EdgeTables.{table_marks}

@@ -1,8 +1,8 @@
 -- The actions and edges of the program.
 use Rattle.std.specs.Prelude.{map}
 use Rattle.flow_ways.specs.CondTrees.{cond_tree}
-use Rattle.flow_symbolic.specs.ActionTrees.{set_tree}
-use Rattle.flow_symbolic.specs.WayTrees.{sorted_form}
+use Rattle.flow_ways.specs.ActionTrees.{set_tree}
+use Rattle.flow_ways.specs.WayTrees.{sorted_form}
 use Rattle.flow_problem.specs.Edges.{FlowActionTree, assigned, given, Edge}
 use Rattle.flow_tables.specs.declared.action.FlowAction.{FlowAction}
 use Rattle.flow_tables.specs.declared.action.FlowAction.TheVariants.{Assigned, Given}

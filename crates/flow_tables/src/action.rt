@@ -3,14 +3,14 @@ ghost use Rattle.std.specs.Prelude.{◌≡◌, ◌&&◌, IfOk, map};
 ghost use Rattle.std.specs.Ordering.{is_eq};
 ghost use Rattle.flow_forms.specs.Forms.{form_tree};
 ghost use Rattle.flow_forms.specs.Order.{sort_cmp, form_cmp};
-ghost use Rattle.flow_symbolic.specs.ActionTrees.{set_tree};
-ghost use Rattle.flow_symbolic.specs.WayTrees.{sorted_form};
+ghost use Rattle.flow_ways.specs.ActionTrees.{set_tree};
+ghost use Rattle.flow_ways.specs.WayTrees.{sorted_form};
 ghost use Rattle.flow_problem.specs.Edges.{given, is_same_set, are_same_sets, are_same_results, sets_nothing, is_idle as is_idle_action, is_same_action};
 ghost use Rattle.flow_tables.specs.EdgeViews.{flow_action};
 
 use flow_forms::{FlowForm, same_form};
 use flow_model::Sort;
-use flow_symbolic::SortedForm;
+use flow_ways::SortedForm;
 use kat_model::{NoMemory, TableRow};
 use std::alloc::Global;
 

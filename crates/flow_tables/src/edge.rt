@@ -3,8 +3,7 @@ ghost use Rattle.std.specs.Prelude.{◌≡◌, IfOk};
 ghost use Rattle.flow_tables.specs.EdgeViews.{flow_edge};
 
 use crate::action::FlowAction;
-use flow_symbolic::copy_conds;
-use flow_ways::FlowCond;
+use flow_ways::{FlowCond, copy_conds};
 use kat_model::NoMemory;
 use std::alloc::Global;
 

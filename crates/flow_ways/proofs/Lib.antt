@@ -1,3 +1,7 @@
+pub mod CourseLists
+pub mod Courses
+pub mod FoundWays
+pub mod ActionForms
 pub mod CondValues
 pub mod States
 pub mod WaysAreRuns

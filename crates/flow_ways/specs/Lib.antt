@@ -1,3 +1,8 @@
+pub mod Outcomes
+pub mod Faults
+pub mod CourseTrees
+pub mod WayTrees
+pub mod ActionTrees
 pub mod Conditions
 pub mod CondTrees
 pub mod CondForms

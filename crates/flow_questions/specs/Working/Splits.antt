@@ -1,6 +1,6 @@
 -- Edges that are split, for each place.
 use Rattle.std.specs.Prelude.{◌<◌, ◌≤◌, ◌⊎◌, List, [], ◌∷◌, length}
-use Rattle.flow_symbolic.specs.declared.limits.TheConstants.{MAX_WAYS}
+use Rattle.flow_ways.specs.declared.limits.TheConstants.{MAX_WAYS}
 use Rattle.flow_problem.specs.Edges.{Edge}
 
 -- no place has more edges than the limit, or some place has

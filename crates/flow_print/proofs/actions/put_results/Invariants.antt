@@ -1,5 +1,5 @@
 use Rattle.std.proofs.Common.{◌≡◌, ◌++◌, map, drop, true}
-use Rattle.flow_symbolic.specs.WayTrees.{sorted_form}
+use Rattle.flow_ways.specs.WayTrees.{sorted_form}
 use Rattle.flow_print.specs.NameTables.{names_of}
 use Rattle.flow_print.specs.ActionTexts.{results_text}
 use Rattle.flow_print.proofs.actions.put_results.Given as goal

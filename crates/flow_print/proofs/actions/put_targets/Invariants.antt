@@ -1,5 +1,5 @@
 use Rattle.std.proofs.Common.{◌≡◌, ◌++◌, map, drop, true}
-use Rattle.flow_symbolic.specs.ActionTrees.{set_tree}
+use Rattle.flow_ways.specs.ActionTrees.{set_tree}
 use Rattle.flow_print.specs.NameTables.{names_of}
 use Rattle.flow_print.specs.ActionTexts.{targets_text}
 use Rattle.flow_print.proofs.actions.put_targets.Given as goal

@@ -1,5 +1,5 @@
 use Rattle.std.proofs.Common.{◌≡◌, map, take}
-use Rattle.flow_symbolic.specs.WayTrees.{sorted_form}
+use Rattle.flow_ways.specs.WayTrees.{sorted_form}
 use Rattle.flow_tables.proofs.action.copy_results.Given as goal
 
 -- the copies so far

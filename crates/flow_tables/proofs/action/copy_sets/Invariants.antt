@@ -1,5 +1,5 @@
 use Rattle.std.proofs.Common.{◌≡◌, map, take}
-use Rattle.flow_symbolic.specs.ActionTrees.{set_tree}
+use Rattle.flow_ways.specs.ActionTrees.{set_tree}
 use Rattle.flow_tables.proofs.action.copy_sets.Given as goal
 
 -- the copies so far

@@ -2,7 +2,7 @@ use Rattle.std.proofs.Common.{rules, [], map, sym, ◌∙◌, ap}
 use Rattle.std.proofs.lemmas.List.{map-id}
 use Rattle.std.proofs.lemmas.Iterator.Adapters.{YieldsList-from_vec}
 use Rattle.std.proofs.lemmas.Iterator.Consumers.{YieldsList-end}
-use Rattle.flow_symbolic.specs.WayTrees.{way_tree}
+use Rattle.flow_ways.specs.WayTrees.{way_tree}
 use Rattle.flow_problem.specs.Edges.{edge_of}
 use Rattle.flow_tables.specs.EdgeTables.{table_marks}
 use Rattle.flow_tables.proofs.edges.edges_of.Goals as goal

@@ -1,5 +1,5 @@
 use Rattle.std.proofs.Common.{◌≡◌, [], map}
-use Rattle.flow_symbolic.specs.WayTrees.{way_tree}
+use Rattle.flow_ways.specs.WayTrees.{way_tree}
 use Rattle.flow_problem.specs.Edges.{edge_of}
 use Rattle.flow_tables.specs.EdgeViews.{flow_edge}
 use Rattle.flow_tables.specs.EdgeTables.{table_marks}

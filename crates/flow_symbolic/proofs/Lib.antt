@@ -1,4 +1,0 @@
-pub mod CourseLists
-pub mod Courses
-pub mod FoundWays
-pub mod ActionForms

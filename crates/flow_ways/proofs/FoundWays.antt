@@ -1,0 +1,100 @@
+-- Ways that are found, and all ways.
+use Rattle.std.proofs.Common.{◌≡◌, ℕ, zero, suc, Bool, true, false, List, [], ◌∷◌, ◌++◌, length, map, Option, Some, None, slice_get, option_map, if◌then◌else◌, refl, sym, ◌∙◌, ap}
+use mathlib.Core.Path.{ap₂}
+use Rattle.std.proofs.lemmas.List.{length-map}
+use Rattle.std.proofs.lemmas.Option.{slice_get-map}
+use Rattle.flow_model.specs.declared.sort.Sort.{Sort}
+use Rattle.std.specs.Prelude.{Vec}
+use Rattle.std.specs.declared.alloc.Global.{Global}
+use Rattle.flow_model.specs.declared.graph.CondNode.{CondNode}
+use Rattle.flow_model.specs.declared.graph.Jump.{Jump}
+use Rattle.flow_model.specs.declared.graph.Jump.TheVariants.{Goto, Branch, Return, Abort}
+use Rattle.flow_model.specs.declared.graph.Block.{Block as ABlock}
+use Rattle.flow_model.specs.Polish.{cond_of, statement_of, jump_of, block_of, graph_of}
+use Rattle.flow_forms.specs.declared.fault.FormFault.{FormFault}
+use Rattle.flow_forms.specs.declared.fault.FormFault.TheVariants as form
+use Rattle.flow_ways.specs.Conditions.{FlowCondTree, opposite_cond}
+use Rattle.flow_ways.specs.CondForms.{cond_nodes_fit}
+use Rattle.flow_ways.specs.Ways.{Course, Way, at_place, with_test, condition_on, after_statements, ways_if, jump_ways, block_ways, ways_from, first_course, ways}
+use Rattle.flow_ways.specs.Outcomes.{Outcome, no_way, outcome_if, one_way, if_fits, placed_way, branch_outcome, jump_outcome, block_outcome, outcome_from, target_outcome, all_ways}
+use Rattle.flow_ways.specs.Faults.{way_fault_of}
+use Rattle.flow_ways.specs.CourseTrees.{if_goes}
+use Rattle.flow_ways.specs.declared.fault.WayFault.TheVariants.{TooLarge, TooManyPaths}
+
+-- faults
+
+pub large_form : (e : FormFault) → way_fault_of e ≡ TooLarge → e ≡ form.TooLarge
+large_form form.NoMemory h = absurd cc
+large_form form.TooLarge h = refl
+
+pub never_many : (e : FormFault) → way_fault_of e ≡ TooManyPaths → ⊥
+never_many form.NoMemory h = absurd cc
+never_many form.TooLarge h = absurd cc
+
+-- a course that goes on, or stops
+
+pub course_stops : (goes : Bool) (next : Course) (o : Option Course) (go : Course → Outcome) → goes ≡ false → if_goes goes next ≡ o → outcome_if o go ≡ no_way
+course_stops goes next o go t e = ap (λ x. outcome_if x go) (sym e ∙ ap (λ b. if_goes b next) t)
+
+pub course_goes : (goes : Bool) (next : Course) (o : Option Course) (go : Course → Outcome) → goes ≡ true → if_goes goes next ≡ o → outcome_if o go ≡ go next
+course_goes goes next o go t e = ap (λ x. outcome_if x go) (sym e ∙ ap (λ b. if_goes b next) t)
+
+-- the ways among all ways are those of the definition
+
+ways-outcome_if : (o : Option Course) (go : Course → Outcome) (other : Course → List Way) → ((c : Course) → (go c).ways ≡ other c) → (outcome_if o go).ways ≡ ways_if o other
+ways-outcome_if None go other f = refl
+ways-outcome_if (Some c) go other f = f c
+
+abbrev SameWays : (ℕ → Course → Outcome) → (ℕ → Course → List Way) → Type 0
+SameWays go other = (k : ℕ) (c : Course) → (go k c).ways ≡ other k c
+
+ways-jump_outcome : (sorts : List Sort) (go : ℕ → Course → Outcome) (other : ℕ → Course → List Way) → SameWays go other → (jump : Jump) (c : Course) → (jump_outcome sorts go jump c).ways ≡ jump_ways sorts other (jump_of jump) c
+ways-jump_outcome sorts go other f (Goto k) c = f k c
+ways-jump_outcome sorts go other f (Branch b k l) c =
+    ap₂ (λ xs ys. xs ++ ys)
+    (ways-outcome_if (with_test c (condition_on sorts c (cond_of b.items))) (go k) (other k) (f k))
+    (ways-outcome_if (with_test c (opposite_cond (condition_on sorts c (cond_of b.items)))) (go l) (other l) (f l))
+ways-jump_outcome sorts go other f (Return es) c = refl
+ways-jump_outcome sorts go other f Abort c = refl
+
+ways-block_outcome : (sorts : List Sort) (go : ℕ → Course → Outcome) (other : ℕ → Course → List Way) → SameWays go other → (o : Option ABlock) (c : Course) → (block_outcome sorts go o c).ways ≡ block_ways sorts other (option_map block_of o) c
+ways-block_outcome sorts go other f None c = refl
+ways-block_outcome sorts go other f (Some block) c =
+    ways-outcome_if (after_statements sorts (map statement_of block.statements.items) c) (jump_outcome sorts go block.jump) (jump_ways sorts other (jump_of block.jump))
+    (ways-jump_outcome sorts go other f block.jump)
+
+ways-target : (blocks : List ABlock) (sorts : List Sort) (p : ℕ → Bool) (n : ℕ) → SameWays (outcome_from blocks sorts p n) (ways_from (graph_of blocks) sorts p n) →
+    SameWays (target_outcome blocks sorts p n) (λ l next. if p l then record { tests = next.tests; end = at_place l next.forms } ∷ [] else ways_from (graph_of blocks) sorts p n l next)
+ways-target blocks sorts p n f k c = by_place (p k)
+  where
+    by_place : (b : Bool) → (if b then one_way (placed_way k c) else outcome_from blocks sorts p n k c).ways ≡ (if b then record { tests = c.tests; end = at_place k c.forms } ∷ [] else ways_from (graph_of blocks) sorts p n k c)
+    by_place true = refl
+    by_place false = f k c
+
+ways-outcome_from : (blocks : List ABlock) (sorts : List Sort) (p : ℕ → Bool) (n : ℕ) → SameWays (outcome_from blocks sorts p n) (ways_from (graph_of blocks) sorts p n)
+ways-outcome_from blocks sorts p zero k c = refl
+ways-outcome_from blocks sorts p (suc n) k c =
+    ways-block_outcome sorts (target_outcome blocks sorts p n) (λ l next. if p l then record { tests = next.tests; end = at_place l next.forms } ∷ [] else ways_from (graph_of blocks) sorts p n l next)
+    (ways-target blocks sorts p n (ways-outcome_from blocks sorts p n)) (slice_get blocks k) c
+    ∙ ap (λ o. block_ways sorts (λ l next. if p l then record { tests = next.tests; end = at_place l next.forms } ∷ [] else ways_from (graph_of blocks) sorts p n l next) o c) (sym (slice_get-map block_of blocks k))
+
+pub all_ways_are : (blocks : List ABlock) (sorts : List Sort) (p : ℕ → Bool) (k : ℕ) → (all_ways blocks sorts p k).ways ≡ ways (graph_of blocks) sorts p k
+all_ways_are blocks sorts p k =
+    ways-outcome_from blocks sorts p (length blocks) k (first_course sorts)
+    ∙ ap (λ n. ways_from (graph_of blocks) sorts p n k (first_course sorts)) (sym (length-map blocks block_of))
+
+pub none_before : {X : Type 0} (xs : List X) → [] ++ xs ≡ xs
+none_before xs = refl
+
+-- one step of all ways
+
+pub outcome_here : (blocks : List ABlock) (sorts : List Sort) (p : ℕ → Bool) (n m k : ℕ) (c : Course) (o : Option ABlock) → n ≡ suc m → slice_get blocks k ≡ o → outcome_from blocks sorts p n k c ≡ block_outcome sorts (target_outcome blocks sorts p m) o c
+outcome_here blocks sorts p n m k c o e f =
+    ap (λ i. outcome_from blocks sorts p i k c) e ∙ ap (λ x. block_outcome sorts (target_outcome blocks sorts p m) x c) f
+
+pub branch_is : (sorts : List Sort) (go : ℕ → Course → Outcome) (b : Vec CondNode Global) (k l : ℕ) (c : Course) (tree : FlowCondTree) (ns : List CondNode) → ns ≡ b.items → tree ≡ condition_on sorts c (cond_of ns) → cond_nodes_fit sorts c.forms ns ≡ true →
+    branch_outcome c tree (go k) (go l) ≡ jump_outcome sorts go (Branch b k l) c
+branch_is sorts go b k l c tree ns e m f =
+    sym (ap₂ (λ fits t. if_fits fits (branch_outcome c t (go k) (go l)))
+    (ap (λ xs. cond_nodes_fit sorts c.forms xs) (sym e) ∙ f)
+    (ap (λ xs. condition_on sorts c (cond_of xs)) (sym e) ∙ sym m))
