@@ -24,9 +24,9 @@ use Rattle.partial_derivs.specs.Tables.{AreRight}
 use Rattle.partial_derivs.proofs.Kept.{IsTermOf-trees, Keeps-functions}
 use Rattle.partial_derivs.proofs.Tables.{AreRight-kept}
 use Rattle.test_diagrams.specs.Functions.{KeepsFunctions}
-use Rattle.hypothesis_counts.specs.Counting.{tree_of, AreShortHyps, AreCounted, AreBroken}
+use Rattle.walk_under.specs.Counting.{tree_of, AreShortHyps, AreCounted, AreBroken}
 use Rattle.walk_under.specs.Working.Counting.{IsCountedList, IsFoundUnder, with_counted, MayBegin}
-use Rattle.hypothesis_counts.specs.declared.counting.ShortHyp.{ShortHyp}
+use Rattle.walk_under.specs.declared.counting.ShortHyp.{ShortHyp}
 use Rattle.walk_under.specs.declared.walk.TestedWorklist.{TestedWorklist}
 use Rattle.walk_under.proofs.RefutedByAllowed.{refuted_by_allowed}
 

@@ -1,3 +1,7 @@
+pub mod ShortIds
+pub mod Uncounted
+pub mod BrokenStrings
+pub mod CountedHyps
 pub mod WalkSteps
 pub mod Levels
 pub mod RefutedByAllowed

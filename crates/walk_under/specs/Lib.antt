@@ -1,3 +1,4 @@
+pub mod Counting
 pub mod TestedWalks
 pub mod MergedPairs
 pub mod Decisions

@@ -14,7 +14,7 @@ ghost use Rattle.term_nodes.specs.Growth.{Grows};
 ghost use Rattle.test_diagrams.specs.Functions.{IsDiagramId, KeepsFunctions};
 ghost use Rattle.walk_pairs.specs.ClosedTerms.{AreIdsOf};
 ghost use Rattle.walk_under.specs.Decisions.{IsDecisionUnder};
-ghost use Rattle.hypothesis_counts.specs.Counting.{uncounted, AreShortHyps, StillCount};
+ghost use Rattle.walk_under.specs.Counting.{uncounted, AreShortHyps, StillCount};
 ghost use Rattle.walk_under.specs.Working.Counting.{IsCountedList, IsFoundUnder, HasEnded, IsOutcome, MayBegin, IsTurnEnd};
 ghost use Rattle.walk_under.specs.Working.Walking.{walk_context, AreClosedIds, IsUnderWay, IsDifference};
 
@@ -22,10 +22,7 @@ use crate::smoothing::smoothed;
 use crate::walk::{FoundDifference, FoundString, RunEnd, TestedWorklist};
 use certificate::{Evidence, Style};
 use goal_forms::eliminate;
-use hypothesis_counts::{
-    ShortHyp, broken_by, count_all, count_next, counted_ids, first_counts, has_some, limit_of,
-    short_hyps,
-};
+use crate::counting::{ShortHyp, broken_by, count_all, count_next, counted_ids, first_counts, has_some, limit_of, short_hyps};
 use hypothesis_kinds::{is_short, long_problem};
 use kat_model::{NoMemory, Problem};
 use std::alloc::Global;

@@ -8,8 +8,8 @@ use Rattle.kat_model.specs.Degrees.{short_hyps, long_hyps, with_hyps}
 use Rattle.term_nodes.specs.NodeLists.{NodeParts}
 use Rattle.partial_derivs.specs.Tables.{AreRight}
 use Rattle.certificate.specs.Decisions.{IsShortest}
-use Rattle.hypothesis_counts.specs.Counting.{uncounted}
-use Rattle.hypothesis_counts.specs.declared.counting.ShortHyp.{ShortHyp}
+use Rattle.walk_under.specs.Counting.{uncounted}
+use Rattle.walk_under.specs.declared.counting.ShortHyp.{ShortHyp}
 use Rattle.walk_under.specs.Working.Walking.{walk_context, IsUnderWay}
 use Rattle.walk_under.specs.declared.deciding.Outcome.{Outcome}
 use Rattle.walk_under.specs.declared.deciding.Outcome.TheVariants.{Alike, Refuted}

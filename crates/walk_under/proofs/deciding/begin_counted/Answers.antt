@@ -7,7 +7,7 @@ use Rattle.kat_model.proofs.Places.{has_at}
 use Rattle.term_nodes.specs.NodeTrees.{tree_at}
 use Rattle.term_nodes.proofs.Growing.{Grows-itself}
 use Rattle.partial_derivs.specs.Moves.{IsTermOf}
-use Rattle.hypothesis_counts.specs.Counting.{AreCounted}
+use Rattle.walk_under.specs.Counting.{AreCounted}
 use Rattle.walk_under.proofs.CountedWalks.{counted_terms, counted_list}
 use Rattle.walk_under.proofs.deciding.begin_counted.Goals as goal
 

@@ -1,6 +1,6 @@
 use Rattle.std.proofs.Common.{refl, sym}
 use Rattle.std.proofs.lemmas.Bool.{false≢true}
-use Rattle.hypothesis_counts.proofs.Uncounted.{some_items}
+use Rattle.walk_under.proofs.Uncounted.{some_items}
 use Rattle.walk_under.proofs.CountedWalks.{found_as_long}
 use Rattle.walk_under.proofs.deciding.judge_smoothed.Goals as goal
 

@@ -2,7 +2,7 @@ use Rattle.std.proofs.Common.{◌≡◌, length}
 use Rattle.kat_model.specs.Degrees.{long_hyps, with_hyps}
 use Rattle.term_nodes.specs.Growth.{Grows}
 use Rattle.walk_under.specs.Working.Walking.{AreClosedIds}
-use Rattle.hypothesis_counts.specs.Counting.{AreShortHyps, uncounted}
+use Rattle.walk_under.specs.Counting.{AreShortHyps, uncounted}
 use Rattle.walk_under.specs.Working.Counting.{MayBegin}
 use Rattle.walk_under.proofs.deciding.string_found.Given as goal
 

@@ -2,8 +2,8 @@ use Rattle.std.proofs.Common.{List, length, sym, ap, ◌∙◌, subst}
 use Rattle.kat_model.specs.Degrees.{long_hyps, with_hyps}
 use Rattle.hypothesis_kinds.proofs.LongProblems.{long_is_problem}
 use Rattle.term_nodes.proofs.Growing.{Grows-trans}
-use Rattle.hypothesis_counts.specs.Counting.{AreShortHyps}
-use Rattle.hypothesis_counts.specs.declared.counting.ShortHyp.{ShortHyp}
+use Rattle.walk_under.specs.Counting.{AreShortHyps}
+use Rattle.walk_under.specs.declared.counting.ShortHyp.{ShortHyp}
 use Rattle.walk_under.proofs.UnderDecisions.{closed_later}
 use Rattle.walk_under.proofs.deciding.string_of_walks.Goals as goal
 

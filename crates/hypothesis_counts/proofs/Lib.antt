@@ -1,4 +1,0 @@
-pub mod ShortIds
-pub mod Uncounted
-pub mod BrokenStrings
-pub mod CountedHyps

@@ -1,5 +1,0 @@
-use Rattle.std.proofs.Common.{◌≡◌, length}
-use Rattle.hypothesis_counts.proofs.counting.first_counts.Given as goal
-
-abbrev pub invariant-loop-hyp : goal.invariant-loop-hyp
-invariant-loop-hyp l = length l.counts.items ≡ l.hyp-index

@@ -1,5 +1,0 @@
-use Rattle.kat_model.specs.Members.{Has}
-use Rattle.hypothesis_counts.proofs.counting.next_place.Given as goal
-
-abbrev pub invariant-loop-place : goal.invariant-loop-place
-invariant-loop-place l = Has l.broken l.chosen
