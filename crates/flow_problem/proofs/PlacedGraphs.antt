@@ -3,11 +3,11 @@ use Rattle.std.proofs.Common.{◌≡◌, ℕ, ◌<◌, Bool, true, false, ◌||�
 use Rattle.std.specs.List.{range_with_len}
 use Rattle.std.proofs.lemmas.Bool.{and_from}
 use Rattle.flow_model.specs.Graphs.{Graph}
-use Rattle.flow_places.specs.Places.{is_reached, is_cut, is_place, places}
-use Rattle.flow_places.specs.Loops.{entry, HasUncutLoop}
-use Rattle.flow_places.proofs.CutRuns.{comes_to_end}
-use Rattle.flow_places.proofs.Reaching.{reached_exactly, place_has}
-use Rattle.flow_places.proofs.LiveTests.{live_exactly}
+use Rattle.flow_problem.specs.Places.{is_reached, is_cut, is_place, places}
+use Rattle.flow_problem.specs.Loops.{entry, HasUncutLoop}
+use Rattle.flow_problem.proofs.CutRuns.{comes_to_end}
+use Rattle.flow_problem.proofs.Reaching.{reached_exactly, place_has}
+use Rattle.flow_problem.proofs.LiveTests.{live_exactly}
 use Rattle.flow_problem.specs.Points.{FlowProblem, AsksOf}
 use Rattle.flow_problem.specs.FlowProblems.{FlowQuestion, MarksGraph, HasMarks}
 use Rattle.flow_problem.specs.PlacedProblems.{graph_marks, pair_marks, IsFlowPair, IsFlowProblem}

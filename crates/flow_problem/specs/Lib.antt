@@ -1,3 +1,10 @@
+pub mod Walks
+pub mod Places
+pub mod Loops
+pub mod Live
+pub mod Reads
+pub mod Tables
+pub mod PlaceLaws
 pub mod Edges
 pub mod Points
 pub mod Elimination

@@ -2,6 +2,14 @@
 //! that hold of all states under all interpretations.
 #![tactic(auto)]
 
+mod fault;
+mod finding;
 mod laws;
+mod live;
+mod reads;
+mod walk;
 
-pub use laws::{flow_agrees, marked_problems_agree, problems_ask, same_sides_agree};
+pub use fault::PlaceFault;
+pub use finding::places;
+pub use laws::{back_edges_cut_loops, flow_agrees, live_sets_are_least, marked_problems_agree, places_cut_runs, problems_ask, same_sides_agree, walks_reach_blocks};
+pub use live::live_sets;

@@ -14,14 +14,14 @@ use Rattle.flow_ways.specs.Ways.{ways}
 use Rattle.flow_ways.specs.declared.limits.TheConstants.{MAX_WAYS}
 use Rattle.flow_ways.specs.declared.fault.WayFault.{WayFault}
 use Rattle.flow_ways.specs.declared.fault.WayFault.TheVariants as way
-use Rattle.flow_places.specs.Places.{place_marks, is_place, places}
-use Rattle.flow_places.specs.Loops.{HasUncutLoop}
-use Rattle.flow_places.specs.Live.{live}
-use Rattle.flow_places.specs.Tables.{noted}
-use Rattle.flow_places.specs.declared.fault.PlaceFault.{PlaceFault}
-use Rattle.flow_places.specs.declared.fault.PlaceFault.TheVariants as place
-use Rattle.flow_places.proofs.PlaceMarks.{range_pushed, filter-pushed}
-use Rattle.flow_places.proofs.Reaching.{length-marks}
+use Rattle.flow_problem.specs.Places.{place_marks, is_place, places}
+use Rattle.flow_problem.specs.Loops.{HasUncutLoop}
+use Rattle.flow_problem.specs.Live.{live}
+use Rattle.flow_problem.specs.Tables.{noted}
+use Rattle.flow_problem.specs.declared.fault.PlaceFault.{PlaceFault}
+use Rattle.flow_problem.specs.declared.fault.PlaceFault.TheVariants as place
+use Rattle.flow_problem.proofs.PlaceMarks.{range_pushed, filter-pushed}
+use Rattle.flow_problem.proofs.Reaching.{length-marks}
 use Rattle.flow_problem.specs.Edges.{Edge, edge_of, way_edges}
 use Rattle.flow_problem.specs.PlacedProblems.{graph_marks}
 use Rattle.flow_tables.specs.EdgeTables.{table_marks}

@@ -9,7 +9,7 @@ use Rattle.flow_model.specs.Graphs.{Graph}
 use Rattle.flow_model.specs.Polish.{graph_of}
 use Rattle.flow_forms.specs.declared.comparison.FlowComparison.{FlowComparison}
 use Rattle.flow_forms.specs.Comparisons.{FlowComparisonTree, comparison_tree}
-use Rattle.flow_places.specs.Places.{places}
+use Rattle.flow_problem.specs.Places.{places}
 use Rattle.flow_problem.specs.Edges.{FlowActionTree, Edge}
 use Rattle.flow_problem.specs.EdgeTerms.{graph_term}
 use Rattle.flow_problem.specs.FlowFacts.{FlowHypothesis as Hypothesis, flow_hypotheses}

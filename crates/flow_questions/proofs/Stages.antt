@@ -8,7 +8,7 @@ use Rattle.flow_model.specs.Graphs.{Graph}
 use Rattle.flow_model.specs.Polish.{graph_of}
 use Rattle.flow_forms.specs.Comparisons.{FlowComparisonTree, is_same_comparison}
 use Rattle.kat_model.specs.UniqueRows.{with_all_new}
-use Rattle.flow_places.specs.Places.{places}
+use Rattle.flow_problem.specs.Places.{places}
 use Rattle.flow_problem.specs.Edges.{FlowActionTree, Edge, is_same_action, way_edges}
 use Rattle.flow_problem.specs.EdgeTerms.{edge_comparisons, edge_actions, all_edges}
 use Rattle.flow_problem.specs.FlowProblems.{first_tests, edges_with, edges_before, edges_after, flow_actions}

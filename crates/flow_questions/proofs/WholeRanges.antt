@@ -12,8 +12,8 @@ use Rattle.flow_model.specs.Graphs.{Graph}
 use Rattle.flow_forms.specs.Comparisons.{FlowComparisonTree, is_same_comparison}
 use Rattle.flow_forms.proofs.SameComparisons.{one_comparison}
 use Rattle.kat_model.proofs.RowMembers.{with_all_new_has}
-use Rattle.flow_places.specs.Places.{places}
-use Rattle.flow_places.specs.Loops.{HasUncutLoop}
+use Rattle.flow_problem.specs.Places.{places}
+use Rattle.flow_problem.specs.Loops.{HasUncutLoop}
 use Rattle.flow_problem.specs.Edges.{FlowActionTree, Edge, is_idle, is_same_action, way_edges}
 use Rattle.flow_problem.specs.EdgeTerms.{edge_comparisons, edge_actions, place_block, all_edges}
 use Rattle.flow_problem.specs.Splits.{CellTest, cell_tests, split_edges}

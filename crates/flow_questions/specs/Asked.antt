@@ -9,8 +9,8 @@ use Rattle.flow_model.specs.Graphs.{Graph}
 use Rattle.flow_model.specs.Polish.{graph_of}
 use Rattle.flow_ways.specs.declared.limits.TheConstants.{MAX_WAYS}
 use Rattle.flow_ways.specs.Outcomes.{Outcome, all_ways}
-use Rattle.flow_places.specs.Places.{is_place, places}
-use Rattle.flow_places.specs.Loops.{HasUncutLoop}
+use Rattle.flow_problem.specs.Places.{is_place, places}
+use Rattle.flow_problem.specs.Loops.{HasUncutLoop}
 use Rattle.flow_problem.specs.Edges.{Edge}
 use Rattle.flow_problem.specs.FlowProblems.{FlowQuestion, PairMarks, first_tests, edges_before, edges_after, flow_actions, flow_tests, flow_parts}
 use Rattle.flow_problem.specs.PlacedProblems.{pair_marks}

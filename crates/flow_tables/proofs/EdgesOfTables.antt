@@ -6,9 +6,9 @@ use mathlib.Core.Path.{ap₂}
 use Rattle.flow_model.specs.declared.sort.Sort.{Sort}
 use Rattle.flow_model.specs.Graphs.{Graph}
 use Rattle.flow_ways.specs.Ways.{WayEnd, at_place, at_return, Way, ways}
-use Rattle.flow_places.specs.Places.{place_marks, is_place}
-use Rattle.flow_places.specs.Live.{live}
-use Rattle.flow_places.specs.Tables.{noted}
+use Rattle.flow_problem.specs.Places.{place_marks, is_place}
+use Rattle.flow_problem.specs.Live.{live}
+use Rattle.flow_problem.specs.Tables.{noted}
 use Rattle.flow_ways.proofs.ActionForms.{action_same}
 use Rattle.flow_problem.specs.Edges.{assigned, Edge, Marks, end_action, end_target, edge_of, way_edges}
 use Rattle.flow_problem.specs.PlacedProblems.{graph_marks}

@@ -3,7 +3,7 @@
 use Rattle.std.specs.Prelude.{Bool, false, List, length, filter, slice_index_or, Vec}
 use Rattle.std.specs.List.{range_with_len}
 use Rattle.std.specs.declared.alloc.Global.{Global}
-use Rattle.flow_places.specs.Tables.{noted}
+use Rattle.flow_problem.specs.Tables.{noted}
 use Rattle.flow_problem.specs.Edges.{Marks}
 
 abbrev pub table_marks : List Bool → List (Vec Bool Global) → Marks

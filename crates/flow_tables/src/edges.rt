@@ -4,7 +4,7 @@ ghost use Rattle.flow_model.specs.Polish.{graph_of};
 ghost use Rattle.flow_forms.specs.Forms.{form_tree};
 ghost use Rattle.flow_ways.specs.Actions.{action_of as action_for};
 ghost use Rattle.flow_ways.specs.Ways.{ways as ways_of};
-ghost use Rattle.flow_places.specs.Tables.{noted};
+ghost use Rattle.flow_problem.specs.Tables.{noted};
 ghost use Rattle.flow_ways.specs.ActionTrees.{set_tree};
 ghost use Rattle.flow_ways.specs.Outcomes.{all_ways};
 ghost use Rattle.flow_ways.specs.WayTrees.{end_tree, way_tree};

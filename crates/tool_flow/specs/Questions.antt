@@ -5,7 +5,7 @@ use Rattle.flow_model.specs.Graphs.{Graph}
 use Rattle.flow_text.specs.Checking.{FlowFileParts, pair_of}
 use Rattle.flow_ways.specs.Outcomes.{Outcome}
 use Rattle.flow_sorts.specs.GraphOutcomes.{graph_outcome}
-use Rattle.flow_places.specs.Places.{is_place}
+use Rattle.flow_problem.specs.Places.{is_place}
 use Rattle.flow_problem.specs.FlowFacts.{FlowRule, flow_hypotheses}
 use Rattle.flow_problem.specs.Points.{FlowProblem}
 use Rattle.flow_problem.specs.FlowProblems.{FlowQuestion}

@@ -9,10 +9,10 @@ use Rattle.flow_ways.specs.declared.limits.TheConstants.{MAX_WAYS}
 use Rattle.flow_ways.specs.declared.fault.WayFault.{WayFault}
 use Rattle.flow_ways.specs.declared.fault.WayFault.TheVariants as way
 use Rattle.flow_ways.specs.Outcomes.{Outcome, all_ways}
-use Rattle.flow_places.specs.Places.{places}
-use Rattle.flow_places.specs.Loops.{HasUncutLoop}
-use Rattle.flow_places.specs.declared.fault.PlaceFault.{PlaceFault}
-use Rattle.flow_places.specs.declared.fault.PlaceFault.TheVariants as place
+use Rattle.flow_problem.specs.Places.{places}
+use Rattle.flow_problem.specs.Loops.{HasUncutLoop}
+use Rattle.flow_problem.specs.declared.fault.PlaceFault.{PlaceFault}
+use Rattle.flow_problem.specs.declared.fault.PlaceFault.TheVariants as place
 use Rattle.flow_problem.specs.Edges.{Edge, edge_of}
 use Rattle.flow_ways.specs.Ways.{ways}
 use Rattle.flow_tables.specs.EdgeTables.{table_marks}

@@ -4,7 +4,7 @@ use Rattle.kat_model.specs.Trees.{Term, kat_tree}
 use Rattle.kat_model.specs.declared.limits.TheConstants.{MAX_TESTS, MAX_ACTIONS, MAX_HYPS}
 use Rattle.flow_model.specs.Polish.{graph_of}
 use Rattle.flow_forms.specs.Comparisons.{comparison_tree}
-use Rattle.flow_places.specs.Places.{places}
+use Rattle.flow_problem.specs.Places.{places}
 use Rattle.flow_problem.specs.Edges.{Edge, way_edges}
 use Rattle.flow_problem.specs.EdgeTerms.{graph_term}
 use Rattle.flow_problem.specs.FlowFacts.{flow_hypotheses}

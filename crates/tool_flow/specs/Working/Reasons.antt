@@ -8,7 +8,7 @@ use Rattle.flow_ways.specs.declared.limits.TheConstants.{MAX_WAYS}
 use Rattle.flow_ways.specs.Outcomes.{Outcome}
 use Rattle.flow_sorts.specs.WholeGraphs.{are_whole_blocks}
 use Rattle.flow_sorts.proofs.OneOutcome.{whole_outcomes}
-use Rattle.flow_places.specs.Places.{is_place}
+use Rattle.flow_problem.specs.Places.{is_place}
 use Rattle.flow_problem.specs.FlowProblems.{FlowQuestion}
 use Rattle.flow_questions.specs.declared.fault.FlowFault.{FlowFault}
 use Rattle.flow_questions.specs.declared.fault.FlowFault.TheVariants.{NoMemory, UncutLoop, TooManyPaths, TooLarge, TooManyTests, TooManyActions, ProblemTooLarge}

@@ -1,8 +1,8 @@
 use Rattle.std.proofs.Common.{◌≡◌, map, refl, sym, ◌∙◌, subst}
 use Rattle.flow_model.specs.Polish.{graph_of}
-use Rattle.flow_places.specs.Live.{live}
-use Rattle.flow_places.specs.Places.{places}
-use Rattle.flow_places.specs.Tables.{noted}
+use Rattle.flow_problem.specs.Live.{live}
+use Rattle.flow_problem.specs.Places.{places}
+use Rattle.flow_problem.specs.Tables.{noted}
 use Rattle.flow_tables.specs.GraphRows.{row_edges}
 use Rattle.flow_questions.specs.Working.Placed.{of_place_fault, of_way_fault, HasGraphFault}
 use Rattle.flow_questions.proofs.Refusals.{refused_as}
