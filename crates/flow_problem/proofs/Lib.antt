@@ -1,3 +1,6 @@
+pub mod RowTerms
+pub mod TermShapes
+pub mod Rounds
 pub mod Walked
 pub mod Reaching
 pub mod CutRuns

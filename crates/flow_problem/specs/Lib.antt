@@ -1,3 +1,5 @@
+pub mod Rows
+pub mod Shapes
 pub mod Walks
 pub mod Places
 pub mod Loops

@@ -1,6 +1,7 @@
 //! Laws of flow problems. Each function does nothing: its contract is the law.
 ghost use Rattle.flow_problem.specs.Laws.{SameAgree, ProblemsAsk, MarkedAgree, FlowAgrees};
 ghost use Rattle.flow_problem.specs.PlaceLaws.{PlacesCutRuns, ReachedExactly, UnmarkedAreCut, LiveExactly};
+ghost use Rattle.flow_problem.specs.Rows.{RowsAreEliminated};
 
 /// A problem is about two graphs if its hypotheses hold of all states under all interpretations and its sides lead from
 /// each state to the ends of the runs of the graphs. If its sides denote one relation in each table that satisfies the
@@ -46,4 +47,10 @@ pub fn back_edges_cut_loops()
 /// The test of liveness is true exactly on the least sets of the equations of liveness.
 pub fn live_sets_are_least()
     ensures { LiveExactly }
+{}
+
+/// The elimination of places in rows, from the last place to the first, gives the term that elimination in their matrix
+/// gives.
+pub fn rows_are_eliminated()
+    ensures { RowsAreEliminated }
 {}

@@ -16,9 +16,9 @@ use Rattle.flow_problem.specs.FlowFacts.{FlowHypothesis as Hypothesis, flow_hypo
 use Rattle.flow_problem.specs.FlowProblems.{first_tests, edges_before, edges_after, flow_actions, flow_tests, flow_parts}
 use Rattle.flow_tables.specs.declared.action.FlowAction.{FlowAction}
 use Rattle.flow_tables.specs.EdgeViews.{flow_action}
-use Rattle.flow_terms.specs.Rows.{rows_fit}
-use Rattle.flow_terms.specs.declared.fault.TermFault.{TermFault}
-use Rattle.flow_terms.specs.declared.fault.TermFault.TheVariants as term
+use Rattle.flow_problem.specs.Rows.{rows_fit}
+use Rattle.flow_problem.specs.declared.term_fault.TermFault.{TermFault}
+use Rattle.flow_problem.specs.declared.term_fault.TermFault.TheVariants as term
 use Rattle.flow_tables.specs.GraphRows.{row_edges, edge_rows}
 use Rattle.flow_questions.specs.declared.hypothesis.FlowHypothesis.{FlowHypothesis}
 use Rattle.flow_questions.specs.HypothesisViews.{flow_rule, flow_hypothesis}

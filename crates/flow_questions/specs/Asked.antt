@@ -14,7 +14,7 @@ use Rattle.flow_problem.specs.Loops.{HasUncutLoop}
 use Rattle.flow_problem.specs.Edges.{Edge}
 use Rattle.flow_problem.specs.FlowProblems.{FlowQuestion, PairMarks, first_tests, edges_before, edges_after, flow_actions, flow_tests, flow_parts}
 use Rattle.flow_problem.specs.PlacedProblems.{pair_marks}
-use Rattle.flow_terms.specs.Rows.{rows_fit}
+use Rattle.flow_problem.specs.Rows.{rows_fit}
 use Rattle.flow_tables.specs.GraphRows.{edge_rows}
 use Rattle.flow_questions.specs.declared.fault.FlowFault.{FlowFault}
 use Rattle.flow_questions.specs.declared.fault.FlowFault.TheVariants.{NoMemory, UncutLoop, TooManyPaths, TooLarge, TooManyTests, TooManyActions, ProblemTooLarge}

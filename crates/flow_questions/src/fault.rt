@@ -4,11 +4,10 @@ ghost use Rattle.flow_questions.specs.declared.fault.FlowFault.TheVariants.{NoMe
 ghost use Rattle.flow_questions.specs.Working.Placed.{of_place_fault, of_way_fault, of_table_fault, of_split_fault, of_term_fault, of_hypothesis_fault};
 
 use crate::hypothesis_fault::HypothesisFault;
-use flow_problem::PlaceFault;
+use flow_problem::{PlaceFault, TermFault};
 use flow_splits::SplitFault;
 use flow_ways::WayFault;
 use flow_tables::TableFault;
-use flow_terms::TermFault;
 use kat_model::NoMemory;
 
 /// The reason why a question of two graphs has no problem.

@@ -14,7 +14,7 @@ use crate::placed::PlacedEdges;
 use crate::rounds::with_rounds;
 use flow_forms::FlowComparison;
 use flow_tables::{FlowAction, action_rows, graph_term};
-use flow_terms::TermFault;
+use flow_problem::TermFault;
 use kat_model::Kat;
 use std::alloc::Global;
 

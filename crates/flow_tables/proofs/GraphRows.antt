@@ -11,8 +11,8 @@ use Rattle.flow_forms.specs.Comparisons.{FlowComparisonTree}
 use Rattle.flow_problem.specs.Edges.{FlowActionTree, Edge}
 use Rattle.flow_problem.specs.EdgeTerms.{edge_term, comes_to, is_end, step_term, end_term, place_block, graph_term, all_edges}
 use Rattle.flow_problem.specs.Elimination.{times, repeated, eliminated}
-use Rattle.flow_terms.specs.Rows.{TermRow, rows_term, rows_fit, row_from_last, matrix_steps, matrix_ends, HaveSteps}
-use Rattle.flow_terms.proofs.RowTerms.{eliminated_same, rows_are_eliminated}
+use Rattle.flow_problem.specs.Rows.{TermRow, rows_term, rows_fit, row_from_last, matrix_steps, matrix_ends, HaveSteps}
+use Rattle.flow_problem.proofs.RowTerms.{eliminated_same, rows_are_eliminated}
 use Rattle.flow_tables.specs.GraphRows.{leads_to, edges_term, edge_row, edge_rows}
 
 -- the edges of the places are all edges of a graph

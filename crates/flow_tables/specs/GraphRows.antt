@@ -6,7 +6,7 @@ use Rattle.kat_model.specs.Balanced.{sum_of}
 use Rattle.flow_forms.specs.Comparisons.{FlowComparisonTree}
 use Rattle.flow_problem.specs.Edges.{FlowActionTree, Edge}
 use Rattle.flow_problem.specs.EdgeTerms.{edge_term, comes_to, is_end}
-use Rattle.flow_terms.specs.Rows.{TermRow}
+use Rattle.flow_problem.specs.Rows.{TermRow}
 use Rattle.flow_tables.specs.declared.edge.FlowEdge.{FlowEdge}
 use Rattle.flow_tables.specs.EdgeViews.{flow_edge}
 

@@ -4,7 +4,7 @@ ghost use Rattle.kat_model.specs.Trees.{kat_tree};
 ghost use Rattle.flow_forms.specs.Comparisons.{comparison_tree};
 ghost use Rattle.flow_problem.specs.Edges.{Edge};
 ghost use Rattle.flow_problem.specs.EdgeTerms.{edge_term as term_of, graph_term as term_of_graph};
-ghost use Rattle.flow_terms.specs.Rows.{row_tree, rows_fit};
+ghost use Rattle.flow_problem.specs.Rows.{row_tree, rows_fit};
 ghost use Rattle.flow_tables.specs.EdgeViews.{flow_action, flow_edge};
 ghost use Rattle.flow_tables.specs.GraphRows.{row_edges, leads_to as has_target, edges_term as term_of_edges, edge_row, edge_rows};
 
@@ -12,7 +12,7 @@ use crate::action::FlowAction;
 use crate::edge::FlowEdge;
 use crate::term::edge_term;
 use flow_forms::FlowComparison;
-use flow_terms::{Row, TermFault, eliminated};
+use flow_problem::{Row, TermFault, eliminated};
 use kat_model::{Kat, NoMemory, sum_of};
 use std::alloc::Global;
 

@@ -10,7 +10,7 @@ use Rattle.flow_problem.specs.EdgeTerms.{graph_term}
 use Rattle.flow_problem.specs.FlowFacts.{flow_hypotheses}
 use Rattle.flow_problem.specs.FlowProblems.{first_tests, edges_before, edges_after, flow_actions, flow_tests, flow_parts}
 use Rattle.flow_problem.specs.PlacedProblems.{graph_marks}
-use Rattle.flow_terms.specs.Rows.{rows_fit}
+use Rattle.flow_problem.specs.Rows.{rows_fit}
 use Rattle.flow_tables.specs.EdgeViews.{flow_action}
 use Rattle.flow_tables.specs.GraphRows.{row_edges, edge_rows}
 use Rattle.flow_questions.specs.HypothesisViews.{flow_rule}

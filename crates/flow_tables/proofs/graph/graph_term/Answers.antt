@@ -2,8 +2,8 @@ use Rattle.std.proofs.Common.{◌≡◌, Bool, true, false, map, subst}
 use Rattle.std.specs.Prelude.{IfOk, IfErr}
 use Rattle.std.proofs.lemmas.Result.{IfOk-weaker}
 use Rattle.flow_forms.specs.Comparisons.{comparison_tree}
-use Rattle.flow_terms.specs.Rows.{row_tree}
-use Rattle.flow_terms.specs.declared.fault.TermFault.TheVariants.{TooLarge}
+use Rattle.flow_problem.specs.Rows.{row_tree}
+use Rattle.flow_problem.specs.declared.term_fault.TermFault.TheVariants.{TooLarge}
 use Rattle.flow_tables.specs.EdgeViews.{flow_action}
 use Rattle.flow_tables.specs.GraphRows.{row_edges}
 use Rattle.flow_tables.proofs.GraphRows.{rows_same_fit, rows_graph}

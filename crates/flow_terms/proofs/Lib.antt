@@ -1,3 +1,0 @@
-pub mod RowTerms
-pub mod TermShapes
-pub mod Rounds
