@@ -3,12 +3,12 @@ use Rattle.std.proofs.Common.{◌≡◌, ◌↔◌, ℕ, inl, inr, ⊎_elim, Lis
 use Rattle.kat_model.specs.Members.{Has}
 use Rattle.term_nodes.specs.NumberSets.{NumberPair, are_below}
 use Rattle.certificate.specs.PairParts.{PairParts, only_sets}
-use Rattle.cert_questions.specs.declared.known.Truth.{Truth}
+use Rattle.cert_checker.specs.declared.known.Truth.{Truth}
 use Rattle.cert_checker.specs.declared.saturation.Counted.{Counted}
 use Rattle.cert_checker.specs.Working.Reaching.{ArePairsBelow}
 use Rattle.cert_checker.specs.Working.Matching.{may_be, does_count, counting}
-use Rattle.cert_questions.specs.Cases.{known_test}
-use Rattle.cert_questions.specs.Questions.{ActionPassParts}
+use Rattle.cert_checker.specs.Cases.{known_test}
+use Rattle.cert_checker.specs.Questions.{ActionPassParts}
 use Rattle.cert_checker.specs.Working.Rounds.{counting_in}
 
 -- equal arguments give equal lists of counting pairs

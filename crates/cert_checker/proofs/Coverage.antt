@@ -5,7 +5,7 @@ use Rattle.std.proofs.lemmas.Bool.{and_parts, false≢true}
 use Rattle.kat_model.specs.Members.{IsSubset}
 use Rattle.kat_model.proofs.Lists.{has_any}
 use Rattle.term_nodes.specs.NumberSets.{NumberPair}
-use Rattle.cert_questions.specs.declared.sides.TargetSides.{TargetSides}
+use Rattle.cert_checker.specs.declared.sides.TargetSides.{TargetSides}
 use Rattle.cert_checker.specs.Working.Reaching.{HoldsAll, IsReached, AreReached, IsReachedByBoth}
 use Rattle.cert_checker.specs.Working.Matching.{lists, AreCovered}
 use Rattle.cert_checker.proofs.ListedPairs.{same_pointwise}

@@ -10,15 +10,15 @@ use Rattle.kat_model.proofs.Lists.{has_right}
 use Rattle.kat_model.proofs.Saturation.{sat_keeps}
 use Rattle.kat_model.proofs.Congruence.{sat_grows}
 use Rattle.term_nodes.specs.NumberSets.{NumberPair, are_below, set_pairs_of, terms_of}
-use Rattle.cert_questions.specs.declared.known.Truth.{Truth}
-use Rattle.cert_questions.specs.declared.known.Truth.TheVariants.{Known}
-use Rattle.cert_questions.specs.declared.sides.TargetSides.{TargetSides}
-use Rattle.cert_questions.specs.NodeTables.{TableParts, AreTables, IsTerm, term_at, holds_at, nodes_in}
-use Rattle.cert_questions.specs.Targets.{chosen, AreEntries}
-use Rattle.cert_questions.proofs.ChosenTargets.{chosen_has, has_chosen}
-use Rattle.cert_questions.specs.Cases.{known_of, truly, falsely}
+use Rattle.cert_checker.specs.declared.known.Truth.{Truth}
+use Rattle.cert_checker.specs.declared.known.Truth.TheVariants.{Known}
+use Rattle.cert_checker.specs.declared.sides.TargetSides.{TargetSides}
+use Rattle.cert_checker.specs.NodeTables.{TableParts, AreTables, IsTerm, term_at, holds_at, nodes_in}
+use Rattle.cert_checker.specs.Targets.{chosen, AreEntries}
+use Rattle.cert_checker.proofs.ChosenTargets.{chosen_has, has_chosen}
+use Rattle.cert_checker.specs.Cases.{known_of, truly, falsely}
 use Rattle.cert_checker.specs.Working.Reaching.{ArePairsBelow, IsReached, AreReached, IsReachedByBoth}
-use Rattle.cert_questions.specs.Sides.{sure_targets, has_too, open_targets, AreTargetSides, AreSettled}
+use Rattle.cert_checker.specs.Sides.{sure_targets, has_too, open_targets, AreTargetSides, AreSettled}
 use Rattle.cert_checker.specs.Working.Matching.{AreCovered}
 use Rattle.cert_checker.proofs.ReachedTerms.{reached_has, has_reached, are_reached}
 use Rattle.cert_checker.proofs.Covering.{AreRight, sure_chosen, chosen_reached}

@@ -6,13 +6,13 @@ use Rattle.kat_model.specs.Members.{Has, IsSubset}
 use Rattle.kat_model.specs.Steps.{Atom}
 use Rattle.kat_model.proofs.Lists.{has_right, has_append}
 use Rattle.term_nodes.specs.NumberSets.{terms_of}
-use Rattle.cert_questions.specs.NodeTables.{TableParts, term_at, holds_at, nodes_in}
-use Rattle.cert_questions.specs.Targets.{chosen, guard_of}
-use Rattle.cert_questions.proofs.ChosenTargets.{chosen_has, guard_member, any_value}
-use Rattle.cert_questions.specs.declared.known.Truth.{Truth}
-use Rattle.cert_questions.specs.declared.known.Truth.TheVariants.{Known, Undecided}
-use Rattle.cert_questions.specs.Cases.{known_of, truly, falsely}
-use Rattle.cert_questions.specs.Sides.{sure_targets, has_too, open_targets}
+use Rattle.cert_checker.specs.NodeTables.{TableParts, term_at, holds_at, nodes_in}
+use Rattle.cert_checker.specs.Targets.{chosen, guard_of}
+use Rattle.cert_checker.proofs.ChosenTargets.{chosen_has, guard_member, any_value}
+use Rattle.cert_checker.specs.declared.known.Truth.{Truth}
+use Rattle.cert_checker.specs.declared.known.Truth.TheVariants.{Known, Undecided}
+use Rattle.cert_checker.specs.Cases.{known_of, truly, falsely}
+use Rattle.cert_checker.specs.Sides.{sure_targets, has_too, open_targets}
 
 pub truly_value : (x : Truth) → truly x ≡ true → x ≡ Known true
 truly_value (Known true) e = refl

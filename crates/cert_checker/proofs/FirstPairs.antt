@@ -23,22 +23,22 @@ use Rattle.certificate.specs.declared.nodes.Style.TheVariants.{Plain, UpTo, Unde
 use Rattle.certificate.specs.PairParts.{PairParts, only_sets}
 use Rattle.certificate.specs.Certs.{CertParts, IsPairOf, HasItsTest, nodes_of}
 use Rattle.certificate.specs.Accepted.{set_pairs, test_of, tested_pair_of, tested_pairs}
-use Rattle.cert_questions.specs.NodeTables.{TableParts, AreTables, TablesGrow, IsTest, IsTerm, HasValues, term_at, holds_at, nodes_in}
-use Rattle.cert_questions.specs.Targets.{AreEntries, StandFor, chosen}
-use Rattle.cert_questions.proofs.GrowingTables.{grows_trans}
-use Rattle.cert_questions.proofs.StepSets.{stand_kept, stand_same}
-use Rattle.cert_questions.proofs.TargetSets.{holds_kept}
+use Rattle.cert_checker.specs.NodeTables.{TableParts, AreTables, TablesGrow, IsTest, IsTerm, HasValues, term_at, holds_at, nodes_in}
+use Rattle.cert_checker.specs.Targets.{AreEntries, StandFor, chosen}
+use Rattle.cert_checker.proofs.GrowingTables.{grows_trans}
+use Rattle.cert_checker.proofs.StepSets.{stand_kept, stand_same}
+use Rattle.cert_checker.proofs.TargetSets.{holds_kept}
 use Rattle.cert_checker.specs.Answers.{Begins}
-use Rattle.cert_questions.specs.Cases.{Extends, undecided}
+use Rattle.cert_checker.specs.Cases.{Extends, undecided}
 use Rattle.cert_checker.specs.LeastFailures.{IsFirstFailure}
-use Rattle.cert_questions.specs.Roots.{compared, counted_short}
-use Rattle.cert_questions.specs.Questions.{ActionPassParts, QuestionParts, IsPosed, IsAskedOf, AreNamed, Counts, AreMatchedIn, AreMatchedBy, MatchAt}
-use Rattle.cert_questions.specs.Passes.{PassParts, IsPass, PassGrows, IsActionPass, IsAllowed}
-use Rattle.cert_questions.proofs.Passes.{pass_with, turn_with}
+use Rattle.cert_checker.specs.Roots.{compared, counted_short}
+use Rattle.cert_checker.specs.Questions.{ActionPassParts, QuestionParts, IsPosed, IsAskedOf, AreNamed, Counts, AreMatchedIn, AreMatchedBy, MatchAt}
+use Rattle.cert_checker.specs.Passes.{PassParts, IsPass, PassGrows, IsActionPass, IsAllowed}
+use Rattle.cert_checker.proofs.Passes.{pass_with, turn_with}
 use Rattle.cert_checker.proofs.PairPlaces.{undecided_extends, undecided_length}
-use Rattle.cert_questions.proofs.CertPairs.{set_kept, test_kept, test_there}
+use Rattle.cert_checker.proofs.CertPairs.{set_kept, test_kept, test_there}
 use Rattle.cert_checker.proofs.PairTurns.{outputs_told, both_trans, by_path, matched_in_turn}
-use Rattle.cert_questions.proofs.PosedQuestions.{question_of, question_posed}
+use Rattle.cert_checker.proofs.PosedQuestions.{question_of, question_posed}
 
 -- ---- a test that is true at each allowed atom
 

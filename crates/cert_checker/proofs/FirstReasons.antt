@@ -21,7 +21,7 @@ use Rattle.kat_model.proofs.Places.{has_at, place_of_member}
 use Rattle.cert_checker.specs.declared.answer.Reason.{Reason}
 use Rattle.cert_checker.specs.declared.answer.Reason.TheVariants.{FirstPair, Output, Missing, MissingTo, Shape, HypBroken, EndsAgree, TestNode, TermNode}
 use Rattle.cert_checker.specs.Answers.{Turn, turn_of, IsEarlier, Begins, AcceptAlike, OutputsHold, StepHolds, MoveHolds, FailsBy, FailsFirstBy}
-use Rattle.cert_questions.specs.Ranges.{IsFirstOut}
+use Rattle.cert_checker.specs.Ranges.{IsFirstOut}
 use Rattle.cert_checker.specs.declared.places.Place.{Place}
 use Rattle.cert_checker.specs.Working.Places.{IsFirstOf, place_reason}
 

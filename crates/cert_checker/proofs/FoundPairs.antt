@@ -11,8 +11,8 @@ use Rattle.kat_model.proofs.Lists.{has_append, has_any, any_has}
 use Rattle.kat_model.proofs.Places.{has_at, place_of_member}
 use Rattle.term_nodes.specs.NumberSets.{NumberPair}
 use Rattle.certificate.specs.PairParts.{PairParts, only_sets}
-use Rattle.cert_questions.specs.declared.known.Truth.{Truth}
-use Rattle.cert_questions.specs.Indices.{IndexParts, places_by, AreIndexed}
+use Rattle.cert_checker.specs.declared.known.Truth.{Truth}
+use Rattle.cert_checker.specs.Indices.{IndexParts, places_by, AreIndexed}
 use Rattle.cert_checker.specs.Working.Matching.{does_count, counting, lists}
 use Rattle.cert_checker.proofs.CountedPairs.{counting_has, has_counting}
 use Rattle.cert_checker.proofs.ListedPairs.{same_pointwise}

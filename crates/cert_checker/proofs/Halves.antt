@@ -2,7 +2,7 @@
 use Rattle.std.proofs.Common.{◌≡◌, ℕ, zero, suc, ◌+◌, List, [], ◌∷◌, ◌++◌, take, drop, slice_get, ap, ◌∙◌, arith, zero-add, Bool, true, false, Option, Some, None}
 use Rattle.kat_model.specs.Steps.{Atom}
 use Rattle.cert_checker.specs.AtomOrder.{IsLess}
-use Rattle.cert_questions.specs.Cases.{Extends, IsOpen}
+use Rattle.cert_checker.specs.Cases.{Extends, IsOpen}
 
 pub open_front : (n : ℕ) (ds : List (Option Bool)) (k : ℕ) → IsOpen (take n ds) k → IsOpen ds k
 open_front zero ds k e = absurd cc

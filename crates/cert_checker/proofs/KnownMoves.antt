@@ -10,15 +10,15 @@ use Rattle.kat_model.proofs.PairsUnderTests.{has_pairs_at, pairs_at_has}
 use Rattle.term_nodes.specs.NumberSets.{NumberPair, set_pairs_of, terms_of}
 use Rattle.certificate.specs.PairParts.{PairParts, only_sets}
 use Rattle.certificate.specs.Accepted.{tested_pair_of}
-use Rattle.cert_questions.specs.NodeTables.{TableParts, holds_at, nodes_in}
-use Rattle.cert_questions.specs.declared.known.TestCase.{TestCase}
-use Rattle.cert_questions.specs.declared.known.Truth.{Truth}
-use Rattle.cert_questions.specs.declared.known.Truth.TheVariants.{Known, Undecided}
-use Rattle.cert_questions.specs.Cases.{Extends, IsKnown, known_and, known_of, known_test, truly, falsely}
-use Rattle.cert_questions.specs.Questions.{QuestionParts, Counts, test_holds}
+use Rattle.cert_checker.specs.NodeTables.{TableParts, holds_at, nodes_in}
+use Rattle.cert_checker.specs.declared.known.TestCase.{TestCase}
+use Rattle.cert_checker.specs.declared.known.Truth.{Truth}
+use Rattle.cert_checker.specs.declared.known.Truth.TheVariants.{Known, Undecided}
+use Rattle.cert_checker.specs.Cases.{Extends, IsKnown, known_and, known_of, known_test, truly, falsely}
+use Rattle.cert_checker.specs.Questions.{QuestionParts, Counts, test_holds}
 use Rattle.cert_checker.specs.Working.Matching.{may_be, counting}
-use Rattle.cert_questions.specs.Moves.{is_excluded, DoesCount}
-use Rattle.cert_questions.specs.Waiting.{AreTestsSettled}
+use Rattle.cert_checker.specs.Moves.{is_excluded, DoesCount}
+use Rattle.cert_checker.specs.Waiting.{AreTestsSettled}
 use Rattle.cert_checker.proofs.Covering.{truly_value, falsely_value}
 use Rattle.cert_checker.proofs.CountedPairs.{counting_has, has_counting}
 

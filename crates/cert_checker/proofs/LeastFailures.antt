@@ -6,7 +6,7 @@ use Rattle.std.specs.Ordering.{bool_cmp, is_le, is_some_and}
 use Rattle.std.specs.Cmp.Lexicographic.{slice_partial_cmp}
 use Rattle.kat_model.specs.Steps.{Atom}
 use Rattle.cert_checker.specs.AtomOrder.{IsLess}
-use Rattle.cert_questions.specs.Cases.{Extends, IsOpen}
+use Rattle.cert_checker.specs.Cases.{Extends, IsOpen}
 use Rattle.cert_checker.specs.LeastFailures.{open_count, least_of, IsBelow, IsFirstFailure}
 use Rattle.cert_checker.specs.Working.Outcomes.{IsOutcome}
 use Rattle.cert_checker.specs.declared.matching.Outcome.{Outcome}

@@ -8,7 +8,7 @@ use Rattle.kat_model.proofs.Lists.{has_map, map_has}
 use Rattle.term_nodes.specs.NumberSets.{are_below, are_ascending, terms_of}
 use Rattle.certificate.proofs.Ascending.{ascending_tail, ascending_first}
 use Rattle.term_nodes.proofs.Parts.{below_has}
-use Rattle.cert_questions.specs.NodeTables.{TableParts, AreTables, term_at, nodes_in}
+use Rattle.cert_checker.specs.NodeTables.{TableParts, AreTables, term_at, nodes_in}
 use Rattle.term_nodes.proofs.TermTrees.{one_id_a_tree}
 
 -- lists of numbers that agree at each place are equal

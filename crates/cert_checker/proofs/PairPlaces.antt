@@ -16,7 +16,7 @@ use Rattle.cert_checker.specs.declared.answer.Reason.{Reason}
 use Rattle.cert_checker.specs.declared.answer.Reason.TheVariants.{FirstPair, Output, Missing, MissingTo, Shape, HypBroken, EndsAgree, TestNode, TermNode}
 use Rattle.cert_checker.specs.Answers.{Turn, turn_of, IsEarlier, OutputsHold, StepHolds, MoveHolds, FailsBy}
 use Rattle.cert_checker.specs.AtomOrder.{IsLess}
-use Rattle.cert_questions.specs.Cases.{Extends, undecided}
+use Rattle.cert_checker.specs.Cases.{Extends, undecided}
 use Rattle.cert_checker.specs.LeastFailures.{IsFirstFailure}
 use Rattle.cert_checker.specs.Working.Places.{IsAmong, IsFirstOf, TurnHolds, turn_number, reason_at}
 use Rattle.cert_checker.proofs.Halves.{less_append, less_behind}

@@ -16,18 +16,18 @@ use Rattle.certificate.specs.declared.nodes.Style.TheVariants.{Plain, UpTo, Unde
 use Rattle.certificate.specs.PairParts.{PairParts, only_sets}
 use Rattle.certificate.specs.Certs.{HasItsTest, nodes_of}
 use Rattle.certificate.specs.Accepted.{set_pairs, test_of, tested_pair_of, tested_pairs}
-use Rattle.cert_questions.specs.NodeTables.{TableParts, TablesGrow, term_at, nodes_in}
-use Rattle.cert_questions.specs.Targets.{StandFor, chosen, set_leads_to}
-use Rattle.cert_questions.proofs.StepSets.{stand_kept}
+use Rattle.cert_checker.specs.NodeTables.{TableParts, TablesGrow, term_at, nodes_in}
+use Rattle.cert_checker.specs.Targets.{StandFor, chosen, set_leads_to}
+use Rattle.cert_checker.proofs.StepSets.{stand_kept}
 use Rattle.cert_checker.specs.LeastFailures.{IsFirstFailure}
-use Rattle.cert_questions.specs.Cases.{undecided}
-use Rattle.cert_questions.specs.Roots.{compared, counted_short}
-use Rattle.cert_questions.specs.Questions.{ActionPassParts, QuestionParts, AreNamed, IsPosed, IsAskedOf, Counts, AreMatchedIn, MatchAt, test_holds}
-use Rattle.cert_questions.specs.Passes.{PassParts, IsPass, IsActionPass, IsAllowed}
+use Rattle.cert_checker.specs.Cases.{undecided}
+use Rattle.cert_checker.specs.Roots.{compared, counted_short}
+use Rattle.cert_checker.specs.Questions.{ActionPassParts, QuestionParts, AreNamed, IsPosed, IsAskedOf, Counts, AreMatchedIn, MatchAt, test_holds}
+use Rattle.cert_checker.specs.Passes.{PassParts, IsPass, IsActionPass, IsAllowed}
 use Rattle.cert_checker.specs.Working.Places.{TurnHolds, PairHolds}
-use Rattle.cert_questions.proofs.PosedQuestions.{question_of, none_plain, question_posed, own_test}
-use Rattle.cert_questions.proofs.CertPairs.{set_kept, test_kept, test_there, pairs_kept, sets_kept}
-use Rattle.cert_questions.proofs.Passes.{pass_with, turn_with}
+use Rattle.cert_checker.proofs.PosedQuestions.{question_of, none_plain, question_posed, own_test}
+use Rattle.cert_checker.proofs.CertPairs.{set_kept, test_kept, test_there, pairs_kept, sets_kept}
+use Rattle.cert_checker.proofs.Passes.{pass_with, turn_with}
 use Rattle.cert_checker.proofs.SetQuestions.{matched_same}
 
 -- without tests all listed pairs count at each atom

@@ -10,7 +10,7 @@ use Rattle.kat_model.proofs.SameTrees.{holds-true, has-holds}
 use Rattle.term_nodes.specs.NumberSets.{NumberPair, are_below, terms_of, set_pairs_of}
 use Rattle.term_nodes.proofs.Parts.{below_has}
 use Rattle.term_nodes.proofs.TermTrees.{one_id_a_tree}
-use Rattle.cert_questions.specs.NodeTables.{TableParts, AreTables, IsTerm, term_at, nodes_in}
+use Rattle.cert_checker.specs.NodeTables.{TableParts, AreTables, IsTerm, term_at, nodes_in}
 use Rattle.cert_checker.specs.Working.Reaching.{ArePairsBelow, HoldsAll, IsClosed, IsReached, AreReached}
 
 -- the sets of terms of a pair of sets of numbers

@@ -11,8 +11,8 @@ use Rattle.kat_model.proofs.Lists.{has_left, has_right, has_append, has_any, any
 use Rattle.kat_model.proofs.Places.{has_at, place_of_member, element_at, slice_get-append_some}
 use Rattle.term_nodes.specs.NumberSets.{NumberPair}
 use Rattle.certificate.specs.PairParts.{PairParts, only_sets}
-use Rattle.cert_questions.specs.declared.known.Truth.{Truth}
-use Rattle.cert_questions.specs.Indices.{IndexParts, places_under, places_by, AreIndexed}
+use Rattle.cert_checker.specs.declared.known.Truth.{Truth}
+use Rattle.cert_checker.specs.Indices.{IndexParts, places_under, places_by, AreIndexed}
 use Rattle.cert_checker.specs.Working.Reaching.{HoldsAll, IsClosed, AreReached}
 use Rattle.cert_checker.specs.Working.Matching.{does_count, counting}
 use Rattle.cert_checker.specs.Working.Rounds.{StayInPlace, AreAdded, IsBrought, GoesOn, IsTended, AreTendedAt}

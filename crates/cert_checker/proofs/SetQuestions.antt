@@ -12,7 +12,7 @@ use Rattle.certificate.specs.declared.nodes.Style.{Style}
 use Rattle.certificate.specs.declared.nodes.Style.TheVariants.{Plain, UpTo, Under}
 use Rattle.certificate.specs.PairParts.{PairParts}
 use Rattle.certificate.specs.Accepted.{tested_pair_of}
-use Rattle.cert_questions.specs.Questions.{AreMatchedIn}
+use Rattle.cert_checker.specs.Questions.{AreMatchedIn}
 
 both_same : (universal : Option Term) (es fs gs hs : List Term) → SameMembers es gs → SameMembers fs hs → BothUniversal universal es fs → BothUniversal universal gs hs
 both_same None es fs gs hs s u h = h

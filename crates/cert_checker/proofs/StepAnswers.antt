@@ -23,17 +23,17 @@ use Rattle.certificate.specs.PairParts.{PairParts}
 use Rattle.certificate.specs.Accepted.{tested_pair_of}
 use Rattle.term_nodes.specs.NumberSets.{NumberPair, IsNumberSet, are_ascending, set_pairs_of, terms_of}
 use Rattle.term_nodes.proofs.TermTrees.{one_id_a_tree}
-use Rattle.cert_questions.specs.NodeTables.{TableParts, AreTables, IsTerm, term_at, holds_at, nodes_in}
-use Rattle.cert_questions.specs.Targets.{chosen, guard_of, AreEntries}
-use Rattle.cert_questions.proofs.ChosenTargets.{chosen_has, has_chosen, guard_member, any_value}
-use Rattle.cert_questions.specs.declared.known.Truth.{Truth}
-use Rattle.cert_questions.specs.declared.known.Truth.TheVariants.{Known, Undecided as UndecidedBy}
-use Rattle.cert_questions.specs.declared.sides.TargetSide.{TargetSide}
-use Rattle.cert_questions.specs.Cases.{known_of, truly, falsely}
-use Rattle.cert_questions.specs.Questions.{AreMatchedIn}
-use Rattle.cert_questions.specs.Sides.{sure_targets, open_targets, has_too, is_sure, AreSettled, AreSettledAmong, IsWaitedBy, IsTargetSide}
+use Rattle.cert_checker.specs.NodeTables.{TableParts, AreTables, IsTerm, term_at, holds_at, nodes_in}
+use Rattle.cert_checker.specs.Targets.{chosen, guard_of, AreEntries}
+use Rattle.cert_checker.proofs.ChosenTargets.{chosen_has, has_chosen, guard_member, any_value}
+use Rattle.cert_checker.specs.declared.known.Truth.{Truth}
+use Rattle.cert_checker.specs.declared.known.Truth.TheVariants.{Known, Undecided as UndecidedBy}
+use Rattle.cert_checker.specs.declared.sides.TargetSide.{TargetSide}
+use Rattle.cert_checker.specs.Cases.{known_of, truly, falsely}
+use Rattle.cert_checker.specs.Questions.{AreMatchedIn}
+use Rattle.cert_checker.specs.Sides.{sure_targets, open_targets, has_too, is_sure, AreSettled, AreSettledAmong, IsWaitedBy, IsTargetSide}
 use Rattle.cert_checker.specs.Working.Matching.{lists}
-use Rattle.cert_questions.proofs.TargetKeys.{less_lt, guard_found, open_entry}
+use Rattle.cert_checker.proofs.TargetKeys.{less_lt, guard_found, open_entry}
 use Rattle.cert_checker.proofs.Covering.{AreRight, truly_value, sure_chosen}
 use Rattle.cert_checker.proofs.Covered.{sure_below, settled_sure}
 use Rattle.cert_checker.proofs.ListedPairs.{same_numbers, same_pointwise, pointwise_itself}

@@ -11,20 +11,20 @@ use Rattle.certificate.specs.declared.nodes.Style.TheVariants.{Plain, UpTo, Unde
 use Rattle.certificate.specs.PairParts.{PairParts, only_sets}
 use Rattle.certificate.specs.Accepted.{tested_pair_of}
 use Rattle.term_nodes.specs.NumberSets.{NumberPair, IsNumberSet, set_pairs_of}
-use Rattle.cert_questions.specs.NodeTables.{TableParts, AreTables, holds_at, term_at, nodes_in}
-use Rattle.cert_questions.specs.Targets.{chosen}
-use Rattle.cert_questions.specs.declared.known.TestCase.{TestCase}
-use Rattle.cert_questions.specs.declared.known.Truth.TheVariants.{Known, Undecided as UndecidedBy}
-use Rattle.cert_questions.specs.declared.sides.TargetSides.{TargetSides}
-use Rattle.cert_questions.specs.Cases.{Extends, IsOpen, IsKnown, known_of}
+use Rattle.cert_checker.specs.NodeTables.{TableParts, AreTables, holds_at, term_at, nodes_in}
+use Rattle.cert_checker.specs.Targets.{chosen}
+use Rattle.cert_checker.specs.declared.known.TestCase.{TestCase}
+use Rattle.cert_checker.specs.declared.known.Truth.TheVariants.{Known, Undecided as UndecidedBy}
+use Rattle.cert_checker.specs.declared.sides.TargetSides.{TargetSides}
+use Rattle.cert_checker.specs.Cases.{Extends, IsOpen, IsKnown, known_of}
 use Rattle.cert_checker.specs.LeastFailures.{HoldsThroughout}
 use Rattle.cert_checker.specs.Working.Reaching.{ArePairsBelow}
-use Rattle.cert_questions.specs.Questions.{QuestionParts, IsQuestion, AreNamed, IsTestCase, Counts, AreMatchedIn, MatchAt, NamesByTargets, NamesByMoves, NamesAtEnd}
-use Rattle.cert_questions.specs.Waiting.{IsWaited}
-use Rattle.cert_questions.specs.Sides.{sure_targets, is_sure, AreTargetSides, AreSettled, IsWaitedBy}
+use Rattle.cert_checker.specs.Questions.{QuestionParts, IsQuestion, AreNamed, IsTestCase, Counts, AreMatchedIn, MatchAt, NamesByTargets, NamesByMoves, NamesAtEnd}
+use Rattle.cert_checker.specs.Waiting.{IsWaited}
+use Rattle.cert_checker.specs.Sides.{sure_targets, is_sure, AreTargetSides, AreSettled, IsWaitedBy}
 use Rattle.cert_checker.specs.Working.Matching.{lists, counting, AreCovered, AreSurelyMatched}
-use Rattle.cert_questions.specs.Waiting.{AreTestsSettled}
-use Rattle.cert_questions.specs.Moves.{is_excluded, DoesCount}
+use Rattle.cert_checker.specs.Waiting.{AreTestsSettled}
+use Rattle.cert_checker.specs.Moves.{is_excluded, DoesCount}
 use Rattle.cert_checker.proofs.Halves.{open_front, open_back, extends_front, extends_back}
 use Rattle.cert_checker.proofs.CountedPairs.{counting_has, counting_below, counting_all}
 use Rattle.cert_checker.proofs.Covering.{AreRight}

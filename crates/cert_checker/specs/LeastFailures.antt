@@ -1,7 +1,7 @@
 -- The least failure of a property, among the atoms that extend the decided tests.
 use Rattle.std.specs.Prelude.{◌+◌, ℕ, Bool, false, List, [], ◌∷◌, map, Option, Some, None, unwrap_or}
 use Rattle.kat_model.specs.Steps.{Atom}
-use Rattle.cert_questions.specs.Cases.{Extends}
+use Rattle.cert_checker.specs.Cases.{Extends}
 use Rattle.cert_checker.specs.AtomOrder.{IsLess}
 
 -- the number of open tests

@@ -2,10 +2,11 @@
 ghost use Rattle.std.specs.Prelude.{◌≡◌, ◌+◌, length, IfOk, IfSome, OnOk};
 ghost use Rattle.std.specs.Option.{option_map};
 ghost use Rattle.cert_checker.specs.LeastFailures.{least_of, IsBelow, IsFirstFailure};
-ghost use Rattle.cert_questions.specs.Questions.{IsPosed, MatchAt};
+ghost use Rattle.cert_checker.specs.Questions.{IsPosed, MatchAt};
 
 use crate::matching::{Outcome, outcome_of};
-use cert_questions::{Question, TestCase};
+use crate::question::Question;
+use crate::known::TestCase;
 use kat_model::NoMemory;
 use std::alloc::Global;
 

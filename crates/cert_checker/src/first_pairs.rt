@@ -2,13 +2,16 @@
 ghost use Rattle.std.specs.Prelude.{◌≡◌, ◌↔◌, None, IsTrue, IfOk, length};
 ghost use Rattle.kat_model.specs.Steps.{Atom};
 ghost use Rattle.kat_model.specs.AllowedMoves.{IsAllowedAtom};
-ghost use Rattle.cert_questions.specs.NodeTables.{IsTest, holds_at};
-ghost use Rattle.cert_questions.specs.Passes.{IsPass, PassGrows, IsActionPass};
-ghost use Rattle.cert_questions.specs.Roots.{counted_short};
+ghost use Rattle.cert_checker.specs.NodeTables.{IsTest, holds_at};
+ghost use Rattle.cert_checker.specs.Passes.{IsPass, PassGrows, IsActionPass};
+ghost use Rattle.cert_checker.specs.Roots.{counted_short};
 ghost use Rattle.cert_checker.specs.Answers.{Begins};
 
 use crate::cases::least_failure;
-use cert_questions::{ActionPass, Pass, Question, TestCase, empty_product};
+use crate::question::{ActionPass, Question};
+use crate::pass::Pass;
+use crate::known::TestCase;
+use crate::derivatives::empty_product;
 use kat_model::NoMemory;
 
 // Whether the test is true at each allowed atom, by the pass without an action.

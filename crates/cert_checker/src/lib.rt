@@ -10,14 +10,37 @@
 #![tactic(auto)]
 
 mod answer;
+mod asked;
 mod cases;
 mod checking;
+mod derivatives;
 mod first_pairs;
+mod index;
+mod known;
 mod laws;
 mod matching;
+mod moves;
+mod pass;
 mod places;
+mod question;
+mod range;
+mod relevant;
 mod saturation;
+mod sides;
+mod tables;
+mod waiting;
 
 pub use answer::{Answer, Reason};
 pub use checking::check;
+pub use derivatives::{Targets, empty_product, of_set, steps};
+pub use index::PairIndex;
+pub use known::{TestCase, Truth, test_value};
 pub use laws::{has_one_answer, shown_is_so};
+pub use moves::{MoveStatus, move_status};
+pub use pass::{Pass, PassNumbers};
+pub use question::{ActionPass, Question};
+pub use range::{action_out, test_out};
+pub use relevant::asked_tests;
+pub use sides::{TargetSide, TargetSides, is_sure, side_of};
+pub use tables::Tables;
+pub use waiting::{waiting_guard, waiting_pair};

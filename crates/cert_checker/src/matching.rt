@@ -2,18 +2,19 @@
 ghost use Rattle.std.specs.Prelude.{◌≡◌, ◌↔◌, ◌&&◌, false, None, IsTrue, IfOk};
 ghost use Rattle.std.specs.Option.{option_map_or};
 ghost use Rattle.kat_model.specs.Members.{IsSubset};
-ghost use Rattle.cert_questions.specs.Questions.{IsPosed, IsTestCase, MatchAt};
-ghost use Rattle.cert_questions.specs.Sides.{AreTargetSides, is_sure as is_sure'};
-ghost use Rattle.cert_questions.specs.Moves.{IsMoveStatus};
+ghost use Rattle.cert_checker.specs.Questions.{IsPosed, IsTestCase, MatchAt};
+ghost use Rattle.cert_checker.specs.Sides.{AreTargetSides, is_sure as is_sure'};
+ghost use Rattle.cert_checker.specs.Moves.{IsMoveStatus};
 ghost use Rattle.cert_checker.specs.Working.Outcomes.{IsOutcome};
 ghost use Rattle.cert_checker.specs.Working.Matching.{lists, AreCovered, AreSurelyMatched};
 ghost use Rattle.cert_checker.specs.Working.Rounds.{counting_in, IsIndexed};
 
 use crate::saturation::{Counted, counts, reaches};
-use cert_questions::{
-    MoveStatus, Question, TargetSides, TestCase, Truth, is_sure, move_status, side_of,
-    waiting_guard, waiting_pair,
-};
+use crate::moves::{MoveStatus, move_status};
+use crate::question::Question;
+use crate::sides::{TargetSides, is_sure, side_of};
+use crate::known::{TestCase, Truth};
+use crate::waiting::{waiting_guard, waiting_pair};
 use certificate::Style;
 use kat_model::NoMemory;
 

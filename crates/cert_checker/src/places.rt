@@ -2,13 +2,16 @@
 ghost use Rattle.std.specs.Prelude.{◌≡◌, ◌<◌, ◌+◌, IfOk, OnOk};
 ghost use Rattle.std.specs.Option.{option_map};
 ghost use Rattle.kat_model.specs.Members.{Has};
-ghost use Rattle.cert_questions.specs.Cases.{undecided};
-ghost use Rattle.cert_questions.specs.Passes.{IsPass, PassGrows, IsActionPass};
+ghost use Rattle.cert_checker.specs.Cases.{undecided};
+ghost use Rattle.cert_checker.specs.Passes.{IsPass, PassGrows, IsActionPass};
 ghost use Rattle.cert_checker.specs.LeastFailures.{IsFirstFailure};
 ghost use Rattle.cert_checker.specs.Working.Places.{IsFirstOf, IsLeastOf, PairHolds, place_reason, turn_number};
 
 use crate::cases::least_failure;
-use cert_questions::{ActionPass, Pass, Question, TestCase, of_set};
+use crate::question::{ActionPass, Question};
+use crate::pass::Pass;
+use crate::known::TestCase;
+use crate::derivatives::of_set;
 use certificate::Pair;
 use kat_model::NoMemory;
 

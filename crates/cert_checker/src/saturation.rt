@@ -2,12 +2,14 @@
 //! index lists under reached or wanted terms, and the pairs with an empty set.
 ghost use Rattle.std.specs.Prelude.{◌≡◌, ◌↔◌, ◌⊎◌, ℕ, [], IsTrue, IfOk, OnOk};
 ghost use Rattle.kat_model.specs.Members.{Has, IsSubset};
-ghost use Rattle.cert_questions.specs.Indices.{places_at, places_under};
+ghost use Rattle.cert_checker.specs.Indices.{places_at, places_under};
 ghost use Rattle.cert_checker.specs.Working.Reaching.{AreReached};
 ghost use Rattle.cert_checker.specs.Working.Matching.{does_count};
 ghost use Rattle.cert_checker.specs.Working.Rounds.{AreAdded, IsBrought, GoesOn, AreTendedAt, counting_in, IsIndexed};
 
-use cert_questions::{ActionPass, Question, TestCase, Truth, test_value};
+use crate::question::{ActionPass, Question};
+
+use crate::known::{TestCase, Truth, test_value};
 use certificate::Pair;
 use indexmap::IndexSet;
 use kat_model::NoMemory;

@@ -6,11 +6,11 @@ use Rattle.certificate.specs.declared.nodes.Style.{Style}
 use Rattle.certificate.specs.declared.nodes.Style.TheVariants.{Plain, UpTo, Under}
 use Rattle.term_nodes.specs.NumberSets.{NumberPair}
 use Rattle.certificate.specs.PairParts.{PairParts, only_sets}
-use Rattle.cert_questions.specs.Cases.{known_test}
+use Rattle.cert_checker.specs.Cases.{known_test}
 use Rattle.cert_checker.specs.Working.Reaching.{AreReached, IsReachedByBoth}
-use Rattle.cert_questions.specs.declared.known.Truth.{Truth}
-use Rattle.cert_questions.specs.declared.known.Truth.TheVariants.{Known, Undecided as UndecidedBy}
-use Rattle.cert_questions.specs.declared.sides.TargetSides.{TargetSides}
+use Rattle.cert_checker.specs.declared.known.Truth.{Truth}
+use Rattle.cert_checker.specs.declared.known.Truth.TheVariants.{Known, Undecided as UndecidedBy}
+use Rattle.cert_checker.specs.declared.sides.TargetSides.{TargetSides}
 
 -- whether a value is known to be true, or may be
 abbrev pub may_be : Bool → Truth → Bool

@@ -1,7 +1,7 @@
 -- What is known of a question in a case.
 use Rattle.std.specs.Prelude.{Bool, List, Option}
 use Rattle.kat_model.specs.Steps.{Atom}
-use Rattle.cert_questions.specs.Cases.{Extends, IsOpen}
+use Rattle.cert_checker.specs.Cases.{Extends, IsOpen}
 use Rattle.cert_checker.specs.declared.matching.Outcome.{Outcome}
 use Rattle.cert_checker.specs.declared.matching.Outcome.TheVariants.{Holds, Fails, Undecided}
 use Rattle.cert_checker.specs.LeastFailures.{HoldsThroughout}

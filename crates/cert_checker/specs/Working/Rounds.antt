@@ -3,9 +3,9 @@ use Rattle.std.specs.Prelude.{◌≡◌, ◌⊎◌, ℕ, Bool, true, List, slice
 use Rattle.kat_model.specs.Members.{Has, IsSubset}
 use Rattle.term_nodes.specs.NumberSets.{NumberPair}
 use Rattle.certificate.specs.PairParts.{PairParts}
-use Rattle.cert_questions.specs.declared.known.Truth.{Truth}
+use Rattle.cert_checker.specs.declared.known.Truth.{Truth}
 use Rattle.cert_checker.specs.declared.saturation.Counted.{Counted}
-use Rattle.cert_questions.specs.Indices.{AreIndexed}
+use Rattle.cert_checker.specs.Indices.{AreIndexed}
 use Rattle.cert_checker.specs.Working.Matching.{does_count, counting}
 use Rattle.cert_checker.specs.Working.Reaching.{HoldsAll, IsClosed}
 

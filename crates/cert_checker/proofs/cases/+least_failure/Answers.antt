@@ -2,9 +2,9 @@ use Rattle.std.proofs.Common.{◌≡◌, ◌<◌, ℕ, Bool, true, false, length
 use Rattle.std.specs.Option.{option_map, option_or}
 use Rattle.std.proofs.lemmas.List.{length-set, set-set}
 use Rattle.std.proofs.lemmas.Option.{slice_get_within}
-use Rattle.cert_questions.specs.Cases.{IsOpen}
+use Rattle.cert_checker.specs.Cases.{IsOpen}
 use Rattle.cert_checker.specs.LeastFailures.{IsBelow, IsFirstFailure, open_count, least_of}
-use Rattle.cert_questions.specs.Questions.{MatchAt}
+use Rattle.cert_checker.specs.Questions.{MatchAt}
 use Rattle.cert_checker.specs.Working.Outcomes.{IsOutcome}
 use Rattle.cert_checker.proofs.LeastFailures.{Below, at_most, at_most_not_less, above_less, extends_length, least_extends, all_fail, none_below, decided_fewer, restored, second_half, searched, waits_open, or_bound, or_long, failure_long}
 use Rattle.cert_checker.proofs.cases.+least_failure.Goals as goal

@@ -3,7 +3,7 @@ use Rattle.kat_model.specs.Members.{Has}
 use Rattle.term_nodes.specs.declared.TestNode.TheVariants.{Prim}
 use Rattle.term_nodes.specs.declared.TermNode.TheVariants.{Act}
 use Rattle.certificate.specs.declared.nodes.Style.TheVariants.{Under}
-use Rattle.cert_questions.specs.Ranges.{IsFirstOut}
+use Rattle.cert_checker.specs.Ranges.{IsFirstOut}
 use Rattle.cert_checker.specs.Working.Relevant.{HasFewerHyps}
 use Rattle.cert_checker.proofs.FirstReasons.{first_term}
 use Rattle.cert_checker.proofs.FewerHyps.{accepted_by_fewer}

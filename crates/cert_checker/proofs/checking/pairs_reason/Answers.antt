@@ -7,7 +7,7 @@ use Rattle.term_nodes.specs.declared.TermNode.TheVariants.{Act}
 use Rattle.certificate.specs.Certs.{CertParts}
 use Rattle.certificate.specs.Accepted.{IsAccepted}
 use Rattle.cert_checker.specs.Answers.{FailsFirstBy}
-use Rattle.cert_questions.specs.Indices.{AreIndexed}
+use Rattle.cert_checker.specs.Indices.{AreIndexed}
 use Rattle.cert_checker.proofs.checking.pairs_reason.Goals as goal
 
 pub of-requires-2-clause-index : goal.of-requires-2-clause-index

@@ -3,10 +3,10 @@ use Rattle.std.specs.Option.{option_map, MatchOption}
 use Rattle.std.proofs.lemmas.Bool.{true≢false}
 use Rattle.certificate.specs.Accepted.{IsAccepted}
 use Rattle.cert_checker.specs.Answers.{FailsFirstBy}
-use Rattle.cert_questions.specs.Passes.{PassParts}
+use Rattle.cert_checker.specs.Passes.{PassParts}
 use Rattle.cert_checker.specs.Working.Places.{IsFirstOf, place_reason}
 use Rattle.cert_checker.proofs.FirstReasons.{first_pair, pairs_told}
-use Rattle.cert_questions.proofs.Passes.{pass_kept}
+use Rattle.cert_checker.proofs.Passes.{pass_kept}
 use Rattle.cert_checker.proofs.checking.pass_reason.Goals as goal
 
 pub first_place-requires : goal.first_place-requires

@@ -3,9 +3,9 @@ use Rattle.std.specs.Option.{option_copied}
 use Rattle.std.proofs.lemmas.Bool.{true≢false}
 use Rattle.std.proofs.lemmas.Result.{IfOk-weaker}
 use Rattle.certificate.specs.PairParts.{PairParts}
-use Rattle.cert_questions.specs.Passes.{PassParts}
+use Rattle.cert_checker.specs.Passes.{PassParts}
 use Rattle.cert_checker.proofs.FirstPairs.{sets_differ, other_left, other_right, begins_untested, begins_tested}
-use Rattle.cert_questions.proofs.CertPairs.{test_in_tables}
+use Rattle.cert_checker.proofs.CertPairs.{test_in_tables}
 use Rattle.kat_model.proofs.Places.{has_at}
 use Rattle.cert_checker.proofs.first_pairs.begins.Goals as goal
 use Rattle.cert_checker.proofs.first_pairs.begins.Goals.{then-ne-via-then-ne, then-ne-via-else-ne+then-ne-2}

@@ -1,17 +1,17 @@
 use Rattle.std.proofs.Common.{◌≡◌, ◌+◌, length, None, sym, ap, ◌∙◌, subst, arith}
 use Rattle.std.specs.Option.{option_map}
 use Rattle.std.proofs.lemmas.List.{length-replicate}
-use Rattle.cert_questions.specs.NodeTables.{TablesGrow, IsTest}
-use Rattle.cert_questions.proofs.GrowingTables.{grows_trans}
-use Rattle.cert_questions.proofs.TargetSets.{test_within}
+use Rattle.cert_checker.specs.NodeTables.{TablesGrow, IsTest}
+use Rattle.cert_checker.proofs.GrowingTables.{grows_trans}
+use Rattle.cert_checker.proofs.TargetSets.{test_within}
 use Rattle.cert_checker.specs.LeastFailures.{IsFirstFailure}
-use Rattle.cert_questions.specs.Cases.{undecided}
-use Rattle.cert_questions.specs.Questions.{QuestionParts, MatchAt}
-use Rattle.cert_questions.specs.Passes.{PassParts}
+use Rattle.cert_checker.specs.Cases.{undecided}
+use Rattle.cert_checker.specs.Questions.{QuestionParts, MatchAt}
+use Rattle.cert_checker.specs.Passes.{PassParts}
 use Rattle.cert_checker.proofs.FirstPairs.{throughout_entries, throughout_posed, throughout_told}
 use Rattle.cert_checker.proofs.LeastFailures.{Below, unbounded}
-use Rattle.cert_questions.proofs.PosedQuestions.{narrow}
-use Rattle.cert_questions.proofs.Passes.{passes_itself, grown}
+use Rattle.cert_checker.proofs.PosedQuestions.{narrow}
+use Rattle.cert_checker.proofs.Passes.{passes_itself, grown}
 use Rattle.cert_checker.proofs.first_pairs.holds_in.Goals as goal
 
 pub empty_product-requires : goal.empty_product-requires

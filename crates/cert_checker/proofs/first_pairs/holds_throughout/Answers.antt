@@ -3,11 +3,11 @@ use Rattle.std.specs.Bool.{IsTrue}
 use Rattle.std.proofs.lemmas.Result.{IfOk-weaker}
 use Rattle.kat_model.specs.Steps.{Atom}
 use Rattle.kat_model.specs.AllowedMoves.{IsAllowedAtom}
-use Rattle.cert_questions.specs.NodeTables.{holds_at}
-use Rattle.cert_questions.proofs.TargetSets.{test_within, holds_kept}
-use Rattle.cert_questions.specs.Roots.{counted_short}
-use Rattle.cert_questions.specs.Passes.{PassParts}
-use Rattle.cert_questions.proofs.Passes.{pass_kept, passes_trans}
+use Rattle.cert_checker.specs.NodeTables.{holds_at}
+use Rattle.cert_checker.proofs.TargetSets.{test_within, holds_kept}
+use Rattle.cert_checker.specs.Roots.{counted_short}
+use Rattle.cert_checker.specs.Passes.{PassParts}
+use Rattle.cert_checker.proofs.Passes.{pass_kept, passes_trans}
 use Rattle.cert_checker.proofs.first_pairs.holds_throughout.Goals as goal
 
 pub holds_in-requires : goal.holds_in-requires

@@ -1,6 +1,6 @@
 use Rattle.std.proofs.Common.{◌≡◌, [], ◌∷◌, Some, refl, sym, ap, ◌∙◌}
 use Rattle.std.proofs.lemmas.Bool.{false≢true}
-use Rattle.cert_questions.specs.Questions.{ActionPassParts}
+use Rattle.cert_checker.specs.Questions.{ActionPassParts}
 use Rattle.cert_checker.specs.Working.Reaching.{AreReached}
 use Rattle.cert_checker.specs.Working.Rounds.{counting_in}
 use Rattle.cert_checker.proofs.Coverage.{reached_as, covered_listed, covered_brought, covered_none, covered_first, covered_second}

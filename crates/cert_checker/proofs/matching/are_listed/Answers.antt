@@ -4,9 +4,9 @@ use Rattle.std.proofs.lemmas.Bool.{and_right}
 use Rattle.std.proofs.lemmas.List.{take_all}
 use Rattle.kat_model.specs.Members.{Has}
 use Rattle.certificate.specs.PairParts.{PairParts}
-use Rattle.cert_questions.specs.Indices.{places_at, places_by}
+use Rattle.cert_checker.specs.Indices.{places_at, places_by}
 use Rattle.cert_checker.specs.Working.Matching.{does_count}
-use Rattle.cert_questions.specs.Questions.{ActionPassParts}
+use Rattle.cert_checker.specs.Questions.{ActionPassParts}
 use Rattle.cert_checker.proofs.FoundPairs.{item_read, compared_as, other_more, other_absent, other_pair, one_listed, none_listed}
 use Rattle.cert_checker.proofs.matching.are_listed.Goals as goal
 use Rattle.cert_checker.proofs.matching.are_listed.Goals.{then-rights-lefts, else-rights-lefts, in-Some+else-counts, else-counts-via-then-counts+then-eq+else-eq-2, else-counts-via-then-counts+else-eq, else-counts-via-else-counts, in_default}

@@ -2,15 +2,15 @@ use Rattle.std.proofs.Common.{◌≡◌, ◌⊎◌, ℕ, ◌&&◌, List, Bool, t
 use Rattle.std.specs.Option.{option_map_or}
 use Rattle.std.proofs.lemmas.Bool.{iff_false}
 use Rattle.term_nodes.specs.NumberSets.{NumberPair}
-use Rattle.cert_questions.specs.declared.known.Truth.{Truth}
-use Rattle.cert_questions.specs.declared.sides.TargetSide.{TargetSide}
-use Rattle.cert_questions.specs.declared.sides.TargetSides.{TargetSides}
-use Rattle.cert_questions.specs.Indices.{AreIndexed}
-use Rattle.cert_questions.specs.Questions.{ActionPassParts, QuestionParts}
-use Rattle.cert_questions.specs.Sides.{is_sure, AreTargetSides, IsWaitedByOne}
+use Rattle.cert_checker.specs.declared.known.Truth.{Truth}
+use Rattle.cert_checker.specs.declared.sides.TargetSide.{TargetSide}
+use Rattle.cert_checker.specs.declared.sides.TargetSides.{TargetSides}
+use Rattle.cert_checker.specs.Indices.{AreIndexed}
+use Rattle.cert_checker.specs.Questions.{ActionPassParts, QuestionParts}
+use Rattle.cert_checker.specs.Sides.{is_sure, AreTargetSides, IsWaitedByOne}
 use Rattle.cert_checker.specs.Working.Matching.{counting, AreCovered, AreSurelyMatched}
-use Rattle.cert_questions.specs.Waiting.{AreTestsSettled}
-use Rattle.cert_questions.specs.Moves.{IsMoveStatus}
+use Rattle.cert_checker.specs.Waiting.{AreTestsSettled}
+use Rattle.cert_checker.specs.Moves.{IsMoveStatus}
 use Rattle.cert_checker.proofs.CountedPairs.{counted_as}
 use Rattle.cert_checker.proofs.StepAnswers.{side_sure, none_alone}
 use Rattle.cert_checker.proofs.StepStates.{waits_open, guard_open, universal_match, matched_holds, unmatched_fails}

@@ -1,8 +1,8 @@
 use Rattle.std.proofs.Common.{◌≡◌, List, subst}
-use Rattle.cert_questions.specs.declared.known.Truth.{Truth}
-use Rattle.cert_questions.specs.declared.sides.TargetSide.{TargetSide}
-use Rattle.cert_questions.specs.Questions.{QuestionParts}
-use Rattle.cert_questions.specs.Sides.{IsTargetSide, AreTargetSides}
+use Rattle.cert_checker.specs.declared.known.Truth.{Truth}
+use Rattle.cert_checker.specs.declared.sides.TargetSide.{TargetSide}
+use Rattle.cert_checker.specs.Questions.{QuestionParts}
+use Rattle.cert_checker.specs.Sides.{IsTargetSide, AreTargetSides}
 use Rattle.cert_checker.proofs.StepStates.{excluded_holds}
 use Rattle.cert_checker.proofs.matching.outcome_of.Goals as goal
 

@@ -5,13 +5,13 @@ use Rattle.kat_model.proofs.Places.{has_at}
 use Rattle.certificate.specs.Certs.{nodes_of}
 use Rattle.certificate.specs.Accepted.{tested_pair_of}
 use Rattle.cert_checker.specs.LeastFailures.{IsFirstFailure}
-use Rattle.cert_questions.specs.Cases.{undecided}
-use Rattle.cert_questions.specs.Passes.{PassParts}
+use Rattle.cert_checker.specs.Cases.{undecided}
+use Rattle.cert_checker.specs.Passes.{PassParts}
 use Rattle.cert_checker.specs.Working.Places.{IsFirstOf, PairHolds, reason_at, turn_number}
 use Rattle.cert_checker.proofs.PairPlaces.{none_fails, first_fails, pair_holds, undecided_length, tested_at}
-use Rattle.cert_questions.proofs.CertPairs.{pair_at}
-use Rattle.cert_questions.proofs.PosedQuestions.{narrow}
-use Rattle.cert_questions.proofs.Passes.{pass_kept, turn_kept, passes_trans, passes_itself}
+use Rattle.cert_checker.proofs.CertPairs.{pair_at}
+use Rattle.cert_checker.proofs.PosedQuestions.{narrow}
+use Rattle.cert_checker.proofs.Passes.{pass_kept, turn_kept, passes_trans, passes_itself}
 use Rattle.cert_checker.proofs.places.first_failure.Goals as goal
 
 pub new-requires : goal.new-requires

@@ -1,6 +1,6 @@
 use Rattle.std.proofs.Common.{◌≡◌, ◌+◌, ℕ, ◌<◌}
-use Rattle.cert_questions.specs.Cases.{undecided}
-use Rattle.cert_questions.specs.Passes.{IsPass, PassGrows}
+use Rattle.cert_checker.specs.Cases.{undecided}
+use Rattle.cert_checker.specs.Passes.{IsPass, PassGrows}
 use Rattle.cert_checker.proofs.PairPlaces.{HoldsAtEach}
 use Rattle.cert_checker.proofs.places.first_failure.Given as goal
 

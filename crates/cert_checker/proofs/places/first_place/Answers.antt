@@ -1,10 +1,10 @@
 use Rattle.std.proofs.Common.{◌≡◌, ◌<◌, ◌+◌, suc, subst, arith}
 use Rattle.std.specs.Option.{option_map}
-use Rattle.cert_questions.specs.Passes.{PassParts}
+use Rattle.cert_checker.specs.Passes.{PassParts}
 use Rattle.cert_checker.specs.Working.Places.{IsFirstOf, place_reason}
 use Rattle.cert_checker.proofs.EarlierPlaces.{least_first}
 use Rattle.cert_checker.proofs.PairPlaces.{first_of_same}
-use Rattle.cert_questions.proofs.Passes.{pass_kept, passes_trans}
+use Rattle.cert_checker.proofs.Passes.{pass_kept, passes_trans}
 use Rattle.cert_checker.proofs.places.first_place.Goals as goal
 
 pub loop-action-init : goal.loop-action-init

@@ -1,7 +1,7 @@
 use Rattle.std.proofs.Common.{◌<◌, ◌+◌}
 use Rattle.std.specs.Option.{option_map}
 use Rattle.cert_checker.specs.Working.Places.{IsFirstOf, place_reason}
-use Rattle.cert_questions.specs.Passes.{IsPass, PassGrows}
+use Rattle.cert_checker.specs.Passes.{IsPass, PassGrows}
 use Rattle.cert_checker.proofs.places.first_place.Given as goal
 
 abbrev pub invariant-loop-action : goal.invariant-loop-action

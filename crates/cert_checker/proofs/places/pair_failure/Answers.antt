@@ -6,18 +6,18 @@ use Rattle.std.proofs.lemmas.Result.{IfOk-weaker}
 use Rattle.kat_model.specs.Members.{Has}
 use Rattle.term_nodes.specs.NumberSets.{are_below, terms_of}
 use Rattle.certificate.specs.PairParts.{PairParts}
-use Rattle.cert_questions.specs.NodeTables.{TablesGrow, nodes_in}
-use Rattle.cert_questions.specs.Targets.{AreSteps, StandFor, set_leads_to}
-use Rattle.cert_questions.proofs.GrowingTables.{grows_trans}
-use Rattle.cert_questions.proofs.TargetSets.{entries_kept}
+use Rattle.cert_checker.specs.NodeTables.{TablesGrow, nodes_in}
+use Rattle.cert_checker.specs.Targets.{AreSteps, StandFor, set_leads_to}
+use Rattle.cert_checker.proofs.GrowingTables.{grows_trans}
+use Rattle.cert_checker.proofs.TargetSets.{entries_kept}
 use Rattle.cert_checker.specs.LeastFailures.{IsFirstFailure}
-use Rattle.cert_questions.specs.Cases.{undecided}
-use Rattle.cert_questions.specs.Questions.{ActionPassParts, QuestionParts, IsAskedOf, MatchAt}
-use Rattle.cert_questions.specs.Passes.{PassParts}
+use Rattle.cert_checker.specs.Cases.{undecided}
+use Rattle.cert_checker.specs.Questions.{ActionPassParts, QuestionParts, IsAskedOf, MatchAt}
+use Rattle.cert_checker.specs.Passes.{PassParts}
 use Rattle.cert_checker.proofs.LeastFailures.{Below, unbounded}
-use Rattle.cert_questions.proofs.Passes.{grown}
+use Rattle.cert_checker.proofs.Passes.{grown}
 use Rattle.cert_checker.proofs.PairTurns.{by_path, pair_posed, pair_told}
-use Rattle.cert_questions.proofs.PosedQuestions.{question_of, left_steps, right_steps, left_numbers, right_numbers, own_test}
+use Rattle.cert_checker.proofs.PosedQuestions.{question_of, left_steps, right_steps, left_numbers, right_numbers, own_test}
 use Rattle.cert_checker.proofs.places.pair_failure.Goals as goal
 
 pub of_set-requires-clause-steps : goal.of_set-requires-clause-steps

@@ -2,9 +2,9 @@ use Rattle.std.proofs.Common.{◌≡◌, ℕ, List, Some, None, true, slice_get,
 use Rattle.std.proofs.lemmas.List.{take_all}
 use Rattle.kat_model.proofs.Places.{has_at}
 use Rattle.certificate.specs.PairParts.{PairParts}
-use Rattle.cert_questions.specs.Indices.{places_at}
+use Rattle.cert_checker.specs.Indices.{places_at}
 use Rattle.cert_checker.specs.Working.Matching.{does_count}
-use Rattle.cert_questions.specs.Questions.{ActionPassParts}
+use Rattle.cert_checker.specs.Questions.{ActionPassParts}
 use Rattle.cert_checker.specs.Working.Rounds.{IsBrought, AreTendedAt, counting_in}
 use Rattle.cert_checker.proofs.FoundPairs.{item_read}
 use Rattle.cert_checker.proofs.Saturating.{brought_as, goes_then, pair_goes, pair_tended, tended_more, tended_absent, tended_uncounted, tended_pair}

@@ -1,0 +1,90 @@
+//! The tests that the answer to a question depends on. No other tests are evaluated.
+ghost use Rattle.std.specs.Prelude.{◌≡◌, ◌↔◌, ◌⊎◌, IfOk, OnOk, Some, ℕ};
+ghost use Rattle.std.specs.BTreeSet.{InsertsAll};
+ghost use Rattle.std.specs.List.{filter_map};
+ghost use Rattle.std.specs.Ordering.{nat_cmp};
+ghost use Rattle.kat_model.specs.Members.{Has, IsSubset};
+ghost use Rattle.term_nodes.specs.Nodes.{test_parts};
+ghost use Rattle.certificate.specs.PairParts.{PairParts};
+ghost use Rattle.cert_checker.specs.NodeTables.{IsTest};
+ghost use Rattle.cert_checker.specs.Cases.{AreAsked};
+
+use crate::tables::Tables;
+use certificate::{Pair, TestNode};
+use kat_model::NoMemory;
+use std::collections::BTreeSet;
+
+// Adds the tests that the node names.
+fn add_parts(tests: &mut BTreeSet<usize>, node: TestNode) -> Result<(), NoMemory>
+    ensures { OnOk result ((k : ℕ) → Has tests.new.keys k ↔ (Has tests.old.keys k ⊎ Has (test_parts node) k)) }
+{
+    match node {
+        TestNode::False | TestNode::True | TestNode::Prim(_) => {}
+        TestNode::Not(x) => {
+            tests.insert(x)?;
+        }
+        TestNode::And(x, y) | TestNode::Or(x, y) => {
+            tests.insert(x)?;
+            tests.insert(y)?;
+        }
+    }
+    Ok(())
+}
+
+/// Returns the given tests and, before each, the tests that are its parts.
+pub(crate) fn with_parts(
+    tables: &Tables,
+    mut tests: BTreeSet<usize>,
+) -> Result<Vec<usize>, NoMemory>
+    requires { (k : ℕ) → Has tests.keys k → IsTest tables.now k }
+    ensures asked { IfOk result (λ v. AreAsked tables.now v.items) }
+    ensures kept { IfOk result (λ v. IsSubset tests.keys v.items) }
+{
+    let mut asked = Vec::new(tables.alloc());
+    while let Some(test) = tests.pop_last() {
+        asked.push(test)?;
+        add_parts(&mut tests, tables.test_node(test))?;
+    }
+    asked.reverse();
+    Ok(asked)
+}
+
+/// Adds the tests of the pairs.
+pub(crate) fn add_pair_tests(tests: &mut BTreeSet<usize>, pairs: &[Pair]) -> Result<(), NoMemory>
+    ensures { OnOk result (InsertsAll nat_cmp tests.old (filter_map (λ (r : PairParts). r.test) pairs.now) tests.new) }
+{
+    tests.extend(pairs.iter().filter_map(|pair| pair.test))?;
+    Ok(())
+}
+
+/// Returns the tests that forbidden pairs name at the beginning of a move, with their parts.
+pub(crate) fn begin_tests(
+    tables: &Tables,
+    forbidden: &[(usize, usize)],
+) -> Result<Vec<usize>, NoMemory>
+    requires { (f : ℕ × ℕ) → Has forbidden.now f → IsTest tables.now f.0 }
+    ensures asked { IfOk result (λ v. AreAsked tables.now v.items) }
+    ensures named { IfOk result (λ v. (f : ℕ × ℕ) → Has forbidden.now f → Has v.items f.0) }
+{
+    let mut tests = BTreeSet::new(tables.alloc());
+    tests.extend(forbidden.iter().map(|tests| tests.0))?;
+    with_parts(tables, tests)
+}
+
+/// Returns the tests that forbidden pairs and listed pairs name at the end of a move, with their parts.
+pub(crate) fn end_tests(
+    tables: &Tables,
+    forbidden: &[(usize, usize)],
+    pairs: &[Pair],
+) -> Result<Vec<usize>, NoMemory>
+    requires moves { (f : ℕ × ℕ) → Has forbidden.now f → IsTest tables.now f.1 }
+    requires pairs { (r : PairParts) (k : ℕ) → Has pairs.now r → r.test ≡ Some k → IsTest tables.now k }
+    ensures asked { IfOk result (λ v. AreAsked tables.now v.items) }
+    ensures by_moves { IfOk result (λ v. (f : ℕ × ℕ) → Has forbidden.now f → Has v.items f.1) }
+    ensures by_pairs { IfOk result (λ v. (r : PairParts) (k : ℕ) → Has pairs.now r → r.test ≡ Some k → Has v.items k) }
+{
+    let mut tests = BTreeSet::new(tables.alloc());
+    tests.extend(forbidden.iter().map(|tests| tests.1))?;
+    add_pair_tests(&mut tests, pairs)?;
+    with_parts(tables, tests)
+}

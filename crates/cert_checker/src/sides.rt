@@ -1,0 +1,98 @@
+//! What is known of the targets of both sides of a question, as far as the decided tests determine it.
+ghost use Rattle.std.specs.Prelude.{◌≡◌, IfOk};
+ghost use Rattle.cert_checker.specs.Sides.{has_too as has_too', is_sure as is_sure', IsTargetSide};
+
+use crate::derivatives::Targets;
+use crate::known::{Truth, is_true, value_of};
+use kat_model::NoMemory;
+use std::alloc::Global;
+
+/// What is known of the targets of one side of a question: the terms that are surely in its set, in ascending order;
+/// the open terms, which may be in it at an atom at which they are not in the other set; a test that the guard of an
+/// open term depends on; and a test that the guard of some target depends on.
+pub struct TargetSide {
+    pub sure: Vec<usize>,
+    pub alone: Vec<usize>,
+    pub alone_waits: Option<usize>,
+    pub waits: Option<usize>,
+}
+
+// Explicit, so that it is proved once and not at each end of each function that owns one.
+impl Drop for TargetSide {
+    fn drop(self) {
+        let TargetSide {
+            sure: _sure,
+            alone: _alone,
+            alone_waits: _,
+            waits: _,
+        } = self;
+    }
+}
+
+/// Both sides of a question.
+pub struct TargetSides {
+    pub left: TargetSide,
+    pub right: TargetSide,
+}
+
+// Explicit, so that it is proved once and not at each end of each function that owns one.
+impl Drop for TargetSides {
+    fn drop(self) {
+        let TargetSides {
+            left: _left,
+            right: _right,
+        } = self;
+    }
+}
+
+// Whether `term` is surely among the targets wherever `guard` is true.
+fn has_too(targets: &Targets, term: usize, guard: usize, known: &[Truth]) -> bool
+    ensures { result ≡ has_too' known.now targets.now.entries term guard }
+{
+    match targets.get(&term) {
+        Some(other) => *other == guard || is_true(value_of(known, *other)),
+        None => false,
+    }
+}
+
+/// Returns what is known of the targets of one side, given those of the other.
+pub fn side_of(
+    alloc: Global,
+    targets: &Targets,
+    others: &Targets,
+    known: &[Truth],
+) -> Result<TargetSide, NoMemory>
+    ensures { IfOk result (IsTargetSide known.now others.now.entries targets.now.entries) }
+{
+    let mut side = TargetSide {
+        sure: Vec::new(alloc),
+        alone: Vec::new(alloc),
+        alone_waits: None,
+        waits: None,
+    };
+    for (term, guard) in targets.iter() {
+        let waits = match value_of(known, *guard) {
+            Truth::Known(false) => continue,
+            Truth::Known(true) => {
+                side.sure.push(*term)?;
+                None
+            }
+            Truth::Undecided(test) => Some(test),
+        };
+        side.waits = side.waits.or(waits);
+        if !has_too(others, *term, *guard, known) {
+            side.alone.push(*term)?;
+            side.alone_waits = side.alone_waits.or(waits);
+        }
+    }
+    Ok(side)
+}
+
+/// Whether the term is surely among the targets.
+pub fn is_sure(targets: &Targets, term: usize, known: &[Truth]) -> bool
+    ensures { result ≡ is_sure' known.now targets.now.entries term }
+{
+    targets
+        .get(&term)
+        .is_some_and(|guard| is_true(value_of(known, *guard)))
+}

@@ -1,5 +1,0 @@
-use Rattle.cert_questions.proofs.AddingTargets.{IsFollowing}
-use Rattle.cert_questions.proofs.derivatives.continued.Given as goal
-
-abbrev pub invariant-loop-term : goal.invariant-loop-term
-invariant-loop-term l = IsFollowing l.initial.tables l.tables l.after l.targets.entries l.term-iterator l.first.entries

@@ -1,5 +1,0 @@
-use Rattle.cert_questions.proofs.KnownTruths.{IsEvaluating}
-use Rattle.cert_questions.proofs.known.evaluate.Given as goal
-
-abbrev pub invariant-loop-test : goal.invariant-loop-test
-invariant-loop-test l = IsEvaluating l.first l.tables l.decided l.asked l.test-index l.initial.known l.known
