@@ -10,7 +10,7 @@ use Rattle.kat_model.specs.Degrees.{is_short}
 use Rattle.certificate.specs.Certs.{CertParts}
 use Rattle.certificate.specs.Accepted.{set_pairs, IsAccepted}
 use Rattle.certificate.specs.Decisions.{has_short, IsUntestedAnswer, IsTestedAnswer, IsAnswerCert}
-use Rattle.walk_congruence.proofs.Concise.{concise_few}
+use Rattle.walk_up_to.proofs.Concise.{concise_few}
 
 module _ (q : ProblemParts) (c : CertParts) where
   pub answer_accepted : IsAnswerCert q c → IsAccepted q c

@@ -9,19 +9,19 @@ use Rattle.kat_model.specs.Problems.{ProblemParts}
 use Rattle.kat_model.specs.Closed.{closed}
 use Rattle.term_nodes.specs.NodeLists.{NodeParts, IsTerm}
 use Rattle.term_nodes.specs.NodeTrees.{tree_at}
-use Rattle.walk_congruence.specs.Walks.{pairs_of}
+use Rattle.walk_up_to.specs.Walks.{pairs_of}
 use Rattle.walk_pairs.specs.Covered.{HasUniversal, IsReached, IsCovered}
 use Rattle.term_nodes.specs.NumberSets.{terms_of}
-use Rattle.walk_congruence.specs.Listings.{entries_of}
-use Rattle.walk_congruence.specs.Marks.{ListedPairsParts, are_marked, saturated_marks, reaches_targets}
+use Rattle.walk_up_to.specs.Listings.{entries_of}
+use Rattle.walk_up_to.specs.Marks.{ListedPairsParts, are_marked, saturated_marks, reaches_targets}
 use Rattle.walk_pairs.specs.Items.{targets_under, open_targets, is_open, guard_of}
-use Rattle.walk_congruence.specs.Covers.{covers_on, covers}
+use Rattle.walk_up_to.specs.Covers.{covers_on, covers}
 use Rattle.walk_up_to.specs.Working.IdWalks.{AreListedOf}
 use Rattle.walk_pairs.specs.declared.items.Item.{Item}
 use Rattle.walk_pairs.specs.declared.items.Ends.{Ends}
 use Rattle.walk_pairs.specs.declared.items.Side.{Side}
 use Rattle.walk_pairs.specs.declared.items.Side.TheVariants.{Left, Right}
-use Rattle.walk_congruence.proofs.MarkedTerms.{AreIds, ArePairIds, MarksAre, marked_id, all_marked, saturated_set, saturated_length}
+use Rattle.walk_up_to.proofs.MarkedTerms.{AreIds, ArePairIds, MarksAre, marked_id, all_marked, saturated_set, saturated_length}
 use Rattle.walk_pairs.proofs.ItemTargets.{targets_where, under_where, open_where, has_where}
 
 -- the targets of all items are ids, and so are those of some of the items

@@ -23,19 +23,19 @@ use Rattle.certificate.specs.Accepted.{set_pairs, tested_pair_of}
 use Rattle.certificate.specs.declared.nodes.Style.TheVariants.{UpTo}
 use Rattle.walk_up_to.specs.Decisions.{IsWithinLimit, IsDecisionUpTo}
 use Rattle.walk_up_to.specs.StoredSides.{HasSides}
-use Rattle.walk_congruence.specs.Walks.{StepOrigin, Entry, pairs_of, IsWalk, IsTrail, after_trail}
-use Rattle.walk_congruence.specs.Listings.{IdEntry, entry_of, entries_of, ComesEarlier, AreTraced, origin_in, LeadsBack, untested_of}
+use Rattle.walk_up_to.specs.Walks.{StepOrigin, Entry, pairs_of, IsWalk, IsTrail, after_trail}
+use Rattle.walk_up_to.specs.Listings.{IdEntry, entry_of, entries_of, ComesEarlier, AreTraced, origin_in, LeadsBack, untested_of}
 use Rattle.walk_pairs.specs.StoredPairs.{IsStoredPair, AreStoredPairs}
 use Rattle.walk_pairs.specs.Numbering.{ArePairsWithin, IsCertOf}
 use Rattle.walk_pairs.proofs.CertSets.{set_pairs_are}
 use Rattle.walk_up_to.specs.Working.Walking.{IsUnderWay, IsDifference}
 use Rattle.walk_up_to.specs.declared.worklist.Worklist.{Worklist}
-use Rattle.walk_congruence.proofs.WalkSteps.{first_entry}
-use Rattle.walk_congruence.proofs.ReachedRanges.{left_in_range, right_in_range}
-use Rattle.walk_congruence.proofs.Endings.{walk_same}
-use Rattle.walk_congruence.proofs.Concise.{walk_concise}
-use Rattle.walk_congruence.proofs.Shortest.{found_shortest}
-use Rattle.walk_congruence.proofs.Trails.{trail_of}
+use Rattle.walk_up_to.proofs.WalkSteps.{first_entry}
+use Rattle.walk_up_to.proofs.ReachedRanges.{left_in_range, right_in_range}
+use Rattle.walk_up_to.proofs.Endings.{walk_same}
+use Rattle.walk_up_to.proofs.Concise.{walk_concise}
+use Rattle.walk_up_to.proofs.Shortest.{found_shortest}
+use Rattle.walk_up_to.proofs.Trails.{trail_of}
 
 -- the entry of a listed pair
 entry_at : (store : NodeParts) (es : List IdEntry) (k : ℕ) (e : IdEntry) → slice_get es k ≡ Some e → slice_get (entries_of store es) k ≡ Some (entry_of store e)

@@ -16,14 +16,14 @@ use Rattle.partial_derivs.specs.Moves.{IsTermOf, IsStepsOf}
 use Rattle.partial_derivs.specs.Tables.{AreRight}
 use Rattle.partial_derivs.proofs.Kept.{Keeps-functions, IsStepsBy-kept}
 use Rattle.partial_derivs.proofs.Tables.{AreRight-kept}
-use Rattle.walk_congruence.specs.Walks.{Entry, pairs_of, AreCongruentAfter}
+use Rattle.walk_up_to.specs.Walks.{Entry, pairs_of, AreCongruentAfter}
 use Rattle.walk_up_to.specs.Working.Visits.{AddsEntries}
 use Rattle.term_nodes.specs.NumberSets.{terms_of}
-use Rattle.walk_congruence.specs.Listings.{IdEntry, pair_of, entry_of, entries_of}
+use Rattle.walk_up_to.specs.Listings.{IdEntry, pair_of, entry_of, entries_of}
 use Rattle.walk_pairs.specs.IdSets.{IsIdSet}
-use Rattle.walk_congruence.specs.Marks.{ListedPairsParts}
+use Rattle.walk_up_to.specs.Marks.{ListedPairsParts}
 use Rattle.walk_pairs.specs.Items.{AreItemsOf, AreLedTo}
-use Rattle.walk_congruence.specs.Cases.{Extends}
+use Rattle.walk_up_to.specs.Cases.{Extends}
 use Rattle.walk_up_to.specs.Working.IdWalks.{AreListedOf, StandFor, AreVisited, Visits, IsPastLimit, PassesLimit}
 use Rattle.walk_up_to.specs.Working.Walking.{IsUnderWay, AreStepsAt, IsExpanded}
 use Rattle.walk_pairs.specs.declared.items.Item.{Item}

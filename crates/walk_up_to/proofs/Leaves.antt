@@ -13,16 +13,16 @@ use Rattle.term_nodes.specs.NodeLists.{NodeParts}
 use Rattle.test_diagrams.specs.Functions.{DiagramsParts, IsDiagramId, IsConstant}
 use Rattle.test_diagrams.specs.Reduced.{IsReduced}
 use Rattle.partial_derivs.specs.Moves.{IsTermOf}
-use Rattle.walk_congruence.specs.Walks.{StepOrigin, Entry, IsWalk}
+use Rattle.walk_up_to.specs.Walks.{StepOrigin, Entry, IsWalk}
 use Rattle.walk_up_to.specs.Working.Visits.{IsVisited}
-use Rattle.walk_congruence.specs.Listings.{IdEntry, pair_of, entry_of, entries_of, AreIdSets}
+use Rattle.walk_up_to.specs.Listings.{IdEntry, pair_of, entry_of, entries_of, AreIdSets}
 use Rattle.walk_pairs.specs.IdSets.{IsIdSet}
-use Rattle.walk_congruence.specs.Marks.{ListedPairsParts, is_full}
+use Rattle.walk_up_to.specs.Marks.{ListedPairsParts, is_full}
 use Rattle.walk_up_to.specs.Decisions.{IsWithinLimit}
 use Rattle.walk_pairs.specs.Items.{guard_of, targets_under, open_targets}
-use Rattle.walk_congruence.specs.Covers.{covers}
+use Rattle.walk_up_to.specs.Covers.{covers}
 use Rattle.walk_pairs.specs.Items.{AreEnds}
-use Rattle.walk_congruence.specs.Cases.{Extends, least_of, AreConstant, IsCase}
+use Rattle.walk_up_to.specs.Cases.{Extends, least_of, AreConstant, IsCase}
 use Rattle.walk_up_to.specs.Working.IdWalks.{AreListedOf, StandFor, AreVisited, Visits, PassesLimit}
 use Rattle.walk_pairs.specs.declared.items.Item.{Item}
 use Rattle.walk_pairs.specs.declared.items.Ends.{Ends}

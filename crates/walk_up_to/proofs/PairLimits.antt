@@ -6,10 +6,10 @@ use Rattle.std.proofs.lemmas.List.{length-map}
 use Rattle.kat_model.specs.Problems.{ProblemParts}
 use Rattle.kat_model.specs.Pairs.{SetPair}
 use Rattle.certificate.specs.Decisions.{HasNoRedundantPair}
-use Rattle.walk_congruence.specs.Walks.{Entry, pairs_of, closed_pair}
+use Rattle.walk_up_to.specs.Walks.{Entry, pairs_of, closed_pair}
 use Rattle.walk_up_to.specs.Decisions.{IsWithinLimit, HasPairsPast}
 use Rattle.walk_up_to.specs.Working.IdWalks.{IsPastLimit}
-use Rattle.walk_congruence.proofs.Endings.{begins}
+use Rattle.walk_up_to.proofs.Endings.{begins}
 
 pub room_for_one : (limit : Option ℕ) (n : ℕ) → option_map_or (λ m. nat_le m n) limit false ≡ false → IsWithinLimit limit (n + 1)
 room_for_one None n e = tt

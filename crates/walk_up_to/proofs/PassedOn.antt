@@ -1,7 +1,7 @@
 -- The stop that `?` propagates.
 use Rattle.std.proofs.Common.{◌≡◌, Result, Ok, Err, IsErrAnd, sym, ◌∙◌}
-use Rattle.walk_congruence.specs.declared.stop.EarlyStop.{EarlyStop}
-use Rattle.walk_congruence.specs.declared.stop.EarlyStop.TheVariants.{NoMemory as NoRoom, PairLimit, CostLimit}
+use Rattle.walk_up_to.specs.declared.stop.EarlyStop.{EarlyStop}
+use Rattle.walk_up_to.specs.declared.stop.EarlyStop.TheVariants.{NoMemory as NoRoom, PairLimit, CostLimit}
 
 pub passed_on : {T : Type 0} (r : Result T EarlyStop) (stop : EarlyStop) → IsErrAnd r (λ h. h ≡ stop) → r ≡ Err PairLimit → stop ≡ PairLimit
 passed_on (Ok x) stop same is = absurd same

@@ -13,11 +13,11 @@ use Rattle.test_diagrams.specs.Functions.{DiagramsParts, IsDiagramId, IsDiagramO
 use Rattle.test_diagrams.proofs.Kept.{KeepsFunctions-itself, KeepsFunctions-trans}
 use Rattle.partial_derivs.specs.Moves.{IsTermOf}
 use Rattle.term_nodes.specs.NumberSets.{terms_of}
-use Rattle.walk_congruence.specs.Listings.{entries_of}
-use Rattle.walk_congruence.specs.Marks.{ListedPairsParts}
+use Rattle.walk_up_to.specs.Listings.{entries_of}
+use Rattle.walk_up_to.specs.Marks.{ListedPairsParts}
 use Rattle.walk_pairs.specs.Items.{guard_of, chosen, AreItems}
 use Rattle.walk_pairs.specs.Items.{AreEnds}
-use Rattle.walk_congruence.specs.Cases.{Extends, IsOpen, open_count, IsNextTest, IsCase, AreItemsWith}
+use Rattle.walk_up_to.specs.Cases.{Extends, IsOpen, open_count, IsNextTest, IsCase, AreItemsWith}
 use Rattle.walk_up_to.specs.Working.IdWalks.{StandFor, Visits, VisitsInTurn, IsPastLimit, PassesLimit, PassesInTurn}
 use Rattle.walk_pairs.specs.declared.items.Item.{Item}
 use Rattle.walk_pairs.specs.declared.items.Ends.{Ends}

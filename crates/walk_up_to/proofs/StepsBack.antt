@@ -3,8 +3,8 @@ use Rattle.std.proofs.Common.{◌≡◌, ◌<◌, ⊎_elim, ℕ, Bool, List, [],
 use Rattle.std.proofs.lemmas.Option.{slice_get_cases}
 use Rattle.std.proofs.lemmas.List.{reverse-append}
 use Rattle.kat_model.specs.Strings.{Move, GuardedString}
-use Rattle.walk_congruence.specs.Walks.{StepOrigin, after_trail}
-use Rattle.walk_congruence.specs.Listings.{IdEntry, AreTraced, ComesEarlier, origin_in, origin_of, LeadsBack}
+use Rattle.walk_up_to.specs.Walks.{StepOrigin, after_trail}
+use Rattle.walk_up_to.specs.Listings.{IdEntry, AreTraced, ComesEarlier, origin_in, origin_of, LeadsBack}
 
 -- the string of an atom and moves
 abbrev pub string_of : List Bool → List Move → GuardedString

@@ -21,21 +21,21 @@ use Rattle.partial_derivs.specs.Moves.{IsTermOf, IsStepsOf, Keeps}
 use Rattle.partial_derivs.specs.Tables.{AreRight}
 use Rattle.partial_derivs.proofs.Kept.{IsTermOf-trees, IsStepsBy-kept, AreGuards-kept, Keeps-functions}
 use Rattle.partial_derivs.proofs.Tables.{AreRight-kept}
-use Rattle.walk_congruence.specs.Walks.{Entry, pairs_of, AcceptAlike, AreCongruentAfter, IsWalk}
+use Rattle.walk_up_to.specs.Walks.{Entry, pairs_of, AcceptAlike, AreCongruentAfter, IsWalk}
 use Rattle.certificate.specs.Decisions.{pair_limit}
 use Rattle.term_nodes.specs.NumberSets.{terms_of}
-use Rattle.walk_congruence.specs.Listings.{IdEntry, pair_of, entry_of, entries_of, AreIdSets}
+use Rattle.walk_up_to.specs.Listings.{IdEntry, pair_of, entry_of, entries_of, AreIdSets}
 use Rattle.walk_pairs.specs.IdSets.{IsIdSet}
-use Rattle.walk_congruence.specs.Marks.{ListedPairsParts}
+use Rattle.walk_up_to.specs.Marks.{ListedPairsParts}
 use Rattle.walk_up_to.specs.Decisions.{IsWithinLimit}
 use Rattle.walk_up_to.specs.Working.IdWalks.{AreListedOf}
 use Rattle.walk_up_to.specs.Working.Walking.{IsUnderWay, AreStepsAt, HasStepIds, IsDifference}
 use Rattle.walk_up_to.specs.declared.worklist.Worklist.{Worklist}
 use Rattle.walk_pairs.specs.declared.found.BothSteps.{BothSteps}
-use Rattle.walk_congruence.proofs.Endings.{walk_few, walk_ended}
+use Rattle.walk_up_to.proofs.Endings.{walk_few, walk_ended}
 use Rattle.walk_pairs.proofs.PlaceNumbers.{at_mapped}
 use Rattle.walk_pairs.proofs.SideRanges.{sides_in_range}
-use Rattle.walk_congruence.proofs.WalkSteps.{first_entry, walk_starts, walk_goes_on}
+use Rattle.walk_up_to.proofs.WalkSteps.{first_entry, walk_starts, walk_goes_on}
 use Rattle.walk_pairs.proofs.ClosedTerms.{universal_kept}
 use Rattle.walk_pairs.proofs.IdSets.{all_terms}
 

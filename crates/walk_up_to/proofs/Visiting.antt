@@ -10,12 +10,12 @@ use Rattle.kat_model.specs.Pairs.{SetPair, IsCongruent}
 use Rattle.kat_model.proofs.Lists.{has_right}
 use Rattle.kat_model.proofs.Places.{slice_get-append_some}
 use Rattle.walk_pairs.specs.Covered.{IsBetween, IsCovered}
-use Rattle.walk_congruence.specs.Walks.{StepOrigin, Entry, pairs_of, IsNextOf, AreCongruentAfter, IsWalk}
+use Rattle.walk_up_to.specs.Walks.{StepOrigin, Entry, pairs_of, IsNextOf, AreCongruentAfter, IsWalk}
 use Rattle.walk_up_to.specs.Working.Visits.{AddsEntries, IsVisited}
 use Rattle.walk_pairs.proofs.Covered.{covered_congruent, congruent_covered, listed_congruent}
-use Rattle.walk_congruence.proofs.Entries.{pairs_of-append, has_pair}
-use Rattle.walk_congruence.proofs.MorePairs.{congruent_front}
-use Rattle.walk_congruence.proofs.WalkSteps.{walk_lists}
+use Rattle.walk_up_to.proofs.Entries.{pairs_of-append, has_pair}
+use Rattle.walk_up_to.proofs.MorePairs.{congruent_front}
+use Rattle.walk_up_to.proofs.WalkSteps.{walk_lists}
 
 -- ---- growing lists
 

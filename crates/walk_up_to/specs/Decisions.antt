@@ -7,7 +7,7 @@ use Rattle.certificate.specs.Accepted.{set_pairs}
 use Rattle.certificate.specs.declared.evidence.Evidence.{Evidence}
 use Rattle.certificate.specs.declared.evidence.Evidence.TheVariants.{Equal, Different}
 use Rattle.certificate.specs.Decisions.{HasNoRedundantPair, IsConcise, IsShortest}
-use Rattle.walk_congruence.specs.Walks.{closed_pair}
+use Rattle.walk_up_to.specs.Walks.{closed_pair}
 
 -- n pairs may be listed
 abbrev pub IsWithinLimit : Option ℕ → ℕ → Type 0

@@ -1,5 +1,10 @@
-pub use Rattle.walk_congruence.specs.Walks
-pub use Rattle.walk_congruence.specs.Laws
+pub mod Walks
+pub mod Laws
+pub mod Listings
+pub mod Indices
+pub mod Marks
+pub mod Covers
+pub mod Cases
 pub mod Decisions
 pub mod StoredSides
 pub mod Working

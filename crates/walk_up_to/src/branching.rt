@@ -2,18 +2,21 @@
 ghost use Rattle.std.specs.Prelude.{◌≡◌, ◌++◌, ◌∷◌, [], Some, None, Err, length, replicate, IsSome, OnOk};
 ghost use Rattle.test_diagrams.specs.Functions.{KeepsFunctions};
 ghost use Rattle.walk_pairs.specs.Items.{AreItems, targets_under};
-ghost use Rattle.walk_congruence.specs.Cases.{IsCase, IsOpen, AreConstant, least_of, open_count};
+ghost use Rattle.walk_up_to.specs.Cases.{IsCase, IsOpen, AreConstant, least_of, open_count};
 ghost use Rattle.walk_up_to.specs.Working.IdWalks.{Visits, VisitsInTurn, PassesLimit, PassesInTurn};
-ghost use Rattle.walk_congruence.specs.declared.stop.EarlyStop.TheVariants.{PairLimit, CostLimit};
+ghost use Rattle.walk_up_to.specs.declared.stop.EarlyStop.TheVariants.{PairLimit, CostLimit};
 ghost use Rattle.walk_pairs.specs.declared.items.Side.TheVariants.{Left as OnLeft, Right as OnRight};
 
 use kat_model::{Items, NoMemory};
 use std::alloc::Global;
 use test_diagrams::Diagrams;
-use walk_congruence::{
-    Case, EarlyStop, ListedPair, ListedPairs, MarkSet, StepOrigin, case_with, is_covered,
-    is_lighter, least_atom, next_test, sure_targets,
-};
+use crate::cases::{Case, case_with, is_lighter, least_atom};
+use crate::stop::EarlyStop;
+use crate::pair::{ListedPair, StepOrigin};
+use crate::listed::ListedPairs;
+use crate::mark_set::MarkSet;
+use crate::cover::{is_covered, sure_targets};
+use crate::splitting::next_test;
 use walk_pairs::{Ends, Item, Side, ends_of};
 
 /// The steps from the listed pair at `place` by the action `act`.

@@ -11,7 +11,7 @@ ghost use Rattle.certificate.specs.Decisions.{node_terms};
 ghost use Rattle.walk_up_to.specs.Decisions.{IsWithinLimit, IsDecisionUpTo, HasPairsPast};
 ghost use Rattle.walk_up_to.specs.StoredSides.{HasSides};
 ghost use Rattle.walk_up_to.specs.Working.Walking.{IsUnderWay};
-ghost use Rattle.walk_congruence.specs.declared.stop.EarlyStop.TheVariants.{PairLimit, CostLimit};
+ghost use Rattle.walk_up_to.specs.declared.stop.EarlyStop.TheVariants.{PairLimit, CostLimit};
 
 use crate::string::string_to;
 use crate::worklist::Worklist;
@@ -20,7 +20,8 @@ use goal_forms::eliminate;
 use kat_model::{NoMemory, Problem};
 use std::alloc::Global;
 use term_store::Store;
-use walk_congruence::{EarlyStop, stored_pairs_of};
+use crate::stop::EarlyStop;
+use crate::pair::stored_pairs_of;
 use walk_pairs::{cert_of, closed_ids};
 
 // Returns a walk of the problem over the store that has listed the pair of the closed sides.

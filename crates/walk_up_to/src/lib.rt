@@ -8,13 +8,26 @@
 #![tactic(auto)]
 
 mod branching;
+mod cases;
+mod cover;
 mod deciding;
+mod index;
+mod laws;
+mod listed;
+mod mark_set;
+mod pair;
+mod saturation;
+mod splitting;
+mod stop;
 mod string;
 mod worklist;
 
+pub use cases::{Case, case_with, is_lighter, least_atom};
+pub use cover::{is_covered, sure_targets};
 pub use deciding::{decide_up_to, is_same_up_to};
-pub use walk_congruence::{
-    EarlyStop, concise_are_few, congruent_are_covered, covered_are_congruent,
-    finished_are_accepted, finished_are_concise, found_are_shortest, listed_have_trails,
-    members_are_in_range, more_pairs, no_redundant_are_few, walk_goes_on, walks_are_few,
-};
+pub use laws::{concise_are_few, congruent_are_covered, covered_are_congruent, finished_are_accepted, finished_are_concise, found_are_shortest, listed_have_trails, members_are_in_range, more_pairs, no_redundant_are_few, walk_goes_on, walks_are_few};
+pub use listed::ListedPairs;
+pub use mark_set::MarkSet;
+pub use pair::{ListedPair, StepOrigin, stored_pairs_of};
+pub use splitting::next_test;
+pub use stop::EarlyStop;

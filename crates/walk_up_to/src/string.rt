@@ -1,13 +1,13 @@
 //! Builds the string that leads to a listed pair.
 ghost use Rattle.std.specs.Prelude.{◌≡◌, ◌<◌, [], ℕ, List, length, slice_get, Some, None, IfOk, MatchOption};
-ghost use Rattle.walk_congruence.specs.Walks.{StepOrigin as StepOrigin', after_trail};
-ghost use Rattle.walk_congruence.specs.Listings.{AreTraced, LeadsBack, origin_of};
+ghost use Rattle.walk_up_to.specs.Walks.{StepOrigin as StepOrigin', after_trail};
+ghost use Rattle.walk_up_to.specs.Listings.{AreTraced, LeadsBack, origin_of};
 
 use kat_model::{Items, NoMemory};
 use std::alloc::Global;
 use std::mem;
 use string_tables::{GString, Move};
-use walk_congruence::{ListedPair, StepOrigin};
+use crate::pair::{ListedPair, StepOrigin};
 
 // Returns the step that led to the pair at `place`, if there is one.
 fn origin_at(pairs: &[ListedPair], place: usize) -> Option<&StepOrigin>

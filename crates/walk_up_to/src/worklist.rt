@@ -7,10 +7,10 @@ ghost use Rattle.term_nodes.specs.NodeLists.{NodeParts, IsTerm, AreNodes};
 ghost use Rattle.term_nodes.specs.NodeTrees.{tree_at};
 ghost use Rattle.term_nodes.specs.Growth.{Grows};
 ghost use Rattle.test_diagrams.specs.Functions.{value_of, IsDiagramId, IsAtomOf, KeepsFunctions};
-ghost use Rattle.walk_congruence.specs.Listings.{IdEntry};
+ghost use Rattle.walk_up_to.specs.Listings.{IdEntry};
 ghost use Rattle.walk_up_to.specs.Decisions.{IsWithinLimit};
 ghost use Rattle.walk_up_to.specs.Working.IdWalks.{IsPastLimit};
-ghost use Rattle.walk_congruence.specs.declared.stop.EarlyStop.TheVariants.{PairLimit, CostLimit};
+ghost use Rattle.walk_up_to.specs.declared.stop.EarlyStop.TheVariants.{PairLimit, CostLimit};
 ghost use Rattle.walk_up_to.specs.Working.Walking.{IsUnderWay, AreStepsAt, HasStepIds, IsExpanded, IsDifference};
 
 use crate::branching::{StepSource, visit_all};
@@ -19,7 +19,10 @@ use partial_derivs::Derivatives;
 use std::alloc::Global;
 use term_store::{Store, TermId};
 use test_diagrams::Diagrams;
-use walk_congruence::{EarlyStop, ListedPair, ListedPairs, MarkSet};
+use crate::stop::EarlyStop;
+use crate::pair::ListedPair;
+use crate::listed::ListedPairs;
+use crate::mark_set::MarkSet;
 use walk_pairs::{BothSteps, Difference, actions_in_order, differing_atom, items_of};
 
 /// The state of a walk: the listed pairs, and the derivatives of terms with their diagrams.

@@ -10,14 +10,14 @@ use Rattle.term_nodes.specs.NodeLists.{NodeParts, AreNodes}
 use Rattle.term_nodes.specs.NodeTrees.{tree_at}
 use Rattle.test_diagrams.specs.Functions.{DiagramsParts, KeepsFunctions}
 use Rattle.partial_derivs.specs.Moves.{IsTermOf}
-use Rattle.walk_congruence.specs.Walks.{Entry, IsWalk}
+use Rattle.walk_up_to.specs.Walks.{Entry, IsWalk}
 use Rattle.walk_up_to.specs.Working.Visits.{IsVisited}
 use Rattle.term_nodes.specs.NumberSets.{terms_of}
-use Rattle.walk_congruence.specs.Listings.{entries_of, AreIdSets}
-use Rattle.walk_congruence.specs.Marks.{ListedPairsParts}
+use Rattle.walk_up_to.specs.Listings.{entries_of, AreIdSets}
+use Rattle.walk_up_to.specs.Marks.{ListedPairsParts}
 use Rattle.walk_up_to.specs.Decisions.{IsWithinLimit}
 use Rattle.walk_pairs.specs.Items.{chosen}
-use Rattle.walk_congruence.specs.Cases.{Extends}
+use Rattle.walk_up_to.specs.Cases.{Extends}
 use Rattle.walk_pairs.specs.declared.items.Item.{Item}
 use Rattle.walk_pairs.specs.declared.items.Side.TheVariants.{Left, Right}
 use Rattle.walk_up_to.specs.declared.branching.StepSource.{StepSource}

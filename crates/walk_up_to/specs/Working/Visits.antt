@@ -4,7 +4,7 @@ use Rattle.kat_model.specs.Steps.{Atom, set_next}
 use Rattle.kat_model.specs.Problems.{ProblemParts}
 use Rattle.kat_model.specs.Closed.{closed}
 use Rattle.kat_model.specs.Pairs.{SetPair, IsCongruent}
-use Rattle.walk_congruence.specs.Walks.{Entry, pairs_of, IsWalk}
+use Rattle.walk_up_to.specs.Walks.{Entry, pairs_of, IsWalk}
 
 -- additional entries are listed after the old ones
 pub record AddsEntries (old new : List Entry) : Type 0 where

@@ -5,9 +5,9 @@ use Rattle.kat_model.specs.Problems.{ProblemParts}
 use Rattle.term_nodes.specs.NodeLists.{NodeParts}
 use Rattle.partial_derivs.specs.Tables.{AreRight}
 use Rattle.partial_derivs.specs.Moves.{IsStepsOf, AreGuards, AreMerged}
-use Rattle.walk_congruence.specs.Walks.{Entry, pairs_of, AreCongruentAfter}
+use Rattle.walk_up_to.specs.Walks.{Entry, pairs_of, AreCongruentAfter}
 use Rattle.term_nodes.specs.NumberSets.{terms_of}
-use Rattle.walk_congruence.specs.Listings.{IdEntry, pair_of, entries_of}
+use Rattle.walk_up_to.specs.Listings.{IdEntry, pair_of, entries_of}
 use Rattle.walk_up_to.specs.Working.IdWalks.{AreListedOf}
 use Rattle.walk_up_to.specs.declared.worklist.Worklist.{Worklist}
 use Rattle.walk_pairs.specs.declared.found.BothSteps.{BothSteps}

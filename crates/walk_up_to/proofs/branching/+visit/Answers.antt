@@ -2,8 +2,8 @@ use Rattle.std.proofs.Common.{◌≡◌, ◌+◌, inl, inr, true, false, refl, s
 use Rattle.std.specs.Prelude.{IsSome}
 use Rattle.std.proofs.lemmas.Result.{on_ok_weaker}
 use Rattle.test_diagrams.proofs.Kept.{KeepsFunctions-itself, KeepsFunctions-trans}
-use Rattle.walk_congruence.specs.Cases.{IsNextTest, open_count}
-use Rattle.walk_congruence.specs.Covers.{covers}
+use Rattle.walk_up_to.specs.Cases.{IsNextTest, open_count}
+use Rattle.walk_up_to.specs.Covers.{covers}
 use Rattle.walk_up_to.proofs.PassedOn.{passed_on, passed_cost, no_room_full, no_room_cost}
 use Rattle.walk_up_to.proofs.Leaves.{visits_covered}
 use Rattle.walk_up_to.proofs.Splits.{next_open, case_kept, fewer_part, low_then_high, high_then_low, low_first_passes, high_first_passes}

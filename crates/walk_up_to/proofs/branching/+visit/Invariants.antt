@@ -1,5 +1,5 @@
 use Rattle.std.proofs.Common.{◌+◌, ◌*◌}
-use Rattle.walk_congruence.specs.Cases.{open_count}
+use Rattle.walk_up_to.specs.Cases.{open_count}
 use Rattle.walk_up_to.proofs.branching.+visit.Given as goal
 
 -- each split decides a test

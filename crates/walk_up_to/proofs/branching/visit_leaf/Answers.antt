@@ -1,5 +1,5 @@
 use Rattle.std.proofs.Common.{refl, sym, ap, ◌∙◌}
-use Rattle.walk_congruence.specs.Covers.{covers}
+use Rattle.walk_up_to.specs.Covers.{covers}
 use Rattle.walk_up_to.proofs.PassedOn.{no_room_full, no_room_cost}
 use Rattle.walk_up_to.proofs.Leaves.{visits_covered, visits_listed, leaf_passes}
 use Rattle.walk_up_to.proofs.branching.visit_leaf.Goals as goal

@@ -1,6 +1,6 @@
 use Rattle.std.proofs.Common.{◌≡◌, ◌<◌, length, map, Err, sym, ap, ◌∙◌, subst}
 use Rattle.certificate.specs.declared.nodes.Style.TheVariants.{UpTo}
-use Rattle.walk_congruence.specs.Listings.{AreTraced, untested_of}
+use Rattle.walk_up_to.specs.Listings.{AreTraced, untested_of}
 use Rattle.walk_pairs.specs.StoredPairs.{AreStoredPairs}
 use Rattle.walk_pairs.specs.Numbering.{IsCertOf}
 use Rattle.walk_up_to.proofs.PassedOn.{passed_on, passed_cost, no_room_full, no_room_cost}

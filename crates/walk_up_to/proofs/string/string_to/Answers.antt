@@ -1,6 +1,6 @@
 use Rattle.std.proofs.Common.{rules, ◌≡◌, ℕ, Bool, List, [], ◌∷◌, ◌++◌, ap, ◌∙◌}
 use Rattle.kat_model.specs.Strings.{Move}
-use Rattle.walk_congruence.specs.Walks.{StepOrigin}
+use Rattle.walk_up_to.specs.Walks.{StepOrigin}
 use Rattle.walk_up_to.proofs.StepsBack.{string_of, spelling_goes_on, spelling_last}
 use Rattle.walk_up_to.proofs.string.string_to.Goals as goal
 

@@ -2,8 +2,8 @@ use Rattle.std.proofs.Common.{◌≡◌, [], ◌∷◌, ◌++◌, sym, ap, ◌�
 use Rattle.std.specs.Option.{option_map}
 use Rattle.kat_model.specs.Closed.{closed}
 use Rattle.term_nodes.specs.NodeTrees.{tree_at}
-use Rattle.walk_congruence.specs.Listings.{IdEntry}
-use Rattle.walk_congruence.specs.Marks.{ListedPairsParts}
+use Rattle.walk_up_to.specs.Listings.{IdEntry}
+use Rattle.walk_up_to.specs.Marks.{ListedPairsParts}
 use Rattle.walk_up_to.specs.Decisions.{IsWithinLimit}
 use Rattle.walk_up_to.proofs.UnderWay.{first_ids, listed_start}
 use Rattle.walk_up_to.proofs.worklist.Worklist.new.Goals as goal

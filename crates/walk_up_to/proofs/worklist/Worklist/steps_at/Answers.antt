@@ -3,8 +3,8 @@ use Rattle.std.proofs.lemmas.Option.{same_Some}
 use Rattle.term_nodes.proofs.Growing.{Grows-trans}
 use Rattle.partial_derivs.specs.Moves.{IsTermOf, IsStepsOf}
 use Rattle.term_nodes.specs.NumberSets.{terms_of}
-use Rattle.walk_congruence.specs.Listings.{IdEntry}
-use Rattle.walk_congruence.specs.Marks.{ListedPairsParts}
+use Rattle.walk_up_to.specs.Listings.{IdEntry}
+use Rattle.walk_up_to.specs.Marks.{ListedPairsParts}
 use Rattle.walk_up_to.specs.declared.worklist.Worklist.{Worklist}
 use Rattle.walk_pairs.specs.declared.found.BothSteps.{BothSteps}
 use Rattle.walk_up_to.proofs.UnderWay.{read_at, left_terms, right_terms, stepped}

@@ -1,6 +1,0 @@
-use Rattle.std.proofs.Common.{◌≡◌, ◌++◌, drop}
-use Rattle.walk_congruence.specs.Cases.{least_of}
-use Rattle.walk_congruence.proofs.cases.least_atom.Given as goal
-
-abbrev pub invariant-loop-value : goal.invariant-loop-value
-invariant-loop-value l = l.atom.items ++ least_of (drop l.value-index l.decided) ≡ least_of l.decided

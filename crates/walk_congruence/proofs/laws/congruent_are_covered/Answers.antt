@@ -1,5 +1,0 @@
-use Rattle.walk_pairs.proofs.Covered.{congruent_covered}
-use Rattle.walk_congruence.proofs.laws.congruent_are_covered.Goals as goal
-
-pub returns : goal.returns
-returns c = congruent_covered

@@ -1,9 +1,0 @@
-use Rattle.std.proofs.Common.{length, arith}
-use Rattle.walk_congruence.proofs.Endings.{walk_accepted, walk_same}
-use Rattle.walk_congruence.proofs.laws.finished_are_accepted.Goals as goal
-
-pub returns : goal.returns
-returns c q es walk = (
-  walk_accepted q es (length es) walk (omega arith),
-  walk_same q es (length es) walk (omega arith),
-)

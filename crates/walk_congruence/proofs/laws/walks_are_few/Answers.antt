@@ -1,5 +1,0 @@
-use Rattle.walk_congruence.proofs.Endings.{walk_bounds}
-use Rattle.walk_congruence.proofs.laws.walks_are_few.Goals as goal
-
-pub returns : goal.returns
-returns c = walk_bounds

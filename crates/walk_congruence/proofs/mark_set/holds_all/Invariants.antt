@@ -1,5 +1,0 @@
-use Rattle.walk_congruence.proofs.AllMarked.{AreLastMarked}
-use Rattle.walk_congruence.proofs.mark_set.holds_all.Given as goal
-
-abbrev pub invariant-loop-index : goal.invariant-loop-index
-invariant-loop-index l = AreLastMarked l.marked.marks l.terms l.index

@@ -1,9 +1,0 @@
-use Rattle.std.proofs.Common.{◌≡◌, drop}
-use Rattle.walk_congruence.specs.Marks.{with_marks, IsMore}
-use Rattle.walk_congruence.proofs.mark_set.mark_all.Given as goal
-
-abbrev pub invariant-loop-term : goal.invariant-loop-term
-invariant-loop-term l = record {
-  marks : with_marks l.marked.marks (drop l.term-index l.terms) ≡ with_marks l.initial.marked.marks l.terms;
-  more : IsMore l.initial.marked l.marked l.grew;
-}

@@ -1,6 +1,0 @@
-use Rattle.std.proofs.Common.{◌≡◌, drop}
-use Rattle.walk_congruence.specs.Marks.{without_marks}
-use Rattle.walk_congruence.proofs.mark_set.unmark_all.Given as goal
-
-abbrev pub invariant-loop-term : goal.invariant-loop-term
-invariant-loop-term l = without_marks l.marks (drop l.term-index l.terms) ≡ without_marks l.initial.marks l.terms

@@ -1,5 +1,0 @@
-use Rattle.walk_congruence.proofs.Closures.{made_itself}
-use Rattle.walk_congruence.proofs.saturation.look_back.Goals as goal
-
-pub returns-else-load : goal.returns-else-load
-returns-else-load c = made_itself c.args.listed.now.pairs c.args.marked.now.marks
