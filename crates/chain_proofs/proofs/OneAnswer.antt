@@ -5,7 +5,7 @@ use Rattle.text_tokens.specs.declared.fault.TextFault.TheVariants.{NoMemory}
 use Rattle.problem_file.specs.Laws.{HaveOneAnswer}
 use Rattle.problem_file.proofs.TextAnswers.{Tells, no_fault, one_answer}
 use Rattle.chain_rules.specs.Chains.{ChainTree}
-use Rattle.problem_texts.specs.NumberedScopes.{numbered_scope}
+use Rattle.problem_file.specs.NumberedScopes.{numbered_scope}
 use Rattle.chain_proofs.specs.Reads.{Reads, FirstFault, tested, Answers}
 use Rattle.chain_proofs.proofs.ReadTexts.{read_told, tests_pass}
 use Rattle.chain_proofs.proofs.NamedChains.{tested_named}

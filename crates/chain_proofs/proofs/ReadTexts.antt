@@ -12,7 +12,7 @@ use Rattle.chain_rules.specs.Chains.{ChainTree}
 use Rattle.chain_proofs.specs.ChainPhrases.{chain_onto}
 use Rattle.chain_proofs.specs.ChainScans.{scan_chain}
 use Rattle.chain_proofs.specs.ChainMaking.{make_chain}
-use Rattle.problem_texts.specs.NumberedScopes.{numbered_scope}
+use Rattle.problem_file.specs.NumberedScopes.{numbered_scope}
 use Rattle.chain_proofs.specs.Reads.{Reads, tested}
 use Rattle.chain_proofs.proofs.ScannedChains.{chains_are_scanned}
 use Rattle.chain_proofs.proofs.MadeChains.{chains_are_made}

@@ -18,7 +18,7 @@ use Rattle.problem_file.specs.Working.Numbers.{AreNumbered}
 use Rattle.problem_file.proofs.Numbering.{empty_numbered, test_numbered, action_numbered}
 use Rattle.problem_file.proofs.InRanges.{DefinedInRange, term_in}
 use Rattle.problem_file.proofs.Results.{same_ok}
-use Rattle.problem_texts.specs.Questions.{plain_name}
+use Rattle.problem_file.specs.Questions.{plain_name}
 use Rattle.chain_rules.specs.declared.chain.Axiom.{Axiom}
 use Rattle.chain_rules.specs.Chains.{ChainTree, alone, equal_by, equal_by_inner}
 use Rattle.chain_rules.specs.ChainViews.{with_line}
@@ -26,7 +26,7 @@ use Rattle.chain_rules.specs.Chained.{HasTermsInRange}
 use Rattle.chain_proofs.specs.ChainMaking.{total_with, extended, making_chain}
 use Rattle.chain_proofs.specs.ChainPhrases.{Lines, no_lines, plain_line, line_around, ChainPhrase}
 use Rattle.chain_proofs.specs.ChainFolds.{fold_rule, sized_fold, fold_lines, fold_chain, chain_of}
-use Rattle.problem_texts.specs.NumberedScopes.{tests_scope, numbered_scope}
+use Rattle.problem_file.specs.NumberedScopes.{tests_scope, numbered_scope}
 use Rattle.chain_proofs.specs.Reads.{Reads, Answers}
 
 -- ---- the scope of a proof

@@ -13,7 +13,7 @@ use Rattle.chain_proofs.specs.ChainPhrases.{IsChainPhrase}
 use Rattle.chain_proofs.specs.ChainFolds.{chain_of}
 use Rattle.chain_proofs.specs.ChainScans.{scan_chain}
 use Rattle.chain_proofs.specs.ChainMaking.{make_chain}
-use Rattle.problem_texts.specs.NumberedScopes.{numbered_scope}
+use Rattle.problem_file.specs.NumberedScopes.{numbered_scope}
 
 -- The bytes spell this chain: their tokens are a chain in which nothing is too deep or too wide, and the phrase denotes
 -- this chain with the numbered names of a proof.

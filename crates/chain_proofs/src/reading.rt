@@ -6,14 +6,13 @@ ghost use Rattle.text_grammar.specs.Lexemes.{lexemes};
 ghost use Rattle.text_grammar.specs.Parsed.{Makes};
 ghost use Rattle.chain_rules.specs.Chains.{ChainTree};
 ghost use Rattle.chain_rules.specs.Chained.{HasTermsInRange};
-ghost use Rattle.problem_texts.specs.NumberedScopes.{numbered_scope};
+ghost use Rattle.problem_file.specs.NumberedScopes.{numbered_scope};
 ghost use Rattle.chain_proofs.specs.Reads.{Reads, tested, Answers};
 
 use crate::making::make_chain;
 use crate::scan::test_syntax;
 use chain_rules::Chain;
-use problem_file::{fault_in_text, text_of};
-use problem_texts::numbered_scope;
+use problem_file::{fault_in_text, numbered_scope, text_of};
 use std::alloc::Global;
 use text_scopes::Scope;
 use text_tokens::{TextFault, Token, tokens};

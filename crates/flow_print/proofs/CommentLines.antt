@@ -10,12 +10,12 @@ use Rattle.text_tokens.specs.declared.token.Kind.TheVariants.{Name}
 use Rattle.text_tokens.specs.Kinds.{IsToken}
 use Rattle.text_scopes.specs.declared.meaning.Meaning.{Meaning}
 use Rattle.text_scopes.specs.declared.meaning.Meaning.TheVariants.{Test, Action}
-use Rattle.problem_texts.specs.Questions.{plain_name}
-use Rattle.problem_texts.specs.CommentedTexts.{IsComment, AreComments, EachAreComments, AreOneLine}
-use Rattle.problem_texts.specs.Laws.{AsksEqual}
-use Rattle.problem_texts.proofs.Comments.{comment_nil, comment_append, comment_chosen, shown_comment, comment_decimal, comment_name, plain_test, plain_action}
-use Rattle.problem_texts.proofs.PlainNames.{plain_are_names}
-use Rattle.problem_texts.proofs.PlainReadings.{commented_reads_back}
+use Rattle.problem_file.specs.Questions.{plain_name}
+use Rattle.problem_file.specs.CommentedTexts.{IsComment, AreComments, EachAreComments, AreOneLine}
+use Rattle.problem_file.specs.TextLaws.{AsksEqual}
+use Rattle.problem_file.proofs.Comments.{comment_nil, comment_append, comment_chosen, shown_comment, comment_decimal, comment_name, plain_test, plain_action}
+use Rattle.problem_file.proofs.PlainNames.{plain_are_names}
+use Rattle.problem_file.proofs.PlainReadings.{commented_reads_back}
 use Rattle.flow_forms.specs.Forms.{FlowFormTree, constant, term, one, factor, variable, applied, converted, no_arguments, argument}
 use Rattle.flow_forms.specs.Comparisons.{FlowComparisonTree, zero_form, less_form, same_form}
 use Rattle.flow_problem.specs.Edges.{FlowActionTree, assigned, given}

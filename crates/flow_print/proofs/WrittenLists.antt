@@ -8,7 +8,7 @@ use Rattle.flow_forms.specs.Forms.{FlowFormTree, form_tree}
 use Rattle.flow_ways.specs.declared.way.SortedForm.{SortedForm}
 use Rattle.flow_ways.specs.ActionTrees.{set_tree}
 use Rattle.flow_ways.specs.WayTrees.{sorted_form}
-use Rattle.problem_texts.specs.CommentedTexts.{comment_text, comments_text}
+use Rattle.problem_file.specs.CommentedTexts.{comment_text, comments_text}
 use Rattle.flow_print.specs.NameTables.{NameTable, sort_width}
 use Rattle.flow_print.specs.FormTexts.{comma_text, form_text}
 use Rattle.flow_print.specs.ActionTexts.{stays_first, results_text}

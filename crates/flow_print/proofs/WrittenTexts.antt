@@ -6,10 +6,10 @@ use Rattle.kat_model.specs.Trees.{Term, kat_tree}
 use Rattle.kat_model.specs.Problems.{IsProblem, IsInRange, AreInRange}
 use Rattle.text_scopes.specs.ScopeParts.{ScopeParts}
 use Rattle.text_print.specs.Printing.{name_of}
-use Rattle.problem_texts.specs.Questions.{plain_name, tests_text, actions_text, hyp_text, goal_text}
-use Rattle.problem_texts.specs.CommentedTexts.{comments_text, commented_hyps}
-use Rattle.problem_texts.specs.Working.Scopes.{IsPlain}
-use Rattle.problem_texts.proofs.PlainScopes.{plain_as, hyp_same, goal_same}
+use Rattle.problem_file.specs.Questions.{plain_name, tests_text, actions_text, hyp_text, goal_text}
+use Rattle.problem_file.specs.CommentedTexts.{comments_text, commented_hyps}
+use Rattle.problem_file.specs.Working.Scopes.{IsPlain}
+use Rattle.problem_file.proofs.PlainScopes.{plain_as, hyp_same, goal_same}
 use Rattle.flow_problem.specs.FlowFacts.{FlowRule}
 use Rattle.flow_problem.specs.Points.{FlowProblem}
 use Rattle.flow_print.specs.NameTables.{NameTable}

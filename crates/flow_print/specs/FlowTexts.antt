@@ -7,8 +7,8 @@ use Rattle.kat_model.specs.Problems.{IsProblem}
 use Rattle.text_scopes.specs.declared.meaning.Meaning.{Meaning}
 use Rattle.text_scopes.specs.declared.meaning.Meaning.TheVariants.{Test, Action}
 use Rattle.text_print.specs.Printing.{term_nesting}
-use Rattle.problem_texts.specs.Questions.{plain_name}
-use Rattle.problem_texts.specs.CommentedTexts.{Comments, commented_text, AreComments}
+use Rattle.problem_file.specs.Questions.{plain_name}
+use Rattle.problem_file.specs.CommentedTexts.{Comments, commented_text, AreComments}
 use Rattle.flow_forms.specs.Comparisons.{FlowComparisonTree}
 use Rattle.flow_problem.specs.Edges.{FlowActionTree}
 use Rattle.flow_problem.specs.FlowFacts.{FlowRule}

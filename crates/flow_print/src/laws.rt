@@ -1,6 +1,6 @@
 //! Laws of the definitions. Each function does nothing: its contract is the law.
 ghost use Rattle.std.specs.Prelude.{List};
-ghost use Rattle.problem_texts.specs.Laws.{AsksEqual};
+ghost use Rattle.problem_file.specs.TextLaws.{AsksEqual};
 ghost use Rattle.flow_problem.specs.FlowFacts.{FlowRule};
 ghost use Rattle.flow_problem.specs.Points.{FlowProblem};
 ghost use Rattle.flow_print.specs.NameTables.{NameTable};

@@ -1,15 +1,15 @@
 //! Hypotheses, each after the comment with its reason if that reason is new.
 ghost use Rattle.std.specs.Prelude.{◌≡◌, ◌∷◌, ◌++◌, [], if◌then◌else◌, codes, length, map, OnOk};
-ghost use Rattle.problem_texts.specs.CommentedTexts.{comments_text, commented_hyps};
-ghost use Rattle.problem_texts.specs.Questions.{plain_name};
-ghost use Rattle.problem_texts.specs.Working.Scopes.{IsPlain};
+ghost use Rattle.problem_file.specs.CommentedTexts.{comments_text, commented_hyps};
+ghost use Rattle.problem_file.specs.Questions.{plain_name};
+ghost use Rattle.problem_file.specs.Working.Scopes.{IsPlain};
 ghost use Rattle.flow_questions.specs.HypothesisViews.{flow_rule};
 ghost use Rattle.flow_print.specs.ReasonTexts.{two_tests, three_tests, reason_text, is_same_reason, is_new as is_new_reason, reason_before, comments_before, comments_from};
 
 use crate::writing::{put, put_numbered};
 use flow_questions::FlowRule;
 use kat_model::{NoMemory, Problem};
-use problem_texts::put_hyp;
+use problem_file::put_hyp;
 use std::alloc::Global;
 use text_scopes::Scope;
 

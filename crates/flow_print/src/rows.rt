@@ -2,7 +2,7 @@
 ghost use Rattle.std.specs.Prelude.{◌≡◌, ◌++◌, map, OnOk};
 ghost use Rattle.std.specs.List.{enumerate_from};
 ghost use Rattle.flow_forms.specs.Comparisons.{comparison_tree};
-ghost use Rattle.problem_texts.specs.CommentedTexts.{comment_text, comments_text};
+ghost use Rattle.problem_file.specs.CommentedTexts.{comment_text, comments_text};
 ghost use Rattle.flow_tables.specs.EdgeViews.{flow_action};
 ghost use Rattle.flow_print.specs.NameTables.{names_of};
 ghost use Rattle.flow_print.specs.FlowTexts.{test_comment, action_comment};
@@ -14,7 +14,7 @@ use crate::writing::put;
 use flow_forms::FlowComparison;
 use flow_tables::FlowAction;
 use kat_model::NoMemory;
-use problem_texts::{put_action_name, put_test_name};
+use problem_file::{put_action_name, put_test_name};
 use std::alloc::Global;
 
 fn put_test_comment(

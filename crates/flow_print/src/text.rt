@@ -1,7 +1,7 @@
 //! The text of a flow problem.
 ghost use Rattle.std.specs.Prelude.{◌≡◌, map, IfOk};
 ghost use Rattle.flow_forms.specs.Comparisons.{comparison_tree};
-ghost use Rattle.problem_texts.specs.Working.Scopes.{IsPlain};
+ghost use Rattle.problem_file.specs.Working.Scopes.{IsPlain};
 ghost use Rattle.flow_tables.specs.EdgeViews.{flow_action};
 ghost use Rattle.flow_questions.specs.HypothesisViews.{flow_rule};
 ghost use Rattle.flow_print.specs.NameTables.{names_of};
@@ -14,7 +14,7 @@ use flow_forms::FlowComparison;
 use flow_questions::FlowRule;
 use flow_tables::FlowAction;
 use kat_model::{NoMemory, Problem};
-use problem_texts::{plain_scope, put_actions, put_goal, put_tests};
+use problem_file::{plain_scope, put_actions, put_goal, put_tests};
 use std::alloc::Global;
 use text_scopes::Scope;
 

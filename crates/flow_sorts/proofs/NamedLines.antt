@@ -14,8 +14,8 @@ use Rattle.text_tokens.specs.TokenParts.{TokenParts, kind_of, bytes_of}
 use Rattle.text_tokens.proofs.Beginnings.{is_mark, is_marks, symbol_marks, number_digits}
 use Rattle.text_tokens.proofs.Printed.{token_utf8}
 use Rattle.text_tokens.proofs.Slices.{slices_from}
-use Rattle.problem_texts.specs.CommentedTexts.{IsComment}
-use Rattle.problem_texts.proofs.Comments.{comment_nil, comment_name}
+use Rattle.problem_file.specs.CommentedTexts.{IsComment}
+use Rattle.problem_file.proofs.Comments.{comment_nil, comment_name}
 use Rattle.flow_syntax.specs.Syntax.{ItemSyntax, sorts, function, variables, graph, rounds, split, equal}
 use Rattle.flow_syntax.proofs.NamedValues.{Each, AreNamed, spelled_named}
 use Rattle.flow_text.specs.DeclaredNames.{variable_names, function_names}

@@ -1,6 +1,6 @@
 //! Laws of the definitions. Each function does nothing: its contract is the law.
 ghost use Rattle.std.specs.Prelude.{ℕ, List, All};
-ghost use Rattle.problem_texts.specs.CommentedTexts.{IsComment};
+ghost use Rattle.problem_file.specs.CommentedTexts.{IsComment};
 ghost use Rattle.flow_text.specs.Checking.{FlowFileParts, pair_of};
 ghost use Rattle.flow_text.specs.Texts.{IsFlowText};
 ghost use Rattle.flow_text.specs.FileViews.{file_parts};

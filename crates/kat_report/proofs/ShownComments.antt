@@ -15,12 +15,12 @@ use Rattle.text_print.specs.Printing.{name_of, term_nesting}
 use Rattle.linear_forms.specs.Forms.{FormTree, constant, var_term, product_term}
 use Rattle.linear_forms.specs.Atomic.{Atomic}
 use Rattle.linear_forms.specs.Atomic.TheVariants.{Zero, Less}
-use Rattle.problem_texts.specs.Questions.{plain_name, tests_text, actions_text, hyp_text, goal_text}
-use Rattle.problem_texts.specs.CommentedTexts.{IsComment, comment_text, comments_text, Comments, commented_hyps, commented_text, AreComments, EachAreComments, AreOneLine}
-use Rattle.problem_texts.specs.Laws.{AsksEqual}
-use Rattle.problem_texts.proofs.Comments.{comment_nil, comment_append, comment_chosen, shown_comment, comment_decimal, name_is_comment, plain_test, plain_action}
-use Rattle.problem_texts.proofs.PlainNames.{plain_are_names}
-use Rattle.problem_texts.proofs.PlainReadings.{commented_reads_back}
+use Rattle.problem_file.specs.Questions.{plain_name, tests_text, actions_text, hyp_text, goal_text}
+use Rattle.problem_file.specs.CommentedTexts.{IsComment, comment_text, comments_text, Comments, commented_hyps, commented_text, AreComments, EachAreComments, AreOneLine}
+use Rattle.problem_file.specs.TextLaws.{AsksEqual}
+use Rattle.problem_file.proofs.Comments.{comment_nil, comment_append, comment_chosen, shown_comment, comment_decimal, name_is_comment, plain_test, plain_action}
+use Rattle.problem_file.proofs.PlainNames.{plain_are_names}
+use Rattle.problem_file.proofs.PlainReadings.{commented_reads_back}
 use Rattle.abstraction.specs.Abstracts.{AbstractParts}
 use Rattle.abstraction.specs.declared.rows.ActionRow.{ActionRow}
 use Rattle.abstraction.specs.declared.rows.ActionRow.TheVariants as action

@@ -8,9 +8,9 @@ use Rattle.kat_model.specs.Trees.{Term}
 use Rattle.kat_model.specs.Problems.{ProblemParts, IsProblem, IsInRange, AreInRange}
 use Rattle.text_scopes.specs.ScopeParts.{ScopeParts}
 use Rattle.text_print.specs.Printing.{name_of}
-use Rattle.problem_texts.specs.Questions.{plain_name, tests_text, actions_text, hyp_text, goal_text}
-use Rattle.problem_texts.specs.Working.Scopes.{IsPlain}
-use Rattle.problem_texts.proofs.PlainScopes.{plain_as, hyp_same, goal_same}
+use Rattle.problem_file.specs.Questions.{plain_name, tests_text, actions_text, hyp_text, goal_text}
+use Rattle.problem_file.specs.Working.Scopes.{IsPlain}
+use Rattle.problem_file.proofs.PlainScopes.{plain_as, hyp_same, goal_same}
 use Rattle.abstraction.specs.declared.rows.ActionRow.{ActionRow}
 use Rattle.abstraction.specs.declared.rows.TestRow.{TestRow}
 use Rattle.abstraction.specs.declared.rule.Rule.{Rule}

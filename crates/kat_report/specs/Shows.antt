@@ -11,7 +11,7 @@ use Rattle.text_print.specs.Printing.{name_of}
 use Rattle.linear_forms.specs.Forms.{FormTree, constant, var_term, product_term}
 use Rattle.linear_forms.specs.Atomic.{Atomic}
 use Rattle.linear_forms.specs.Atomic.TheVariants.{Zero, Less}
-use Rattle.problem_texts.specs.Questions.{plain_name, tests_text, actions_text, hyp_text, goal_text}
+use Rattle.problem_file.specs.Questions.{plain_name, tests_text, actions_text, hyp_text, goal_text}
 use Rattle.abstraction.specs.Abstracts.{AbstractParts}
 use Rattle.abstraction.specs.declared.rows.ActionRow.{ActionRow}
 use Rattle.abstraction.specs.declared.rows.ActionRow.TheVariants as action

@@ -1,13 +1,13 @@
 //! Hypotheses, each after the comment with its rule if that rule is new.
 ghost use Rattle.std.specs.Prelude.{◌≡◌, ◌++◌, None, OnOk};
 ghost use Rattle.std.specs.List.{zip};
-ghost use Rattle.problem_texts.specs.Working.Scopes.{IsPlain};
+ghost use Rattle.problem_file.specs.Working.Scopes.{IsPlain};
 ghost use Rattle.kat_report.specs.Shows.{and_test, rule_text, rule_comment, is_new, hyps_text};
 
 use crate::writing::{put, put_numbered, put_word};
 use abstraction::Rule;
 use kat_model::{NoMemory, Problem};
-use problem_texts::put_hyp;
+use problem_file::put_hyp;
 use std::alloc::Global;
 use text_scopes::Scope;
 

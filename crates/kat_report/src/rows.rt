@@ -8,7 +8,7 @@ use crate::forms::{put_comparison, put_form};
 use crate::writing::put;
 use abstraction::{ActionRow, TestRow};
 use kat_model::NoMemory;
-use problem_texts::{put_action_name, put_test_name};
+use problem_file::{put_action_name, put_test_name};
 use std::alloc::Global;
 use text_print::put_name;
 use text_scopes::{Meaning, Scope};

@@ -1,13 +1,13 @@
 //! An abstraction as the text of a problem.
 ghost use Rattle.std.specs.Prelude.{◌≡◌, [], IfOk, OnOk};
-ghost use Rattle.problem_texts.specs.Working.Scopes.{IsPlain};
+ghost use Rattle.problem_file.specs.Working.Scopes.{IsPlain};
 ghost use Rattle.kat_report.specs.Shows.{show_text};
 
 use crate::hyps::put_hyps;
 use crate::rows::{put_action_comments, put_test_comments};
 use abstraction::Abstract;
 use kat_model::NoMemory;
-use problem_texts::{plain_scope, put_actions, put_goal, put_tests};
+use problem_file::{plain_scope, put_actions, put_goal, put_tests};
 use std::alloc::Global;
 use text_scopes::Scope;
 use while_lang::File;

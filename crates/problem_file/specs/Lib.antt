@@ -1,3 +1,11 @@
+pub mod Questions
+pub mod NamedTexts
+pub mod CommentedTexts
+pub mod NumberedScopes
+pub mod ProgramNumbers
+pub mod ProgramTexts
+pub mod TextLaws
+pub mod Working
 pub mod Files
 pub mod Numbers
 pub mod ItemActions
@@ -11,4 +19,3 @@ pub mod Sound
 pub mod FirstFaults
 pub mod Reads
 pub mod Laws
-pub mod Working

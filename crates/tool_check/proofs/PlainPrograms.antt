@@ -3,7 +3,7 @@ use Rattle.std.proofs.Common.{◌≡◌, ℕ, List}
 use Rattle.kat_model.specs.declared.expression.Width.{Width}
 use Rattle.kat_model.specs.Expressions.{CondTree}
 use Rattle.while_lang.specs.Programs.{ProgTree}
-use Rattle.problem_texts.specs.ProgramTexts.{programs_text, triple_text, ArePrintable, IsTriplePrintable}
+use Rattle.problem_file.specs.ProgramTexts.{programs_text, triple_text, ArePrintable, IsTriplePrintable}
 use Rattle.tool_inputs.specs.StoreAnswers.{AlwaysEndAlike, AlwaysMeets}
 use Rattle.tool_inputs.proofs.ProgramSentences.{asks_equal, always_alike, asks_triple, always_met}
 use Rattle.tool_check.specs.Check.{ChecksTexts}

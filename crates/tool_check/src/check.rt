@@ -4,7 +4,7 @@ ghost use Rattle.kat_model.specs.Problems.{ProblemParts};
 ghost use Rattle.kat_model.specs.Expressions.{CondTree};
 ghost use Rattle.kat_model.specs.declared.expression.Width.{Width};
 ghost use Rattle.while_lang.specs.Programs.{ProgTree};
-ghost use Rattle.problem_texts.specs.ProgramTexts.{programs_text, triple_text, ArePrintable, IsTriplePrintable};
+ghost use Rattle.problem_file.specs.ProgramTexts.{programs_text, triple_text, ArePrintable, IsTriplePrintable};
 ghost use Rattle.while_lang.specs.Files.{FileParts};
 ghost use Rattle.problem_file.specs.Reads.{Reads};
 ghost use Rattle.while_lang.specs.Concrete.{IsConcrete, Agrees};

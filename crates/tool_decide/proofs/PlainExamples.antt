@@ -8,7 +8,7 @@ use Rattle.kat_model.specs.Problems.{ProblemParts}
 use Rattle.kat_model.specs.Trees.{Term, prim, test, act, product}
 use Rattle.text_print.specs.Printing.{term_nesting}
 use Rattle.text_print.proofs.WordTerminals.{zero_written}
-use Rattle.problem_texts.specs.Questions.{question_text, IsPrintable}
+use Rattle.problem_file.specs.Questions.{question_text, IsPrintable}
 use Rattle.tool_inputs.specs.FileProblem.{Asks}
 use Rattle.tool_decide.proofs.PlainTexts.{plain_asks}
 

@@ -15,8 +15,8 @@ use Rattle.abstraction.specs.declared.fault.AbstractFault.TheVariants.{TooManyTe
 use Rattle.abstraction.specs.Tables.{first_comparisons, file_assignments}
 use Rattle.abstraction.specs.Abstracts.{AbstractParts, file_problem, abstract_parts, abstract_of}
 use Rattle.kat_report.specs.AbstractRefusals.{abstract_fault_line}
-use Rattle.problem_texts.specs.ProgramTexts.{programs_text, triple_text, ArePrintable, IsTriplePrintable}
-use Rattle.problem_texts.specs.Laws.{AsksOfPrograms}
+use Rattle.problem_file.specs.ProgramTexts.{programs_text, triple_text, ArePrintable, IsTriplePrintable}
+use Rattle.problem_file.specs.TextLaws.{AsksOfPrograms}
 use Rattle.tool_inputs.specs.TextProblem.{HasNoAbstraction}
 use Rattle.tool_inputs.specs.Steps.{AsksQuestion}
 use Rattle.tool_inputs.specs.StoreAnswers.{AlwaysEndAlike, AlwaysMeets, IsLimitLine, goal_file, programs_abstraction, triple_abstraction, StoreHeadline}

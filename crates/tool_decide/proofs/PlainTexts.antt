@@ -1,8 +1,8 @@
 -- The plainest text of a question asks that question.
 use Rattle.std.proofs.Common.{◌≡◌, ℕ, List, sym, subst}
 use Rattle.kat_model.specs.Problems.{ProblemParts}
-use Rattle.problem_texts.specs.Questions.{question_text, IsPrintable}
-use Rattle.problem_texts.proofs.PlainReadings.{reads_back}
+use Rattle.problem_file.specs.Questions.{question_text, IsPrintable}
+use Rattle.problem_file.proofs.PlainReadings.{reads_back}
 use Rattle.tool_inputs.specs.FileProblem.{Asks}
 use Rattle.tool_inputs.proofs.EqualGoals.{asks_equal}
 use Rattle.tool_decide.specs.Decide.{DecidesText, Headline}

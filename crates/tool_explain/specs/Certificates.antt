@@ -6,7 +6,7 @@ use Rattle.kat_model.specs.Trees.{Term}
 use Rattle.kat_model.specs.Stores.{modulus}
 use Rattle.text_scopes.specs.declared.meaning.Meaning.{Meaning}
 use Rattle.text_print.specs.Printing.{name_of}
-use Rattle.problem_texts.specs.Questions.{hyp_text}
+use Rattle.problem_file.specs.Questions.{hyp_text}
 use Rattle.while_lang.specs.Files.{FileParts}
 use Rattle.abstraction.specs.Abstracts.{AbstractParts}
 use Rattle.abstraction.specs.declared.rule.Rule.{Rule}

@@ -14,7 +14,7 @@ use crate::writing::{put, put_numbered};
 use abstraction::{Abstract, Rule};
 use certificate::{Cert, Evidence, Style};
 use kat_model::{Kat, NoMemory};
-use problem_texts::put_hyp;
+use problem_file::put_hyp;
 use std::alloc::Global;
 use text_scopes::Scope;
 use while_lang::File;

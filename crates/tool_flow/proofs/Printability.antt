@@ -7,7 +7,7 @@ use Rattle.kat_model.specs.declared.limits.TheConstants.{MAX_TESTS, MAX_ACTIONS,
 use Rattle.kat_model.specs.Trees.{Term}
 use Rattle.kat_model.specs.Problems.{ProblemParts, IsProblem, problem_size}
 use Rattle.text_print.specs.Printing.{term_nesting}
-use Rattle.problem_texts.specs.CommentedTexts.{IsComment, AreComments}
+use Rattle.problem_file.specs.CommentedTexts.{IsComment, AreComments}
 use Rattle.flow_text.specs.Checking.{FlowFileParts}
 use Rattle.flow_problem.specs.Points.{FlowProblem}
 use Rattle.flow_problem.specs.FlowProblems.{FlowQuestion, PairMarks, too_many_tests, too_many_actions, problem_too_large, first_tests, flow_actions, flow_parts, whole_problem, problem_by}

@@ -18,7 +18,7 @@ use Rattle.abstraction.specs.Derived.{stated_from, hypotheses}
 use Rattle.abstraction.specs.Abstracts.{file_problem, abstract_parts, abstract_of}
 use Rattle.abstraction.proofs.AppendedRows.{no_rounds}
 use Rattle.abstraction.proofs.NumberedRows.{stated_terms}
-use Rattle.problem_texts.specs.Laws.{AsksEqual}
+use Rattle.problem_file.specs.TextLaws.{AsksEqual}
 use Rattle.tool_inputs.specs.FileProblem.{Asks}
 
 -- ---- the abstraction of a goal of two terms

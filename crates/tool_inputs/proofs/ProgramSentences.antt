@@ -5,9 +5,9 @@ use Rattle.kat_model.specs.Expressions.{CondTree}
 use Rattle.while_lang.specs.Programs.{ProgTree}
 use Rattle.while_lang.specs.Files.{equal, triple, prog_side}
 use Rattle.while_lang.specs.Concrete.{EndAlike, MeetsTriple, GoalAgrees, Agrees}
-use Rattle.problem_texts.specs.ProgramTexts.{programs_text, triple_text, ArePrintable, IsTriplePrintable}
-use Rattle.problem_texts.specs.Laws.{AsksOfPrograms}
-use Rattle.problem_texts.proofs.ProgramReadings.{programs_read_back, triples_read_back}
+use Rattle.problem_file.specs.ProgramTexts.{programs_text, triple_text, ArePrintable, IsTriplePrintable}
+use Rattle.problem_file.specs.TextLaws.{AsksOfPrograms}
+use Rattle.problem_file.proofs.ProgramReadings.{programs_read_back, triples_read_back}
 use Rattle.tool_inputs.specs.StoreAnswers.{AlwaysEndAlike, AlwaysMeets}
 
 module _ (text : List ℕ) (w : Width) (v : ℕ) where

@@ -4,7 +4,7 @@ use Rattle.std.specs.Fmt.{decimal}
 use Rattle.text_scopes.specs.ScopeParts.{ScopeParts}
 use Rattle.text_print.specs.Printing.{name_of}
 use Rattle.while_lang.specs.Programs.{ProgTree}
-use Rattle.problem_texts.specs.ProgramTexts.{prog_text}
+use Rattle.problem_file.specs.ProgramTexts.{prog_text}
 use Rattle.kat_report.specs.Paths.{path_text}
 use Rattle.optimiser_steps.specs.Logs.{LogLineParts}
 use Rattle.optimiser_steps.specs.declared.optimising.Ended.{Ended}

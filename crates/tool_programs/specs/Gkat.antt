@@ -5,8 +5,8 @@ use Rattle.kat_model.specs.Problems.{ProblemParts, problem_size}
 use Rattle.text_scopes.specs.declared.meaning.Meaning.TheVariants.{Test, Action}
 use Rattle.text_scopes.specs.ScopeParts.{IsWellFormed}
 use Rattle.text_print.specs.Printing.{name_of}
-use Rattle.problem_texts.specs.Questions.{goal_text}
-use Rattle.problem_texts.specs.NamedTexts.{names_line}
+use Rattle.problem_file.specs.Questions.{goal_text}
+use Rattle.problem_file.specs.NamedTexts.{names_line}
 use Rattle.gkat_front.specs.Expressions.{kat_of}
 use Rattle.gkat_front.specs.Files.{GkatFileParts}
 use Rattle.gkat_front.specs.Reads.{Reads, FirstFault}

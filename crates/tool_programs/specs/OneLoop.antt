@@ -18,9 +18,9 @@ use Rattle.one_loop.specs.Forms.{IsOneForm}
 use Rattle.one_loop.specs.Sizes.{IsSmallForm}
 use Rattle.while_lang.specs.Files.{FileParts}
 use Rattle.problem_file.specs.Reads.{Reads}
-use Rattle.problem_texts.specs.ProgramNumbers.{ProgIsNarrow}
-use Rattle.problem_texts.specs.ProgramTexts.{one_program_text}
-use Rattle.problem_texts.specs.Laws.{SaysProgram}
+use Rattle.problem_file.specs.ProgramNumbers.{ProgIsNarrow}
+use Rattle.problem_file.specs.ProgramTexts.{one_program_text}
+use Rattle.problem_file.specs.TextLaws.{SaysProgram}
 use Rattle.tool_inputs.specs.TextProblem.{IsFaulty}
 use Rattle.tool_commands.specs.ProgramWords.{program_of}
 use Rattle.tool_inputs.specs.Steps.{ReplySpec, IsRefusal, ReadsText, HasUnfitWords}

@@ -2,7 +2,7 @@
 ghost use Rattle.std.specs.Prelude.{◌≡◌, ◌++◌, IfOk, OnOk};
 ghost use Rattle.text_scopes.specs.ScopeParts.{IsWellFormed};
 ghost use Rattle.text_print.specs.Printing.{name_of};
-ghost use Rattle.problem_texts.specs.NamedTexts.{names_line};
+ghost use Rattle.problem_file.specs.NamedTexts.{names_line};
 ghost use Rattle.gkat_front.specs.FileViews.{file_parts};
 ghost use Rattle.gkat_front.specs.Reads.{Reads, FirstFault};
 ghost use Rattle.tool_programs.specs.Gkat.{gkat_text, GkatHeadline, GkatReply};
@@ -13,7 +13,7 @@ ghost use Rattle.tool_inputs.specs.ReplySpecs.{Yields};
 
 use gkat_front::{GkatFile, kat_of, read_gkat};
 use kat_model::NoMemory;
-use problem_texts::put_goal;
+use problem_file::put_goal;
 use std::alloc::Global;
 use text_print::put_name;
 use text_scopes::{Meaning, Scope};

@@ -9,7 +9,7 @@ ghost use Rattle.one_loop.specs.declared.fault.OneLoopFault.TheVariants.{NoMemor
 ghost use Rattle.one_loop.specs.Forms.{IsOneForm};
 ghost use Rattle.one_loop.specs.Sizes.{IsSmallForm};
 ghost use Rattle.one_loop.specs.Variables.{HasVarsBelow};
-ghost use Rattle.problem_texts.specs.ProgramTexts.{one_program_text};
+ghost use Rattle.problem_file.specs.ProgramTexts.{one_program_text};
 ghost use Rattle.while_lang.specs.Files.{FileParts};
 ghost use Rattle.problem_file.specs.Reads.{Reads};
 ghost use Rattle.while_lang.specs.Ranges.{IsNumbered};
@@ -23,7 +23,7 @@ use crate::counter::counter_name;
 use kat_model::{NoMemory, Width};
 use kat_report::form_fault_line;
 use one_loop::{OneLoopFault, one_loop};
-use problem_texts::{declare, one_program_text};
+use problem_file::{declare, one_program_text};
 use std::alloc::Global;
 use text_scopes::{Meaning, Scope};
 use tool_commands::program_of;

@@ -2,7 +2,7 @@
 use Rattle.std.proofs.Common.{◌≡◌, ◌<◌, ◌⊎◌, ℕ, List, inl, inr, refl, sym, subst, ◌∙◌, arith}
 use Rattle.kat_model.specs.Problems.{ProblemParts}
 use Rattle.kat_model.specs.Relations.{Same}
-use Rattle.problem_texts.specs.Laws.{AsksEqual}
+use Rattle.problem_file.specs.TextLaws.{AsksEqual}
 use Rattle.problem_file.specs.FirstFaults.{too_long}
 use Rattle.flow_model.specs.Agreement.{AgreeAlways}
 use Rattle.flow_text.specs.Checking.{FlowFileParts, pair_of}

@@ -23,10 +23,10 @@ use Rattle.while_lang.specs.Programs.{ProgTree, empty, skip_then, abort_then, as
 use Rattle.while_lang.specs.ProgramSizes.{prog_size}
 use Rattle.while_print.specs.ProgramPrinting.{keyword_pieces, in_curly, stmts_pieces, block_pieces}
 use Rattle.while_lang.specs.Ranges.{IsExprInRange, IsCondInRange, IsProgInRange}
-use Rattle.problem_texts.specs.Questions.{declaration_text}
-use Rattle.problem_texts.specs.ProgramNumbers.{ExprIsNarrow, CondIsNarrow, ProgIsNarrow}
-use Rattle.problem_texts.specs.ProgramTexts.{width_text, vars_text, prog_text, equal_text, one_program_text}
-use Rattle.problem_texts.proofs.ProgramScopes.{below_64}
+use Rattle.problem_file.specs.Questions.{declaration_text}
+use Rattle.problem_file.specs.ProgramNumbers.{ExprIsNarrow, CondIsNarrow, ProgIsNarrow}
+use Rattle.problem_file.specs.ProgramTexts.{width_text, vars_text, prog_text, equal_text, one_program_text}
+use Rattle.problem_file.proofs.ProgramScopes.{below_64}
 use Rattle.tool_programs.specs.OneLoop.{pc_name, IsCounterName}
 
 -- ---- pieces

@@ -13,7 +13,7 @@ use Rattle.while_lang.specs.NamedProgs.{ProgParts}
 use Rattle.while_lang.specs.Files.{FileParts, prog_meant, prog_named}
 use Rattle.while_lang.specs.Ranges.{IsNumbered}
 use Rattle.problem_file.proofs.Numbering.{new_or_old, same_var}
-use Rattle.problem_texts.specs.ProgramTexts.{AreVarNames}
+use Rattle.problem_file.specs.ProgramTexts.{AreVarNames}
 use Rattle.tool_commands.specs.ProgramWords.{where_concrete, program_of}
 use Rattle.tool_programs.specs.OneLoop.{IsCounterName, names_with}
 use Rattle.tool_programs.specs.Working.Counters.{counter_identifier}

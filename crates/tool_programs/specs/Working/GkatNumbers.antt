@@ -28,7 +28,7 @@ use Rattle.problem_file.specs.Folds.{fold_names}
 use Rattle.problem_file.proofs.Results.{same_ok, passed}
 use Rattle.problem_file.proofs.Numbering.{empty_numbered, test_numbered, action_numbered}
 use Rattle.problem_file.proofs.InRanges.{DefinedInRange, test_of_in, cond_in}
-use Rattle.problem_texts.proofs.ProgramScopes.{kept, declared_means}
+use Rattle.problem_file.proofs.ProgramScopes.{kept, declared_means}
 use Rattle.gkat_front.specs.Expressions.{GkatTree, test, act, product, choice, loop, gkat_size, gkat_product, kat_of}
 use Rattle.gkat_front.specs.GkatMaking.{named_by, making_expr}
 use Rattle.gkat_front.specs.GkatPhrases.{Guard, GkatSymbol, expr, factors, factor, unit, GkatPhrase, one_product, two_products, one_factor, more_factors, once, repeated, zero_unit, one_unit, name_unit, guard_unit, round_unit}

@@ -10,10 +10,10 @@ use Rattle.text_scopes.specs.declared.meaning.Meaning.TheVariants.{Test, Action,
 use Rattle.text_scopes.specs.ScopeParts.{meaning, Means, IsWellFormed}
 use Rattle.text_print.specs.Printing.{name_of}
 use Rattle.text_print.proofs.NameOf.{name_stands}
-use Rattle.problem_texts.specs.Questions.{goal_text}
-use Rattle.problem_texts.specs.NamedTexts.{names_line, named_text, IsOneOf, AreNames}
-use Rattle.problem_texts.specs.Laws.{AsksEqual}
-use Rattle.problem_texts.proofs.PlainReadings.{named_reads_back}
+use Rattle.problem_file.specs.Questions.{goal_text}
+use Rattle.problem_file.specs.NamedTexts.{names_line, named_text, IsOneOf, AreNames}
+use Rattle.problem_file.specs.TextLaws.{AsksEqual}
+use Rattle.problem_file.proofs.PlainReadings.{named_reads_back}
 use Rattle.gkat_front.specs.Expressions.{kat_of}
 use Rattle.problem_file.specs.FirstFaults.{too_long, no_text}
 use Rattle.gkat_front.specs.Files.{GkatFileParts}

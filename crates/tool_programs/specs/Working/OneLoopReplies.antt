@@ -22,10 +22,10 @@ use Rattle.while_lang.specs.Files.{FileParts}
 use Rattle.while_lang.specs.Ranges.{IsCondInRange, IsProgInRange, IsNumbered}
 use Rattle.problem_file.specs.Reads.{Reads}
 use Rattle.problem_file.proofs.NumberedStates.{are_in_ranges}
-use Rattle.problem_texts.specs.ProgramNumbers.{ProgIsNarrow}
-use Rattle.problem_texts.specs.ProgramTexts.{one_program_text, IsOnePrintable}
-use Rattle.problem_texts.specs.Laws.{SaysProgram}
-use Rattle.problem_texts.proofs.ProgramReadings.{program_reads_back}
+use Rattle.problem_file.specs.ProgramNumbers.{ProgIsNarrow}
+use Rattle.problem_file.specs.ProgramTexts.{one_program_text, IsOnePrintable}
+use Rattle.problem_file.specs.TextLaws.{SaysProgram}
+use Rattle.problem_file.proofs.ProgramReadings.{program_reads_back}
 use Rattle.tool_inputs.specs.declared.reply.EarlyEnd.{EarlyEnd}
 use Rattle.kat_report.specs.InputLines.{too_long_line, words_line}
 use Rattle.tool_commands.specs.ProgramWords.{where_concrete, program_of}

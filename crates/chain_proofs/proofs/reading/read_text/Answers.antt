@@ -8,7 +8,7 @@ use Rattle.text_grammar.specs.Parsed.{Makes}
 use Rattle.text_scopes.specs.ScopeParts.{ScopeParts}
 use Rattle.chain_rules.specs.Chains.{ChainTree}
 use Rattle.problem_file.proofs.TextAnswers.{bad_told, fault_told}
-use Rattle.problem_texts.specs.NumberedScopes.{numbered_scope}
+use Rattle.problem_file.specs.NumberedScopes.{numbered_scope}
 use Rattle.chain_proofs.specs.Reads.{FirstFault, tested, Answers}
 use Rattle.chain_proofs.proofs.ReadTexts.{chain_told}
 use Rattle.chain_proofs.proofs.reading.read_text.Goals as goal

@@ -1,6 +1,6 @@
 use Rattle.std.proofs.Common.{◌≡◌, ◌++◌, map, drop}
 use Rattle.std.specs.List.{enumerate_from}
-use Rattle.problem_texts.specs.CommentedTexts.{comments_text}
+use Rattle.problem_file.specs.CommentedTexts.{comments_text}
 use Rattle.flow_tables.specs.EdgeViews.{flow_action}
 use Rattle.flow_print.specs.NameTables.{names_of}
 use Rattle.flow_print.specs.FlowTexts.{action_comment}

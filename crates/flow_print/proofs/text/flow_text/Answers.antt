@@ -1,5 +1,5 @@
 use Rattle.std.proofs.Common.{subst}
-use Rattle.problem_texts.specs.Working.Scopes.{IsPlain}
+use Rattle.problem_file.specs.Working.Scopes.{IsPlain}
 use Rattle.flow_print.proofs.text.flow_text.Goals as goal
 
 pub text_in-requires : goal.text_in-requires

@@ -1,7 +1,7 @@
 use Rattle.std.proofs.Common.{◌≡◌, ◌++◌, sym, ap}
 use Rattle.std.proofs.lemmas.Result.{on_ok_weaker}
 use Rattle.text_print.specs.Printing.{name_of}
-use Rattle.problem_texts.specs.Questions.{goal_text}
+use Rattle.problem_file.specs.Questions.{goal_text}
 use Rattle.abstraction.specs.Abstracts.{AbstractParts}
 use Rattle.kat_model.specs.Trees.{kat_tree}
 use Rattle.kat_report.proofs.WrittenParts.{shown_written}

@@ -1,5 +1,5 @@
 use Rattle.std.proofs.Common.{ap, ◌∙◌, subst}
-use Rattle.problem_texts.specs.Working.Scopes.{IsPlain}
+use Rattle.problem_file.specs.Working.Scopes.{IsPlain}
 use Rattle.abstraction.specs.Abstracts.{AbstractParts}
 use Rattle.kat_report.proofs.show.show_text.Goals as goal
 

@@ -1,6 +1,6 @@
 use Rattle.std.proofs.Common.{◌≡◌, ◌-◌, ◌++◌}
 use Rattle.text_print.specs.Printing.{name_of}
-use Rattle.problem_texts.proofs.PlainWritten.{later_names}
+use Rattle.problem_file.proofs.PlainWritten.{later_names}
 use Rattle.tool_programs.specs.Working.Kinds.{kind_meaning}
 use Rattle.tool_programs.proofs.gkat.put_names.Given as goal
 

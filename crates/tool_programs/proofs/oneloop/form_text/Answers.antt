@@ -3,7 +3,7 @@ use Rattle.std.proofs.lemmas.Result.{IfOk-weaker}
 use Rattle.text_scopes.specs.declared.meaning.Meaning.TheVariants.{Var}
 use Rattle.text_scopes.specs.ScopeParts.{ScopeParts, IsIdentifier, IsUndeclared, declared}
 use Rattle.text_print.specs.Printing.{name_of}
-use Rattle.problem_texts.specs.ProgramTexts.{one_program_text}
+use Rattle.problem_file.specs.ProgramTexts.{one_program_text}
 use Rattle.tool_programs.specs.Working.Counters.{counter_identifier}
 use Rattle.tool_programs.proofs.oneloop.form_text.Goals as goal
 

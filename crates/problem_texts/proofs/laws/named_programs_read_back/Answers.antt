@@ -1,5 +1,0 @@
-use Rattle.problem_texts.proofs.ProgramReadings.{program_reads_back}
-use Rattle.problem_texts.proofs.laws.named_programs_read_back.Goals as goal
-
-pub returns : goal.returns
-returns c names w v name p printable = program_reads_back names w v name p printable

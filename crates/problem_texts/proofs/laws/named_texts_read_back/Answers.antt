@@ -1,5 +1,0 @@
-use Rattle.problem_texts.proofs.PlainReadings.{named_reads_back}
-use Rattle.problem_texts.proofs.laws.named_texts_read_back.Goals as goal
-
-pub returns : goal.returns
-returns c names q printable = named_reads_back names q printable

@@ -1,5 +1,0 @@
-use Rattle.problem_texts.proofs.ProgramReadings.{triples_read_back}
-use Rattle.problem_texts.proofs.laws.plain_triples_read_back.Goals as goal
-
-pub returns : goal.returns
-returns c w v b p d printable = triples_read_back w v b p d printable
