@@ -4,9 +4,9 @@ ghost use Rattle.std.specs.Option.{option_map};
 ghost use Rattle.cert_checker.specs.LeastFailures.{least_of, IsBelow, IsFirstFailure};
 ghost use Rattle.cert_checker.specs.Questions.{IsPosed, MatchAt};
 
+use crate::known::TestCase;
 use crate::matching::{Outcome, outcome_of};
 use crate::question::Question;
-use crate::known::TestCase;
 use kat_model::NoMemory;
 use std::alloc::Global;
 

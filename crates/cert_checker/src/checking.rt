@@ -13,9 +13,9 @@ ghost use Rattle.cert_checker.specs.Working.Relevant.{HasFewerHyps};
 
 use crate::answer::{Answer, Reason};
 use crate::first_pairs::begins;
-use crate::places::{Place, first_place};
 use crate::index::PairIndex;
 use crate::pass::Pass;
+use crate::places::{Place, first_place};
 use crate::range::{action_out, test_out};
 use crate::relevant::asked_tests;
 use certificate::{Cert, Evidence, Style};

@@ -68,10 +68,10 @@ pub(crate) fn close_marks(tables: &Tables, marks: &mut [bool])
 
 /// Terms that steps may lead to, by number. Each has the number of its guard: the test that is true where a step leads
 /// to the term.
-pub type Targets = BTreeMap<usize, usize>;
+pub(crate) type Targets = BTreeMap<usize, usize>;
 
 /// Returns the empty product as a target, with the given guard.
-pub fn empty_product(tables: &mut Tables, guard: usize) -> Result<Targets, NoMemory>
+pub(crate) fn empty_product(tables: &mut Tables, guard: usize) -> Result<Targets, NoMemory>
     requires { IsTest tables.old guard }
     ensures targets { IfOk result (λ t. StandFor tables.new t.entries (λ atom. if holds_at tables.old guard atom then one ∷ [] else [])) }
     ensures grows { TablesGrow tables.old tables.new }
@@ -139,7 +139,7 @@ fn continued(tables: &mut Tables, first: &Targets, after: usize) -> Result<Targe
 }
 
 /// Returns the union of the targets of all members of a set, by the action or, without one, of outputs. Adds no term.
-pub fn of_set(
+pub(crate) fn of_set(
     tables: &mut Tables,
     steps: &[Targets],
     set: &[usize],
@@ -198,7 +198,7 @@ fn step(
 /// computed whole for each marked term. A certificate with a long chain of `E seq n n` has exponentially many, and one
 /// of random sums and products thousands for each node; in what `decide` writes, a node has at most as many as the
 /// closed sides have actions.
-pub fn steps(
+pub(crate) fn steps(
     tables: &mut Tables,
     accepting: &[usize],
     needed: &[bool],

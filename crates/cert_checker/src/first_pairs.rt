@@ -8,10 +8,10 @@ ghost use Rattle.cert_checker.specs.Roots.{counted_short};
 ghost use Rattle.cert_checker.specs.Answers.{Begins};
 
 use crate::cases::least_failure;
-use crate::question::{ActionPass, Question};
-use crate::pass::Pass;
-use crate::known::TestCase;
 use crate::derivatives::empty_product;
+use crate::known::TestCase;
+use crate::pass::Pass;
+use crate::question::{ActionPass, Question};
 use kat_model::NoMemory;
 
 // Whether the test is true at each allowed atom, by the pass without an action.

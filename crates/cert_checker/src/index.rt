@@ -12,7 +12,7 @@ use std::marker::Model;
 
 /// Places of pairs: those of pairs with an empty set, and for each term those of pairs with a set whose last member is
 /// the term.
-pub struct PairIndex {
+pub(crate) struct PairIndex {
     apart: Vec<usize>,
     under: BTreeMap<usize, Vec<usize>>,
 }

@@ -14,7 +14,7 @@ use std::alloc::Global;
 
 /// What is known of a truth value.
 #[derive(Clone, Copy)]
-pub enum Truth {
+pub(crate) enum Truth {
     /// It has this value for all values of the open tests.
     Known(bool),
     /// It may depend on this test, which is not decided.
@@ -23,7 +23,7 @@ pub enum Truth {
 
 /// Which primitive tests of two atoms are decided, and what is known of tests, by their numbers: at the first atom,
 /// where a move begins, and at the second, where it ends. It is correct for the tests in the lists of the question.
-pub struct TestCase {
+pub(crate) struct TestCase {
     pub decided: Vec<Option<bool>>,
     pub begin: Vec<Truth>,
     pub end: Vec<Truth>,
@@ -51,7 +51,7 @@ pub(crate) fn value_of(known: &[Truth], test: usize) -> Truth
 }
 
 /// Returns what is known of the test of a pair. Without a test the value is true.
-pub fn test_value(known: &[Truth], test: Option<usize>) -> Truth
+pub(crate) fn test_value(known: &[Truth], test: Option<usize>) -> Truth
     ensures { result ≡ known_test known.now test }
 {
     match test {

@@ -1,12 +1,13 @@
 //! The checker of evidence. It depends on no part of a prover. The crates that it shares with a prover are below both:
 //! terms and their steps (`kat_model`), the closed sides of a problem (`goal_forms`), which hypotheses are short
 //! (`hypothesis_kinds`), guarded strings and their tables (`string_tables`), nodes of terms (`term_nodes`), and
-//! certificates and their acceptance (`certificate`). Its own lower layer is `cert_questions`.
+//! certificates and their acceptance (`certificate`).
 //!
 //! The checker traverses a certificate in its own order: the ranges of its nodes, its first pair, and then, for the
 //! outputs and for each action, each pair. It checks a pair by cases on the tests of an atom and, in the style of
-//! tests, of the atom after a move. The terms that steps lead to are numbers of one table, so long chains and shared
-//! nodes cost neither stack nor the size of the trees.
+//! tests, of the atom after a move. The terms that steps lead to are numbers of one table (`Tables`), so long chains and
+//! shared nodes cost neither stack nor the size of the trees. The table has the tests that are true where a term accepts
+//! and where a step leads from it to another term (symbolic partial derivatives: Antimirov 1996; with tests Pous 2015).
 #![tactic(auto)]
 
 mod answer;
@@ -32,15 +33,4 @@ mod waiting;
 
 pub use answer::{Answer, Reason};
 pub use checking::check;
-pub use derivatives::{Targets, empty_product, of_set, steps};
-pub use index::PairIndex;
-pub use known::{TestCase, Truth, test_value};
 pub use laws::{has_one_answer, shown_is_so};
-pub use moves::{MoveStatus, move_status};
-pub use pass::{Pass, PassNumbers};
-pub use question::{ActionPass, Question};
-pub use range::{action_out, test_out};
-pub use relevant::asked_tests;
-pub use sides::{TargetSide, TargetSides, is_sure, side_of};
-pub use tables::Tables;
-pub use waiting::{waiting_guard, waiting_pair};

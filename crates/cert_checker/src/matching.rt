@@ -9,11 +9,11 @@ ghost use Rattle.cert_checker.specs.Working.Outcomes.{IsOutcome};
 ghost use Rattle.cert_checker.specs.Working.Matching.{lists, AreCovered, AreSurelyMatched};
 ghost use Rattle.cert_checker.specs.Working.Rounds.{counting_in, IsIndexed};
 
-use crate::saturation::{Counted, counts, reaches};
+use crate::known::{TestCase, Truth};
 use crate::moves::{MoveStatus, move_status};
 use crate::question::Question;
+use crate::saturation::{Counted, counts, reaches};
 use crate::sides::{TargetSides, is_sure, side_of};
-use crate::known::{TestCase, Truth};
 use crate::waiting::{waiting_guard, waiting_pair};
 use certificate::Style;
 use kat_model::NoMemory;

@@ -7,7 +7,7 @@ use crate::question::Question;
 
 /// What is known of a move that may count.
 #[derive(Clone, Copy)]
-pub enum MoveStatus {
+pub(crate) enum MoveStatus {
     /// It counts.
     Counts,
     /// Only this test decides whether some pair of tests forbids the move.
@@ -18,7 +18,7 @@ pub enum MoveStatus {
 
 /// Returns what is known of the move, or `None` if it does not count: the test of the pair is false at its beginning, or
 /// the move is forbidden.
-pub fn move_status(question: &Question, case: &TestCase) -> Option<MoveStatus>
+pub(crate) fn move_status(question: &Question, case: &TestCase) -> Option<MoveStatus>
     ensures { MatchOption result (IsTrue (is_excluded question.now case.now)) (IsMoveStatus question.now case.now) }
 {
     let action_pass = question.action_pass;

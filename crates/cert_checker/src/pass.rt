@@ -28,7 +28,7 @@ use std::marker::Model;
 
 /// The state of a pass over a certificate: its nodes and the root terms of the problem, followed by the terms that
 /// steps lead to; and its numbers.
-pub struct Pass<'a> {
+pub(crate) struct Pass<'a> {
     pub problem: &'a Problem,
     pub cert: &'a Cert,
     pub index: &'a PairIndex,
@@ -39,7 +39,7 @@ pub struct Pass<'a> {
 /// The numbers of a pass: those of the compared closed sides, of their universal term if there is one, and of the
 /// hypotheses that count as short; the tests that are true where terms accept and where a short hypothesis does; and
 /// marks of the terms whose steps are computed.
-pub struct PassNumbers {
+pub(crate) struct PassNumbers {
     pub left: usize,
     pub right: usize,
     pub universal: Option<usize>,

@@ -8,10 +8,10 @@ ghost use Rattle.cert_checker.specs.LeastFailures.{IsFirstFailure};
 ghost use Rattle.cert_checker.specs.Working.Places.{IsFirstOf, IsLeastOf, PairHolds, place_reason, turn_number};
 
 use crate::cases::least_failure;
-use crate::question::{ActionPass, Question};
-use crate::pass::Pass;
-use crate::known::TestCase;
 use crate::derivatives::of_set;
+use crate::known::TestCase;
+use crate::pass::Pass;
+use crate::question::{ActionPass, Question};
 use certificate::Pair;
 use kat_model::NoMemory;
 

@@ -10,7 +10,7 @@ use std::marker::Model;
 
 /// One pass over the pairs: the condition on each pair, on its outputs or, if there is an action, on the sets that it leads to; with the steps
 /// by the action, and the style, the pairs and the universal term for matching sets. The outputs must be the same.
-pub struct ActionPass<'a> {
+pub(crate) struct ActionPass<'a> {
     pub action: Option<usize>,
     pub steps: Vec<Targets>,
     pub style: Style,
@@ -56,7 +56,7 @@ impl<'a> Model for ActionPass<'a> {
 /// second atom. For such a move the listed pairs must match the sets that the targets stand for at the first atom. In
 /// the plain style some pair has exactly these sets; in the other styles the pairs whose test is true at the second
 /// atom make them congruent.
-pub struct Question<'a> {
+pub(crate) struct Question<'a> {
     pub tables: &'a Tables,
     pub action_pass: &'a ActionPass<'a>,
     pub pair_test: Option<usize>,

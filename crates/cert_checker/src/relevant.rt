@@ -32,7 +32,7 @@ fn asked_prims(tables: &Tables, cert: &Cert) -> Result<Vec<usize>, NoMemory>
 }
 
 /// Returns the primitive tests that the tests of pairs name. All are below `width`.
-pub fn asked_tests(alloc: Global, cert: &Cert, width: usize) -> Result<Vec<usize>, NoMemory>
+pub(crate) fn asked_tests(alloc: Global, cert: &Cert, width: usize) -> Result<Vec<usize>, NoMemory>
     requires { ArePrimsBelow width cert.now.test_nodes }
 {
     let tables = Tables::of(alloc, cert, width)?;

@@ -7,9 +7,8 @@ ghost use Rattle.cert_checker.specs.Working.Reaching.{AreReached};
 ghost use Rattle.cert_checker.specs.Working.Matching.{does_count};
 ghost use Rattle.cert_checker.specs.Working.Rounds.{AreAdded, IsBrought, GoesOn, AreTendedAt, counting_in, IsIndexed};
 
-use crate::question::{ActionPass, Question};
-
 use crate::known::{TestCase, Truth, test_value};
+use crate::question::{ActionPass, Question};
 use certificate::Pair;
 use indexmap::IndexSet;
 use kat_model::NoMemory;

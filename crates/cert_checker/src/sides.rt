@@ -10,7 +10,7 @@ use std::alloc::Global;
 /// What is known of the targets of one side of a question: the terms that are surely in its set, in ascending order;
 /// the open terms, which may be in it at an atom at which they are not in the other set; a test that the guard of an
 /// open term depends on; and a test that the guard of some target depends on.
-pub struct TargetSide {
+pub(crate) struct TargetSide {
     pub sure: Vec<usize>,
     pub alone: Vec<usize>,
     pub alone_waits: Option<usize>,
@@ -30,7 +30,7 @@ impl Drop for TargetSide {
 }
 
 /// Both sides of a question.
-pub struct TargetSides {
+pub(crate) struct TargetSides {
     pub left: TargetSide,
     pub right: TargetSide,
 }
@@ -56,7 +56,7 @@ fn has_too(targets: &Targets, term: usize, guard: usize, known: &[Truth]) -> boo
 }
 
 /// Returns what is known of the targets of one side, given those of the other.
-pub fn side_of(
+pub(crate) fn side_of(
     alloc: Global,
     targets: &Targets,
     others: &Targets,
@@ -89,7 +89,7 @@ pub fn side_of(
 }
 
 /// Whether the term is surely among the targets.
-pub fn is_sure(targets: &Targets, term: usize, known: &[Truth]) -> bool
+pub(crate) fn is_sure(targets: &Targets, term: usize, known: &[Truth]) -> bool
     ensures { result ≡ is_sure' known.now targets.now.entries term }
 {
     targets

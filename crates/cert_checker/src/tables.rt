@@ -11,7 +11,7 @@ use std::marker::Model;
 
 /// Distinct nodes: those of a certificate with their numbers, followed by the guards of steps and the terms that steps
 /// lead to. Equal terms have one number.
-pub struct Tables {
+pub(crate) struct Tables {
     alloc: Global,
     width: usize,
     tests: IndexSet<TestNode>,

@@ -14,7 +14,7 @@ fn has_surely_all(targets: &Targets, terms: &[usize], known: &[Truth]) -> bool {
 
 /// Returns an undecided test that a listed pair depends on, preferably of a pair whose sets are surely subsets of the
 /// two sets.
-pub fn waiting_pair(question: &Question, case: &TestCase) -> Option<usize>
+pub(crate) fn waiting_pair(question: &Question, case: &TestCase) -> Option<usize>
     ensures { MatchOption result (AreTestsSettled case.now.end.items question.now.action_pass.pairs) (IsWaited question.now case.now) }
 {
     let (action_pass, mut waiting) = (question.action_pass, None);
@@ -43,7 +43,11 @@ fn waiting_universal(targets: &Targets, universal: Option<usize>, known: &[Truth
 
 /// Returns an undecided test that some guard depends on: preferably that of the universal term, then that of an open
 /// term.
-pub fn waiting_guard(question: &Question, known: &[Truth], sides: &TargetSides) -> Option<usize>
+pub(crate) fn waiting_guard(
+    question: &Question,
+    known: &[Truth],
+    sides: &TargetSides,
+) -> Option<usize>
     requires { AreTargetSides known.now question.now.left question.now.right sides.now }
     ensures { MatchOption result ((sides.now.left.waits ≡ None) × (sides.now.right.waits ≡ None)) (IsWaitedByOne known.now question.now.left question.now.right) }
 {

@@ -10,8 +10,8 @@ use crate::forms::put_form;
 use crate::names::{FlowNames, put_variable, sort_width, variable_width};
 use crate::writing::{put, put_comma};
 use flow_forms::FlowForm;
-use flow_ways::SortedForm;
 use flow_tables::FlowAction;
+use flow_ways::SortedForm;
 use kat_model::NoMemory;
 use std::alloc::Global;
 

@@ -4,8 +4,8 @@ ghost use Rattle.kat_model.specs.Trees.{kat_tree};
 ghost use Rattle.flow_problem.specs.Rows.{row_tree, only_place, rows_term, rows_fit};
 
 use crate::elimination::{Row, first_step, repeated, rows_without, times};
-use crate::term_fault::TermFault;
 use crate::sizes::rows_size_without;
+use crate::term_fault::TermFault;
 use kat_model::{Kat, MAX_TERM_NODES, NoMemory};
 use std::alloc::Global;
 

@@ -13,8 +13,8 @@ use crate::fault::FlowFault;
 use crate::placed::PlacedEdges;
 use crate::rounds::with_rounds;
 use flow_forms::FlowComparison;
-use flow_tables::{FlowAction, action_rows, graph_term};
 use flow_problem::TermFault;
+use flow_tables::{FlowAction, action_rows, graph_term};
 use kat_model::Kat;
 use std::alloc::Global;
 

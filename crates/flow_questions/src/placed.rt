@@ -10,8 +10,8 @@ ghost use Rattle.flow_questions.specs.Working.Placed.{AllAre, table_edges, AreFe
 use crate::fault::FlowFault;
 use flow_model::{Block, Sort};
 use flow_problem::{live_sets, places};
-use flow_ways::WayFault;
 use flow_tables::{FlowEdge, edges_from};
+use flow_ways::WayFault;
 use kat_model::NoMemory;
 use std::alloc::Global;
 

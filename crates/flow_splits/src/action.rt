@@ -13,8 +13,8 @@ use crate::cell::{has_cell, is_same_cell};
 use crate::number::{Split, with_number};
 use flow_forms::{FlowForm, FormFault};
 use flow_model::Sort;
-use flow_ways::{SortedForm, own_form};
 use flow_tables::FlowAction;
+use flow_ways::{SortedForm, own_form};
 use kat_model::NoMemory;
 use std::alloc::Global;
 

@@ -244,7 +244,7 @@ fn evaluated_from(
 /// Returns the condition of forms that a condition is, with the sorts and the forms of the variables. Fails with
 /// `TooLarge` exactly if a form in it is too large, or too large to be multiplied out.
 #[tactic(auto, using(crate::proofs::CondForms::top_cond_is))]
-pub fn condition_form(
+pub(crate) fn condition_form(
     alloc: Global,
     sorts: &[Sort],
     forms: &[FlowForm],

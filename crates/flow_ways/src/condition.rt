@@ -69,7 +69,7 @@ impl FlowCond {
 
 /// A comparison and whether it holds.
 #[derive(Drop)]
-pub struct Known {
+pub(crate) struct Known {
     pub comparison: FlowComparison,
     pub holds: bool,
 }
@@ -97,7 +97,7 @@ fn new_either(alloc: Global, left: FlowCond, right: FlowCond) -> Result<FlowCond
 }
 
 /// Returns the condition that a literal is. Fails only when out of memory.
-pub fn of_literal(alloc: Global, literal: FlowLiteral) -> Result<FlowCond, NoMemory>
+pub(crate) fn of_literal(alloc: Global, literal: FlowLiteral) -> Result<FlowCond, NoMemory>
     ensures { IfOk result (λ c. cond_tree c ≡ cond_of_literal (literal_tree literal)) }
 {
     match literal {
@@ -108,7 +108,7 @@ pub fn of_literal(alloc: Global, literal: FlowLiteral) -> Result<FlowCond, NoMem
 }
 
 /// Whether a condition is the constant that holds.
-pub fn is_true(cond: &FlowCond) -> bool
+pub(crate) fn is_true(cond: &FlowCond) -> bool
     ensures { result ≡ is_true_cond (cond_tree cond.now) }
 {
     match cond {
@@ -118,7 +118,7 @@ pub fn is_true(cond: &FlowCond) -> bool
 }
 
 /// Whether a condition is the constant that does not hold.
-pub fn is_false(cond: &FlowCond) -> bool
+pub(crate) fn is_false(cond: &FlowCond) -> bool
     ensures { result ≡ is_false_cond (cond_tree cond.now) }
 {
     match cond {
@@ -128,7 +128,11 @@ pub fn is_false(cond: &FlowCond) -> bool
 }
 
 /// Returns the conjunction of two conditions, with truth values left out. Fails only when out of memory.
-pub fn both_conds(alloc: Global, left: FlowCond, right: FlowCond) -> Result<FlowCond, NoMemory>
+pub(crate) fn both_conds(
+    alloc: Global,
+    left: FlowCond,
+    right: FlowCond,
+) -> Result<FlowCond, NoMemory>
     ensures { IfOk result (λ c. cond_tree c ≡ both_of (cond_tree left) (cond_tree right)) }
 {
     if is_true(&left) {
@@ -147,7 +151,11 @@ pub fn both_conds(alloc: Global, left: FlowCond, right: FlowCond) -> Result<Flow
 }
 
 /// Returns the disjunction of two conditions, with truth values left out. Fails only when out of memory.
-pub fn either_cond(alloc: Global, left: FlowCond, right: FlowCond) -> Result<FlowCond, NoMemory>
+pub(crate) fn either_cond(
+    alloc: Global,
+    left: FlowCond,
+    right: FlowCond,
+) -> Result<FlowCond, NoMemory>
     ensures { IfOk result (λ c. cond_tree c ≡ either_of (cond_tree left) (cond_tree right)) }
 {
     if is_false(&left) {
@@ -173,7 +181,7 @@ fn is_same(left: &FlowComparison, right: &FlowComparison) -> bool
 
 /// Returns what the first fact of a comparison says, if there is one.
 #[cycle(value_known)]
-pub fn value_known(facts: &[Known], comparison: &FlowComparison) -> Option<bool>
+pub(crate) fn value_known(facts: &[Known], comparison: &FlowComparison) -> Option<bool>
     ensures { result ≡ known_value (map known_fact facts.now) (comparison_tree comparison.now) }
 {
     match facts {
@@ -206,7 +214,11 @@ fn known_or(
 }
 
 /// Returns a condition with the comparisons that are known decided. Fails only when out of memory.
-pub fn simplified(alloc: Global, facts: &[Known], cond: &FlowCond) -> Result<FlowCond, NoMemory>
+pub(crate) fn simplified(
+    alloc: Global,
+    facts: &[Known],
+    cond: &FlowCond,
+) -> Result<FlowCond, NoMemory>
     ensures { IfOk result (λ c. cond_tree c ≡ simplified_cond (map known_fact facts.now) (cond_tree cond.now)) }
 {
     match cond {

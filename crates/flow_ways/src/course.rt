@@ -9,11 +9,11 @@ ghost use Rattle.flow_ways.specs.Ways.{with_asked, with_forms, with_test, condit
 ghost use Rattle.flow_ways.specs.Outcomes.{values_fit, statement_fits, after_statement, statements_fit};
 ghost use Rattle.flow_ways.specs.CourseTrees.{course_tree, if_goes, IsGrown};
 
+use crate::cond_form::condition_form;
+use crate::condition::{FlowCond, Known, is_false, is_true, simplified};
 use crate::form_list::{forms_of_values, set_forms};
 use flow_forms::{FlowForm, FormFault};
 use flow_model::{CondNode, ExprNode, Sort, Statement};
-use crate::condition::{FlowCond, Known, is_false, is_true, simplified};
-use crate::cond_form::condition_form;
 use kat_model::NoMemory;
 use std::alloc::Global;
 

@@ -1,4 +1,5 @@
-//! Ways: runs of flow graphs with forms in place of values, from a place to the next.
+//! Ways: runs of flow graphs with forms in place of values, from a place to the next. They are found by symbolic execution
+//! of the blocks (King 1976): a depth-first walk with forms in place of values.
 #![tactic(auto)]
 
 mod action;
@@ -15,8 +16,7 @@ mod way;
 mod ways_found;
 
 pub use action::action_of;
-pub use cond_form::condition_form;
-pub use condition::{FlowCond, Known, both_conds, either_cond, is_false, is_true, of_literal, simplified, value_known};
+pub use condition::FlowCond;
 pub use fault::WayFault;
 pub use form_list::push_form;
 pub use laws::{actions_are_runs, runs_go_by_live_variables, ways_are_runs};

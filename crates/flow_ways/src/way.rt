@@ -9,6 +9,7 @@ ghost use Rattle.flow_ways.specs.Outcomes.{aborted, one_way, values_fit, placed_
 ghost use Rattle.flow_ways.specs.CourseTrees.{course_tree};
 ghost use Rattle.flow_ways.specs.WayTrees.{sorted_form, way_tree, Adds, HasReason};
 
+use crate::condition::FlowCond;
 use crate::course::{Course, push_cond};
 use crate::fault::WayFault;
 use crate::form_list::push_form;
@@ -16,7 +17,6 @@ use crate::found::Found;
 use crate::limits::MAX_WAYS;
 use flow_forms::{FlowForm, FormFault, expression_form};
 use flow_model::{ExprNode, Sort};
-use crate::condition::FlowCond;
 use kat_model::NoMemory;
 use std::alloc::Global;
 

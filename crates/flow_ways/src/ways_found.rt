@@ -8,6 +8,7 @@ ghost use Rattle.flow_ways.specs.CourseTrees.{course_tree, IsGrown};
 ghost use Rattle.flow_ways.specs.WayTrees.{way_tree, Adds, HasReason};
 ghost use Rattle.flow_ways.specs.declared.limits.TheConstants.{MAX_WAYS};
 
+use crate::condition::FlowCond;
 use crate::course::{
     Course, ask, condition_on, count_facts, count_tests, cut_facts, cut_tests, run_statements,
 };
@@ -16,7 +17,6 @@ use crate::found::Found;
 use crate::own::own_forms;
 use crate::way::{Way, copy_forms, count_aborted, end_at_place, end_with_results};
 use flow_model::{Block, Jump, Sort};
-use crate::condition::FlowCond;
 use kat_model::NoMemory;
 use std::alloc::Global;
 

@@ -10,12 +10,12 @@ ghost use Rattle.walk_pairs.specs.Allowance.{action_count, IsAllowance, IsWithin
 
 use crate::asking::bars_of;
 use crate::bars::Bars;
+use crate::outputs::true_atom;
 use kat_model::NoMemory;
 use partial_derivs::Derivatives;
 use std::alloc::Global;
 use term_store::{Store, TermId};
 use test_diagrams::{DiagramId, Diagrams};
-use crate::outputs::true_atom;
 
 /// The diagram of the allowed atoms, and for each action the bars that block moves.
 pub struct AllowedMoves {

@@ -4,11 +4,11 @@ ghost use Rattle.kat_model.specs.Members.{Has};
 ghost use Rattle.test_diagrams.specs.Functions.{DiagramsParts, IsDiagramId, IsAtomOf, IsIndependent, KeepsFunctions};
 ghost use Rattle.walk_pairs.specs.Bars.{IsForgotten, IsSplit, IsImageOf, AreAtomsPast, AreSources, AreBars, AreImages, AreSoundBars};
 
+use crate::outputs::and_not;
 use indexmap::IndexMap;
 use kat_model::NoMemory;
 use std::alloc::Global;
 use test_diagrams::{DiagramId, Diagrams};
-use crate::outputs::and_not;
 
 /// A bar: no move leads from an atom of `from` to an atom of `to`.
 pub(crate) struct Bar {

@@ -9,12 +9,12 @@ ghost use Rattle.walk_pairs.specs.Listings.{IsWithoutPair, IsFreshPart, IsWith, 
 
 use crate::entry::Entry;
 use crate::entry_list::EntryList;
+use crate::outputs::and_not;
 use crate::reaching::{mark_all, reached_at, saturate};
 use kat_model::NoMemory;
 use std::alloc::Global;
 use term_store::TermId;
 use test_diagrams::{DiagramId, Diagrams};
-use crate::outputs::and_not;
 
 /// The pairs that a walk has listed, the id of the universal term if the store has it, and the number of ids in the
 /// store; the ids of the pairs are below it.

@@ -10,12 +10,12 @@ ghost use Rattle.walk_pairs.specs.Merging.{AreAtomsOf, IsMergedPair, IsEarlierAl
 use crate::entry::Entry;
 use crate::entry_list::EntryList;
 use crate::listing::{alike_entries, has_sets};
+use crate::pair::StoredPair;
 use crate::test_table::TestTable;
 use kat_model::{Items, NoMemory};
 use std::alloc::Global;
 use term_store::{Store, TermId, TestId};
 use test_diagrams::{DiagramId, Diagrams};
-use crate::pair::StoredPair;
 
 // Returns the atoms of the diagram `id`, together with those of `entry` if it has these sets.
 fn with_atoms(

@@ -21,7 +21,7 @@ pub(crate) type Terms = IndexSet<TermId>;
 pub(crate) type Tests = IndexSet<TestId>;
 
 /// Adds the terms to the set.
-pub fn add_all(set: &mut BTreeSet<TermId>, terms: &[TermId]) -> Result<(), NoMemory>
+pub(crate) fn add_all(set: &mut BTreeSet<TermId>, terms: &[TermId]) -> Result<(), NoMemory>
     ensures added { OnOk result (AddsAll set.old.keys set.new.keys terms.now) }
     ensures kept { IsSubset set.old.keys set.new.keys }
 {

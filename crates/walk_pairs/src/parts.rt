@@ -11,12 +11,12 @@ ghost use Rattle.walk_pairs.specs.declared.items.Side.TheVariants.{Left as OnLef
 ghost use Rattle.walk_pairs.specs.Reaching.{IsPartOf};
 ghost use Rattle.walk_pairs.specs.Parts.{with_if, IsRegionWhere, IsPart, AreParts, HavePartIds, HasPartAt, IsCase, TellsApart};
 
+use crate::items::Item;
+use crate::outputs::{and_not, difference};
 use kat_model::NoMemory;
 use std::alloc::Global;
 use term_store::TermId;
 use test_diagrams::{DiagramId, Diagrams};
-use crate::items::Item;
-use crate::outputs::{and_not, difference};
 
 /// Some atoms, and the terms to which an action leads from each of them, on the left and on the right. The terms are in
 /// ascending order.

@@ -23,7 +23,7 @@ const PAIR_LIMIT: usize = 2_000;
 
 /// A short hypothesis, its id, and the tests and actions that occur in it.
 #[derive(Drop)]
-pub struct ShortHyp {
+pub(crate) struct ShortHyp {
     pub hyp: Kat,
     pub term: TermId,
     pub tests: Vec<bool>,
@@ -88,7 +88,7 @@ fn short_hyp(
 }
 
 /// Returns the short hypotheses of the problem, in their order.
-pub fn short_hyps(
+pub(crate) fn short_hyps(
     alloc: Global,
     store: &mut Store,
     problem: &Problem,
@@ -108,7 +108,7 @@ pub fn short_hyps(
 }
 
 /// Returns for each hypothesis whether it counts in the first walk: if no test occurs in it.
-pub fn first_counts(alloc: Global, hyps: &[ShortHyp]) -> Result<Vec<bool>, NoMemory>
+pub(crate) fn first_counts(alloc: Global, hyps: &[ShortHyp]) -> Result<Vec<bool>, NoMemory>
     ensures { IfOk result (λ v. length v.items ≡ length hyps.now) }
 {
     let mut counts = Vec::new(alloc);
@@ -119,7 +119,7 @@ pub fn first_counts(alloc: Global, hyps: &[ShortHyp]) -> Result<Vec<bool>, NoMem
 }
 
 /// Returns the ids of the hypotheses that count.
-pub fn counted_ids(
+pub(crate) fn counted_ids(
     alloc: Global,
     hyps: &[ShortHyp],
     counts: &[bool],
@@ -138,7 +138,7 @@ pub fn counted_ids(
 }
 
 /// Returns the maximal number of pairs of a walk, if there is one: if some hypothesis does not count.
-pub fn limit_of(counts: &[bool]) -> Option<usize>
+pub(crate) fn limit_of(counts: &[bool]) -> Option<usize>
     ensures { IfSome result (λ n. 0 < uncounted counts.now) }
 {
     for counted in counts {
@@ -204,7 +204,7 @@ fn is_broken(hyp: &ShortHyp, counted: bool, string: &GString) -> bool
 }
 
 /// Returns the places of the hypotheses that do not count and that the string breaks.
-pub fn broken_by(
+pub(crate) fn broken_by(
     alloc: Global,
     hyps: &[ShortHyp],
     counts: &[bool],
@@ -224,14 +224,14 @@ pub fn broken_by(
 }
 
 /// Whether there is a place.
-pub fn has_some(places: &[usize]) -> bool
+pub(crate) fn has_some(places: &[usize]) -> bool
     ensures { IsTrue result ↔ 0 < length places.now }
 {
     places.len() > 0
 }
 
 /// Makes all hypotheses count.
-pub fn count_all(counts: &mut [bool])
+pub(crate) fn count_all(counts: &mut [bool])
     requires { 0 < uncounted counts.old }
     ensures fewer { uncounted counts.new < uncounted counts.old }
     ensures kept { StillCount counts.old counts.new }
@@ -249,7 +249,7 @@ fn count_of(flags: &[bool]) -> usize {
 }
 
 /// Sets the flags of the tests that occur in the hypothesis.
-pub fn mark_tests(hyp: &ShortHyp, flags: &mut [bool]) {
+pub(crate) fn mark_tests(hyp: &ShortHyp, flags: &mut [bool]) {
     for (test, occurs) in hyp.tests.iter().enumerate() {
         if *occurs {
             mark(flags, test);
@@ -343,7 +343,7 @@ fn count_like(hyps: &[ShortHyp], counts: &mut [bool], place: usize)
 }
 
 /// Makes at least one of the broken hypotheses count. What counted still counts.
-pub fn count_next(
+pub(crate) fn count_next(
     alloc: Global,
     hyps: &[ShortHyp],
     counts: &mut [bool],

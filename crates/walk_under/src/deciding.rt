@@ -18,11 +18,14 @@ ghost use Rattle.walk_under.specs.Counting.{uncounted, AreShortHyps, StillCount}
 ghost use Rattle.walk_under.specs.Working.Counting.{IsCountedList, IsFoundUnder, HasEnded, IsOutcome, MayBegin, IsTurnEnd};
 ghost use Rattle.walk_under.specs.Working.Walking.{walk_context, AreClosedIds, IsUnderWay, IsDifference};
 
+use crate::counting::{
+    ShortHyp, broken_by, count_all, count_next, counted_ids, first_counts, has_some, limit_of,
+    short_hyps,
+};
 use crate::smoothing::smoothed;
 use crate::walk::{FoundDifference, FoundString, RunEnd, TestedWorklist};
 use certificate::{Evidence, Style};
 use goal_forms::eliminate;
-use crate::counting::{ShortHyp, broken_by, count_all, count_next, counted_ids, first_counts, has_some, limit_of, short_hyps};
 use hypothesis_kinds::{is_short, long_problem};
 use kat_model::{NoMemory, Problem};
 use std::alloc::Global;

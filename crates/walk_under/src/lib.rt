@@ -1,4 +1,4 @@
-//! The walk over pairs under tests.
+//! The walk over pairs under tests, and which of the short hypotheses of a problem count in it.
 #![tactic(auto)]
 
 mod counting;
@@ -7,6 +7,5 @@ mod laws;
 mod smoothing;
 mod walk;
 
-pub use counting::{ShortHyp, broken_by, count_all, count_next, counted_ids, first_counts, has_some, limit_of, mark_tests, short_hyps};
 pub use deciding::{decide_under, is_same_under};
 pub use laws::{ended_walks_are_accepted, merged_pairs_are_few, walk_goes_on, walks_are_few};

@@ -4,8 +4,8 @@ ghost use Rattle.std.specs.Prelude.{◌≡◌, ◌⊎◌, ℕ};
 ghost use Rattle.kat_model.specs.Members.{Has};
 ghost use Rattle.test_diagrams.specs.Functions.{IsDiagramId};
 
-use crate::walk::FoundString;
 use crate::counting::{ShortHyp, mark_tests};
+use crate::walk::FoundString;
 use hypothesis_kinds::{accepts_atom, accepts_move};
 use kat_model::{Items, MAX_TESTS, NoMemory};
 use std::alloc::Global;

@@ -25,7 +25,11 @@ use std::mem;
 use string_tables::{GString, Move};
 use term_store::{Store, TermId};
 use test_diagrams::{DiagramId, Diagrams};
-use walk_pairs::{AllowedMoves, BothSteps, ClosedIds, Entry, EntryList, Item, Listing, Part, StepOrigin, StoredPair, TargetSets, actions_in_order, difference, differing_atom, differing_part, items_of, listed_atoms, merged_pairs, parts_of, place_with, unlisted_part};
+use walk_pairs::{
+    AllowedMoves, BothSteps, ClosedIds, Entry, EntryList, Item, Listing, Part, StepOrigin,
+    StoredPair, TargetSets, actions_in_order, difference, differing_atom, differing_part, items_of,
+    listed_atoms, merged_pairs, parts_of, place_with, unlisted_part,
+};
 
 /// The state of a walk: the listed pairs, the allowed moves, and the derivatives of terms with their diagrams.
 pub(crate) struct TestedWorklist {

@@ -7,16 +7,16 @@ ghost use Rattle.walk_up_to.specs.Working.IdWalks.{Visits, VisitsInTurn, PassesL
 ghost use Rattle.walk_up_to.specs.declared.stop.EarlyStop.TheVariants.{PairLimit, CostLimit};
 ghost use Rattle.walk_pairs.specs.declared.items.Side.TheVariants.{Left as OnLeft, Right as OnRight};
 
+use crate::cases::{Case, case_with, is_lighter, least_atom};
+use crate::cover::{is_covered, sure_targets};
+use crate::listed::ListedPairs;
+use crate::mark_set::MarkSet;
+use crate::pair::{ListedPair, StepOrigin};
+use crate::splitting::next_test;
+use crate::stop::EarlyStop;
 use kat_model::{Items, NoMemory};
 use std::alloc::Global;
 use test_diagrams::Diagrams;
-use crate::cases::{Case, case_with, is_lighter, least_atom};
-use crate::stop::EarlyStop;
-use crate::pair::{ListedPair, StepOrigin};
-use crate::listed::ListedPairs;
-use crate::mark_set::MarkSet;
-use crate::cover::{is_covered, sure_targets};
-use crate::splitting::next_test;
 use walk_pairs::{Ends, Item, Side, ends_of};
 
 /// The steps from the listed pair at `place` by the action `act`.

@@ -11,7 +11,7 @@ use test_diagrams::{DiagramId, Diagrams};
 use walk_pairs::{Ends, Item};
 
 /// A case: the decided tests, and the items that remain.
-pub struct Case {
+pub(crate) struct Case {
     pub decided: Vec<Option<bool>>,
     pub items: Vec<Item>,
 }
@@ -93,7 +93,7 @@ fn items_with(
 }
 
 /// Returns the case with an additional test decided.
-pub fn case_with(
+pub(crate) fn case_with(
     alloc: Global,
     diagrams: &mut Diagrams,
     ends: &Ends,
@@ -115,7 +115,7 @@ pub fn case_with(
 }
 
 /// Returns the least atom with the values of the decided tests.
-pub fn least_atom(alloc: Global, decided: &[Option<bool>]) -> Result<Vec<bool>, NoMemory>
+pub(crate) fn least_atom(alloc: Global, decided: &[Option<bool>]) -> Result<Vec<bool>, NoMemory>
     ensures { IfOk result (λ v. v.items ≡ least_of decided.now) }
 {
     let mut atom = Vec::new(alloc);
@@ -165,6 +165,6 @@ fn weight_of(ends: &Ends, items: &[Item]) -> Weight {
 }
 
 /// Whether `high` has smaller sets than `low`. If so, it comes first: its pairs can make larger sets congruent.
-pub fn is_lighter(ends: &Ends, low: &Case, high: &Case) -> bool {
+pub(crate) fn is_lighter(ends: &Ends, low: &Case, high: &Case) -> bool {
     weight_of(ends, &high.items).is_below(weight_of(ends, &low.items))
 }

@@ -13,7 +13,7 @@ use term_store::TermId;
 use walk_pairs::{Ends, Item, Side, guard_across, guard_on};
 
 /// Returns the targets that are surely in the side's set, in ascending order.
-pub fn sure_targets(
+pub(crate) fn sure_targets(
     alloc: Global,
     ends: &Ends,
     items: &[Item],
@@ -95,7 +95,7 @@ fn is_covered_on(
 /// congruent at each atom with the decided tests. At a leaf, at which all relevant tests are decided, this is whether
 /// the sets are congruent. The universal term on one side suffices for that side: if each side reaches its targets or
 /// the universal term, the saturated sets are equal or both have it.
-pub fn is_covered(
+pub(crate) fn is_covered(
     alloc: Global,
     marked: &mut MarkSet,
     listed: &ListedPairs,

@@ -13,6 +13,8 @@ ghost use Rattle.walk_up_to.specs.StoredSides.{HasSides};
 ghost use Rattle.walk_up_to.specs.Working.Walking.{IsUnderWay};
 ghost use Rattle.walk_up_to.specs.declared.stop.EarlyStop.TheVariants.{PairLimit, CostLimit};
 
+use crate::pair::stored_pairs_of;
+use crate::stop::EarlyStop;
 use crate::string::string_to;
 use crate::worklist::Worklist;
 use certificate::{Evidence, Style};
@@ -20,8 +22,6 @@ use goal_forms::eliminate;
 use kat_model::{NoMemory, Problem};
 use std::alloc::Global;
 use term_store::Store;
-use crate::stop::EarlyStop;
-use crate::pair::stored_pairs_of;
 use walk_pairs::{cert_of, closed_ids};
 
 // Returns a walk of the problem over the store that has listed the pair of the closed sides.

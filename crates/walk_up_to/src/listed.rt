@@ -13,7 +13,7 @@ use term_store::TermId;
 
 /// The listed pairs in order, a mark for each term in them, their index, the universal term, if there is one, and the
 /// limit on the number of pairs, if there is one. All ids are below the count.
-pub struct ListedPairs {
+pub(crate) struct ListedPairs {
     pairs: Vec<ListedPair>,
     members: Vec<bool>,
     index: PairIndex,

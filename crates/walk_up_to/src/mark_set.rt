@@ -22,7 +22,7 @@ const CASE_COST: usize = 50;
 
 /// The marks, the marked terms, for each id the number of queries whose set had its term, as far as counted, and the
 /// cost of the walk so far.
-pub struct MarkSet {
+pub(crate) struct MarkSet {
     marks: Vec<bool>,
     terms: Vec<TermId>,
     uses: Vec<usize>,

@@ -10,7 +10,7 @@ use walk_pairs::{Side, StoredPair};
 
 /// A step from a listed pair: the place of the pair, and the atom and the action of the step.
 #[derive(Drop)]
-pub struct StepOrigin {
+pub(crate) struct StepOrigin {
     pub place: usize,
     pub atom: Items<bool>,
     pub act: usize,
@@ -26,7 +26,7 @@ impl Model for StepOrigin {
 
 /// A pair of sets of terms, and the step that led to it. The ids of each set are in ascending order. The first pair of
 /// a walk has no origin.
-pub struct ListedPair {
+pub(crate) struct ListedPair {
     pub left: Items<TermId>,
     pub right: Items<TermId>,
     pub origin: Option<StepOrigin>,
@@ -105,7 +105,10 @@ fn stored_pair_of(alloc: Global, pair: &ListedPair) -> Result<StoredPair, NoMemo
 }
 
 /// Returns the listed pairs as pairs of a certificate, without tests.
-pub fn stored_pairs_of(alloc: Global, pairs: &[ListedPair]) -> Result<Vec<StoredPair>, NoMemory>
+pub(crate) fn stored_pairs_of(
+    alloc: Global,
+    pairs: &[ListedPair],
+) -> Result<Vec<StoredPair>, NoMemory>
     ensures { IfOk result (λ v. v.items ≡ map untested_of pairs.now) }
 {
     let mut list = Vec::new(alloc);

@@ -65,7 +65,11 @@ fn any_test(diagrams: &Diagrams, items: &[Item]) -> Option<usize>
 /// Returns the test to decide next, if some guard depends on one: first a test of the guards of the universal term,
 /// then a test of guards in which the sides differ, then any test. Any choice is correct; this order keeps the number
 /// of cases small.
-pub fn next_test(universal: Option<TermId>, diagrams: &Diagrams, items: &[Item]) -> Option<usize>
+pub(crate) fn next_test(
+    universal: Option<TermId>,
+    diagrams: &Diagrams,
+    items: &[Item],
+) -> Option<usize>
     requires { AreItems diagrams.now items.now }
     ensures { MatchOption result (AreConstant diagrams.now items.now) (IsNextTest diagrams.now items.now) }
 {

@@ -3,11 +3,11 @@ ghost use Rattle.std.specs.Prelude.{◌≡◌, ◌<◌, [], ℕ, List, length, s
 ghost use Rattle.walk_up_to.specs.Walks.{StepOrigin as StepOrigin', after_trail};
 ghost use Rattle.walk_up_to.specs.Listings.{AreTraced, LeadsBack, origin_of};
 
+use crate::pair::{ListedPair, StepOrigin};
 use kat_model::{Items, NoMemory};
 use std::alloc::Global;
 use std::mem;
 use string_tables::{GString, Move};
-use crate::pair::{ListedPair, StepOrigin};
 
 // Returns the step that led to the pair at `place`, if there is one.
 fn origin_at(pairs: &[ListedPair], place: usize) -> Option<&StepOrigin>

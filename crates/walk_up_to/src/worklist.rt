@@ -14,15 +14,15 @@ ghost use Rattle.walk_up_to.specs.declared.stop.EarlyStop.TheVariants.{PairLimit
 ghost use Rattle.walk_up_to.specs.Working.Walking.{IsUnderWay, AreStepsAt, HasStepIds, IsExpanded, IsDifference};
 
 use crate::branching::{StepSource, visit_all};
+use crate::listed::ListedPairs;
+use crate::mark_set::MarkSet;
+use crate::pair::ListedPair;
+use crate::stop::EarlyStop;
 use kat_model::{Items, NoMemory, Problem};
 use partial_derivs::Derivatives;
 use std::alloc::Global;
 use term_store::{Store, TermId};
 use test_diagrams::Diagrams;
-use crate::stop::EarlyStop;
-use crate::pair::ListedPair;
-use crate::listed::ListedPairs;
-use crate::mark_set::MarkSet;
 use walk_pairs::{BothSteps, Difference, actions_in_order, differing_atom, items_of};
 
 /// The state of a walk: the listed pairs, and the derivatives of terms with their diagrams.
