@@ -1,16 +1,17 @@
 -- A certificate under tests that is accepted for a problem with fewer short hypotheses is accepted. The loop that finds
 -- such a problem.
-use Rattle.std.proofs.Common.{◌≡◌, ◌<◌, ℕ, suc, ⊎_elim, List, [], ◌∷◌, ◌++◌, map, drop, length, get_or, Bool, true, false, cond, Option, Some, None, is_some, not, refl, sym, ap, ◌∙◌, subst, append_assoc, drop-cons}
+use Rattle.std.proofs.Common.{◌≡◌, ◌<◌, ◌≤◌, ℕ, suc, Result, Ok, Err, ⊎_elim, List, [], ◌∷◌, ◌++◌, map, drop, length, get_or, Bool, true, false, cond, Option, Some, None, is_some, not, refl, sym, ap, ◌∙◌, subst, append_assoc, append-nil, drop-cons}
 use Rattle.std.specs.List.{filter}
-use Rattle.std.specs.Option.{MatchOption}
+use Rattle.std.specs.Option.{MatchOption, IfSome}
+use Rattle.std.specs.Result.{IfOk, result_ok}
 use Rattle.std.proofs.lemmas.Bool.{true≢false}
-use Rattle.std.proofs.lemmas.List.{map-append}
+use Rattle.std.proofs.lemmas.List.{map-append, drop_all}
 use Rattle.std.proofs.lemmas.List.Elements.{filter-append}
 use Rattle.std.proofs.lemmas.Option.{slice_get_read}
 use Rattle.kat_model.specs.declared.tree.Kat.{Kat}
 use Rattle.kat_model.specs.Trees.{Term, kat_tree}
 use Rattle.kat_model.specs.Members.{Has, IsSubset}
-use Rattle.kat_model.specs.Problems.{ProblemParts}
+use Rattle.kat_model.specs.Problems.{ProblemParts, problem_parts}
 use Rattle.kat_model.specs.Degrees.{is_short, is_long, short_hyps, long_hyps, with_hyps}
 use Rattle.kat_model.specs.TestedPairs.{AreAcceptedUnder}
 use Rattle.kat_model.proofs.Filters.{has_filter, filter_has}
@@ -90,3 +91,24 @@ module _ (kept hyps : List Kat) (i : ℕ) (x : Kat) (before : AreKept (map kat_t
     longs = ap (λ l. filter is_long (map kat_tree kept) ++ l) (sym (split ∙ ap (λ b. cond b (kat_tree x ∷ filter is_long (map kat_tree (drop (suc i) hyps))) (filter is_long (map kat_tree (drop (suc i) hyps)))) short)) ∙ before.longs;
     within = before.within;
   }
+
+-- when the loop ends, the kept hypotheses are fewer
+pub fewer_at_end : (q p : ProblemParts) (kept hyps : List Kat) (i tests actions : ℕ) (left right : Kat) → AreKept (map kat_tree kept) (map kat_tree (drop i hyps)) (map kat_tree hyps) → length hyps ≤ i
+    → map kat_tree hyps ≡ q.hyps → tests ≡ q.tests → actions ≡ q.actions → kat_tree left ≡ q.left → kat_tree right ≡ q.right → p ≡ problem_parts tests actions kept left right → HasFewerHyps q p
+fewer_at_end q p kept hyps i tests actions left right keeps over all t a l r made = record {
+  hyps = map kat_tree kept;
+  is = made ∙ (λ j. record { tests = t j; actions = a j; hyps = map kat_tree kept; left = l j; right = r j });
+  longs = ap (λ (z : ProblemParts). filter is_long z.hyps) made ∙ done ∙ ap (filter is_long) all;
+  fewer = subst (IsSubset (map kat_tree kept)) all keeps.within;
+}
+  where
+    done : filter is_long (map kat_tree kept) ≡ filter is_long (map kat_tree hyps)
+    done =
+        sym (append-nil (filter is_long (map kat_tree kept)))
+        ∙ ap (λ l. filter is_long (map kat_tree kept) ++ filter is_long (map kat_tree l)) (sym (drop_all i hyps over))
+        ∙ keeps.longs
+
+-- what holds of a result holds of the value that it gives
+pub some_of_ok : {P E : Type 0} (r : Result P E) (A B : P → Type 0) → ((p : P) → A p → B p) → IfOk r A → IfSome (result_ok r) B
+some_of_ok (Ok p) A B f h = f p h
+some_of_ok (Err e) A B f h = tt

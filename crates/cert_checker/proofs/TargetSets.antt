@@ -1,5 +1,5 @@
 -- Lists of targets: what they stand for after the tables grow, and after a target is added.
-use Rattle.std.proofs.Common.{◌≡◌, ℕ, ◌⊎◌, inl, inr, ⊎_elim, List, [], ◌∷◌, ◌++◌, refl, sym, ap, ◌∙◌, subst, Bool, true, false, ◌||◌, cond, Some}
+use Rattle.std.proofs.Common.{◌≡◌, ℕ, ◌⊎◌, inl, inr, ⊎_elim, List, [], ◌∷◌, ◌++◌, refl, sym, ap, ◌∙◌, subst, Bool, true, false, ◌||◌, cond, Some, append-nil}
 use mathlib.Core.Path.{ap₂}
 use Rattle.std.specs.declared.cmp.Ordering.{Ordering}
 use Rattle.std.specs.Option.{option_map_or}
@@ -9,7 +9,7 @@ use Rattle.std.specs.BTreeMap.{insert_entry}
 use Rattle.std.proofs.lemmas.Map.Lookups.{exact_unsigned}
 use Rattle.std.proofs.lemmas.Bool.{or_cases, or_left, or_right}
 use Rattle.kat_model.specs.Trees.{Term}
-use Rattle.kat_model.specs.Members.{Has}
+use Rattle.kat_model.specs.Members.{Has, SameMembers}
 use Rattle.kat_model.specs.Steps.{Atom, truth}
 use Rattle.kat_model.proofs.Lists.{has_left, has_right, has_append}
 use Rattle.cert_checker.specs.NodeTables.{TableParts, AreTables, TablesGrow, IsTest, IsTerm, term_at, holds_at}
@@ -146,3 +146,11 @@ module _ (old new : TableParts) (are : AreTables old) (grows : TablesGrow old ne
           by_guard : (b : Bool) → holds_at old guard atom ≡ b → Has (cond b (term_at old k ∷ []) []) x → Has (chosen new (insert_entry nat_cmp es k joined) atom) x
           by_guard true e m = ⊎_elim (λ s. subst (Has (chosen new (insert_entry nat_cmp es k joined) atom)) s (chosen_added atom (or_right (option_map_or (λ o. holds_at old o atom) (guard_of es k) false) _ e))) absurd m
           by_guard false e m = absurd m
+
+-- under a guard that is never true nothing is added
+pub never_stands : (t : TableParts) (es : List (ℕ × ℕ)) (guard : ℕ) (more : Atom → List Term) → AreEntries t es → ((atom : Atom) → holds_at t guard atom ≡ false) → StandFor t es (λ atom. chosen t es atom ++ cond (holds_at t guard atom) (more atom) [])
+never_stands t es guard more own never = record {
+  entries = own;
+  same = λ atom. subst (λ b. SameMembers (chosen t es atom) (chosen t es atom ++ cond b (more atom) [])) (sym (never atom))
+      (subst (SameMembers (chosen t es atom)) (sym (append-nil (chosen t es atom))) (λ x. ((λ h. h), (λ h. h))));
+}

@@ -76,7 +76,8 @@ fn fewer_hyps(alloc: Global, problem: &Problem, cert: &Cert) -> Result<Option<Pr
             hyps.push(hyp.copy(alloc)?)?;
         }
     }
-    let (left, right) = (problem.left().copy(alloc)?, problem.right().copy(alloc)?);
+    let left = problem.left().copy(alloc)?;
+    let right = problem.right().copy(alloc)?;
     Ok(Problem::new(problem.tests(), problem.actions(), hyps, left, right).ok())
 }
 

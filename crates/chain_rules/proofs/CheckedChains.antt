@@ -1,12 +1,15 @@
 -- What the results of the check mean.
-use Rattle.std.proofs.Common.{arith, ◌≡◌, ◌≢◌, ℕ, ◌↔◌, Bool, true, false, nat_eq, refl, sym, ◌∙◌}
+use Rattle.std.proofs.Common.{arith, ◌≡◌, ◌≢◌, ℕ, ◌↔◌, Bool, true, false, nat_eq, Result, Ok, Err, refl, sym, ◌∙◌}
+use mathlib.Core.Path.{ap₂}
 use Rattle.std.specs.Bool.{IsTrue}
+use Rattle.std.specs.Result.{IfOk}
 use Rattle.kat_model.specs.Trees.{Term, is_test}
-use Rattle.kat_model.specs.Steps.{out}
+use Rattle.kat_model.specs.Steps.{Atom, out}
 use Rattle.kat_model.specs.Problems.{ProblemParts}
 use Rattle.kat_model.specs.Relations.{Same}
-use Rattle.test_diagrams.specs.Functions.{DiagramsParts, IsDiagramOf}
+use Rattle.test_diagrams.specs.Functions.{DiagramsParts, value_of, IsDiagramOf, KeepsFunctions}
 use Rattle.test_diagrams.specs.Reduced.{IsReduced}
+use Rattle.test_diagrams.proofs.Kept.{IsDiagramOf-kept}
 use Rattle.test_diagrams.proofs.Apart.{same_id_same_function, same_function_same_id}
 use Rattle.chain_rules.specs.Chains.{ChainTree, equation}
 use Rattle.chain_rules.specs.Axioms.{AreEqualTests}
@@ -38,3 +41,11 @@ equal_ids tests d i j e f same reduced of_e of_f is_e is_f = (
 pub ids_compared : {X : Type 0} (i j : ℕ) (same : Bool) → same ≡ nat_eq i j → (i ≡ j) ↔ X → IsTrue same ↔ X
 ids_compared i j true is f = ((λ h. f.0 (grind (arith, is))), (λ x. refl))
 ids_compared i j false is f = ((λ h. absurd cc), (λ x. absurd (let other : i ≢ j = grind (arith, is) in other (f.1 x))))
+
+-- an operation on two functions, of which the second was computed after the first
+pub tail_joined : {E : Type 0} (op : Bool → Bool → Bool) (d1 d2 d3 : DiagramsParts) (a b : ℕ) (r : Result ℕ E) (f g : Atom → Bool) → KeepsFunctions d1 d2 → KeepsFunctions d2 d3 → IsDiagramOf d1 a f → IsDiagramOf d2 b g
+    → IfOk r (λ id. IsDiagramOf d3 id (λ x. op (value_of d2 a x) (value_of d2 b x))) → IfOk r (λ id. IsDiagramOf d3 id (λ x. op (f x) (g x)))
+tail_joined op d1 d2 d3 a b (Ok id) f g k2 k3 da db is =
+    let first = IsDiagramOf-kept d1 d2 k2 a f da in
+    record { in_range = is.in_range; value = λ x fits. is.value x fits ∙ ap₂ op (first.value x (fits ∙ k3.tests)) (db.value x (fits ∙ k3.tests)) }
+tail_joined op d1 d2 d3 a b (Err e) f g k2 k3 da db is = tt

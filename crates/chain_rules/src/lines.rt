@@ -114,8 +114,7 @@ fn is_instance_either_way(
     if is_instance(alloc, problem, rule, premise, x, y)? {
         return Ok(true);
     }
-    let back = is_instance(alloc, problem, rule, premise, y, x)?;
-    Ok(back)
+    is_instance(alloc, problem, rule, premise, y, x)
 }
 
 /// Whether the line holds after the term `before`.

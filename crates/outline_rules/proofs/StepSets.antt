@@ -1,5 +1,6 @@
 -- Diagrams over twice as many tests, as functions of two atoms.
 use Rattle.std.proofs.Common.{◌≡◌, ℕ, ◌+◌, length, get_or, Bool, true, false, not, ◌&&◌, ◌||◌, cond, Result, Ok, Err, refl, sym, ap, ◌∙◌}
+use mathlib.Core.Path.{ap₂}
 use Rattle.std.proofs.Math.ListN.{set}
 use Rattle.std.specs.Result.{IfOk}
 use Rattle.kat_model.specs.Steps.{Atom}
@@ -57,6 +58,18 @@ pub tail_same : {E : Type 0} (r : Result ℕ E) (d : StepDiagramsParts) (f g : A
     → ((x y : Atom) → length x ≡ d.tests → length y ≡ d.tests → f x y ≡ g x y) → IfOk r (λ id. IsStepDiagram d id g)
 tail_same (Ok id) d f g is same = IsStepDiagram-same d id f g is same
 tail_same (Err e) d f g is same = tt
+
+-- the complement of a function
+pub tail_complement : {E : Type 0} (s1 s2 : StepDiagramsParts) (a : ℕ) (r : Result ℕ E) (f : Atom → Atom → Bool) → KeepsSteps s1 s2 → IsStepDiagram s1 a f
+    → IfOk r (λ id. IsStepDiagram s2 id (λ x y. not (step_value s1 a x y))) → IfOk r (λ id. IsStepDiagram s2 id (λ x y. not (f x y)))
+tail_complement s1 s2 a r f kept da is = tail_same r s2 _ _ is (λ x y lx ly. ap not (da.value x y (lx ∙ kept.tests) (ly ∙ kept.tests)))
+
+-- an operation on two functions, of which the second was computed after the first
+pub tail_joined : {E : Type 0} (op : Bool → Bool → Bool) (s1 s2 s3 : StepDiagramsParts) (a b : ℕ) (r : Result ℕ E) (f g : Atom → Atom → Bool) → KeepsSteps s1 s2 → KeepsSteps s2 s3 → IsStepDiagram s1 a f → IsStepDiagram s2 b g
+    → IfOk r (λ id. IsStepDiagram s3 id (λ x y. op (step_value s2 a x y) (step_value s2 b x y))) → IfOk r (λ id. IsStepDiagram s3 id (λ x y. op (f x y) (g x y)))
+tail_joined op s1 s2 s3 a b r f g k2 k3 da db is =
+    let first = IsStepDiagram-kept s1 s2 k2 a f da in
+    tail_same r s3 _ _ is (λ x y lx ly. ap₂ op (first.value x y (lx ∙ k3.tests) (ly ∙ k3.tests)) (db.value x y (lx ∙ k3.tests) (ly ∙ k3.tests)))
 
 -- the value of the copy of a test, and an atom with another value there
 pub copy_value : (moment : Moment) (test j : ℕ) (x y : Atom) → length x ≡ length y → j ≡ copy_number test moment → get_or (interleaved x y) j false ≡ get_or (atom_at_moment moment x y) test false

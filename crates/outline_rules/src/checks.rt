@@ -3,8 +3,8 @@ ghost use Rattle.std.specs.Prelude.{◌≡◌, [], ◌∷◌, ◌++◌, suc, map
 ghost use Rattle.while_lang.specs.Flows.{with_stmt, empty};
 ghost use Rattle.while_lang.specs.FlowViews.{flow_stmt};
 ghost use Rattle.outline_rules.specs.Places.{last_place};
-ghost use Rattle.outline_rules.specs.Follows.{conditions_from};
-ghost use Rattle.outline_rules.specs.Working.Checks.{condition_of, place_after, conditions_of_stmt};
+ghost use Rattle.outline_rules.specs.Follows.{implies, leads, conditions_from};
+ghost use Rattle.outline_rules.specs.Working.Checks.{guard_tree, condition_of, place_after, conditions_of_stmt};
 
 use kat_model::{NoMemory, Test};
 use while_lang::{Flow, Flows};
@@ -38,6 +38,34 @@ fn push_check<'a>(checks: &mut Vec<Check<'a>>, check: Check<'a>) -> Result<(), N
     Ok(checks.push(check)?)
 }
 
+// Appends the check that the note at `from` and the guard imply the note at the place after `previous`, and returns that
+// place.
+fn push_implied<'a>(
+    checks: &mut Vec<Check<'a>>,
+    from: usize,
+    guard: Guard<'a>,
+    previous: usize,
+) -> Result<usize, NoMemory>
+    ensures place { IfOk result (λ to. to ≡ suc previous) }
+    ensures checks { OnOk result (map condition_of checks.new.items
+        ≡ map condition_of checks.old.items ++ implies from (guard_tree guard.entry) (suc previous) ∷ []) }
+{
+    let to = next_place(previous)?;
+    push_check(checks, Check::Implies(from, guard, to))?;
+    Ok(to)
+}
+
+// Appends the check that the action leads from the note at `from` to the note at the next place, and returns that place.
+fn push_led(checks: &mut Vec<Check<'_>>, from: usize, action: usize) -> Result<usize, NoMemory>
+    ensures place { IfOk result (λ to. to ≡ suc from) }
+    ensures checks { OnOk result (map condition_of checks.new.items
+        ≡ map condition_of checks.old.items ++ leads from action (suc from) ∷ []) }
+{
+    let to = next_place(from)?;
+    push_check(checks, Check::Leads(from, action, to))?;
+    Ok(to)
+}
+
 // Appends the checks of a statement that begins at `place`, and returns the place after it.
 #[cycle(checks)]
 fn push_stmt_checks<'a>(
@@ -49,41 +77,25 @@ fn push_stmt_checks<'a>(
     ensures checks { OnOk result (map condition_of checks.new.items
         ≡ map condition_of checks.old.items ++ conditions_of_stmt (flow_stmt stmt.now) place) }
 {
-    let next = next_place(place)?;
     match stmt {
-        Flow::Skip => {
-            push_check(checks, Check::Implies(place, Guard::Always, next))?;
-            Ok(next)
-        }
-        Flow::Abort => Ok(next),
-        Flow::Assert(b) => {
-            push_check(checks, Check::Implies(place, Guard::Holds(b), next))?;
-            Ok(next)
-        }
-        Flow::Act(a) => {
-            push_check(checks, Check::Leads(place, *a, next))?;
-            Ok(next)
-        }
+        Flow::Skip => push_implied(checks, place, Guard::Always, place),
+        Flow::Abort => next_place(place),
+        Flow::Assert(b) => push_implied(checks, place, Guard::Holds(b), place),
+        Flow::Act(a) => push_led(checks, place, *a),
         Flow::If(b, f, g) => {
-            push_check(checks, Check::Implies(place, Guard::Holds(b), next))?;
-            let first_end = push_checks(checks, f, next)?;
-            let second = next_place(first_end)?;
-            push_check(checks, Check::Implies(place, Guard::Fails(b), second))?;
+            let first = push_implied(checks, place, Guard::Holds(b), place)?;
+            let first_end = push_checks(checks, f, first)?;
+            let second = push_implied(checks, place, Guard::Fails(b), first_end)?;
             let second_end = push_checks(checks, g, second)?;
-            let after = next_place(second_end)?;
-            push_check(checks, Check::Implies(first_end, Guard::Always, after))?;
-            push_check(checks, Check::Implies(second_end, Guard::Always, after))?;
-            Ok(after)
+            push_implied(checks, first_end, Guard::Always, second_end)?;
+            push_implied(checks, second_end, Guard::Always, second_end)
         }
         Flow::While(b, f) => {
-            push_check(checks, Check::Implies(place, Guard::Always, next))?;
-            let body = next_place(next)?;
-            push_check(checks, Check::Implies(next, Guard::Holds(b), body))?;
+            let invariant = push_implied(checks, place, Guard::Always, place)?;
+            let body = push_implied(checks, invariant, Guard::Holds(b), invariant)?;
             let body_end = push_checks(checks, f, body)?;
-            let after = next_place(body_end)?;
-            push_check(checks, Check::Implies(body_end, Guard::Always, next))?;
-            push_check(checks, Check::Implies(next, Guard::Fails(b), after))?;
-            Ok(after)
+            push_check(checks, Check::Implies(body_end, Guard::Always, invariant))?;
+            push_implied(checks, invariant, Guard::Fails(b), body_end)
         }
     }
 }

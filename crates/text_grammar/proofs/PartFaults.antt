@@ -1,5 +1,5 @@
 -- The results of a function that reads: a fault of one of its parts is its own fault.
-use Rattle.std.proofs.Common.{◌≡◌, ◌<◌, ◌≤◌, ℕ, List, drop, [], ◌∷◌, Bool, true, false, cond, Result, Ok, Err, ap, refl, ◌∙◌}
+use Rattle.std.proofs.Common.{◌≡◌, ◌+◌, ◌<◌, ◌≤◌, ℕ, List, drop, [], ◌∷◌, Bool, true, false, cond, Result, Ok, Err, IfOk, ap, refl, ◌∙◌, arith}
 use Rattle.std.specs.Result.{IsErrAnd}
 use Rattle.std.proofs.lemmas.Result.{err_from_is_err_and}
 use Rattle.text_tokens.specs.declared.fault.TextFault.{TextFault}
@@ -16,6 +16,13 @@ EndsWith r e = IsErrAnd r (λ f. f ≡ e)
 
 ended : {V : Type 0} (r : Result V TextFault) (e : TextFault) → EndsWith r e → r ≡ Err e
 ended r e ends = let answer = err_from_is_err_and r ends in answer.1 ∙ ap (λ (f : TextFault). Err f) answer.2
+
+-- a fault comes with no index
+at_fault_goes : {V : Type 0} (from count : ℕ) (r : Result (V × ℕ) TextFault) (e : TextFault) → r ≡ Err e → Goes from count r
+at_fault_goes from count r e is = rw (is) tt
+
+pub fault_goes : {V : Type 0} (from count : ℕ) (r : Result (V × ℕ) TextFault) (e : TextFault) → EndsWith r e → Goes from count r
+fault_goes from count r e ends = at_fault_goes from count r e (ended r e ends)
 
 at_fault_read : {V U W X : Type 0} (memory : Type 0) (means : V → W) (whole : U → X) (ts : List Lexeme) (e : TextFault) (s : Parsed W) (m : Parsed X) → Reads memory means ts (Err e) s → (s ≡ Err e → m ≡ Err e) → Reads memory whole ts (Err e) m
 at_fault_read memory means whole ts NoMemory s m h fails = h
@@ -68,7 +75,16 @@ pub end_goes : {V : Type 0} (from count end : ℕ) (r : Result (V × ℕ) TextFa
 end_goes from count end r (Ok v) is more within = rw is (more, within)
 end_goes from count end r (Err e) is more within = rw is tt
 
+-- a part that begins after the first token
+pub goes_later : {V : Type 0} (from count : ℕ) (r : Result (V × ℕ) TextFault) → Goes (from + 1) count r → Goes from count r
+goes_later from count (Ok x) h = (omega (arith, h.0), h.1)
+goes_later from count (Err e) h = tt
+
 -- a value in parentheses, with the index after the closing one
+pub closed_goes : {V : Type 0} (from count end : ℕ) (r : Result (V × ℕ) TextFault) → from < end → IfOk r (λ x. (x.1 ≡ end + 1) × (end < count)) → Goes from count r
+closed_goes from count end (Ok x) more h = (omega (arith, h.0, more), omega (arith, h.0, h.1))
+closed_goes from count end (Err e) more h = tt
+
 pub closed_same : {V W : Type 0} (means : V → W) (r : V) (v : W) (w : Result (List Lexeme) TextFault) → means r ≡ v → change means (w >>= λ us. Ok (r, us)) ≡ (w >>= λ us. Ok (v, us))
 closed_same means r v (Ok us) is = rw is refl
 closed_same means r v (Err e) is = refl

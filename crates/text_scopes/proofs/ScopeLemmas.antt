@@ -68,3 +68,14 @@ pub world_pushed : (names : Meanings) (ds : List Defined) (name : List ℕ) (d :
 world_pushed names ds name d n count old identifier =
     let number : n ≡ length (map definition_of ds) = count ∙ sym (length-map ds definition_of) in
     rw (number, map_push definition_of ds d) (world_defined (record { meanings = names; terms = map definition_of ds }) name (definition_of d) old identifier)
+
+pub defined_pushed : (names : Meanings) (ds : List Defined) (name : List ℕ) (d : Defined) (n : ℕ) (w : ScopeParts) → n ≡ length ds → record { meanings = names; terms = map definition_of ds } ≡ w
+    → record { meanings = insert names name (Term n); terms = map definition_of (ds ++ d ∷ []) } ≡ defined w name (definition_of d)
+defined_pushed names ds name d n w count same =
+    let number : n ≡ length (map definition_of ds) = count ∙ sym (length-map ds definition_of) in
+    rw (number, map_push definition_of ds d) (ap (λ (v : ScopeParts). defined v name (definition_of d)) same)
+
+pub next_pushed : (names : Meanings) (ds : List Defined) (n : ℕ) → n ≡ length ds → IsWellFormed (record { meanings = names; terms = map definition_of ds }) → IsUnnamed (record { meanings = names; terms = map definition_of ds }) (Term n)
+next_pushed names ds n count world =
+    let number : n ≡ length (map definition_of ds) = count ∙ sym (length-map ds definition_of) in
+    subst (λ (k : ℕ). IsUnnamed (record { meanings = names; terms = map definition_of ds }) (Term k)) (sym number) (next_unnamed (record { meanings = names; terms = map definition_of ds }) world)

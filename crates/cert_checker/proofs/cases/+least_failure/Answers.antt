@@ -52,6 +52,22 @@ returns-then-le-clause-failure t c =
     let le : at_most most (least_of ds) ≡ true = subst (λ l. at_most most l ≡ true) (c.in_ok-least_values.ensures ∙ ap least_of c.deref.ensures.value) (sym c.le.ensures ∙ c.if-le.true) in
     rw c.in-Some.is (none_below (MatchAt c.args.question.now.tables c.args.question.now) ds (Some most) (at_most_not_less most (least_of ds) le))
 
+pub outcome_of-requires-clause-case : goal.outcome_of-requires-clause-case
+outcome_of-requires-clause-case t c = c.in_ok-evaluate.ensures.known
+
+pub returns-in-Holds-clause-failure : goal.returns-in-Holds-clause-failure
+returns-in-Holds-clause-failure t c =
+    let ds = c.args.case.now.decided.items in
+    let P = MatchAt c.args.question.now.tables c.args.question.now in
+    let holds = subst (IsOutcome P ds) c.in-Holds.is (state t (goal.at.returns-in-Holds-clause-failure t c).In_ok-outcome_of) in
+    λ atom h _. holds atom h
+
+pub returns-in-Holds-clause-decided : goal.returns-in-Holds-clause-decided
+returns-in-Holds-clause-decided t c = kept t (goal.at.returns-in-Holds-clause-decided t c).In_ok-outcome_of
+
+pub returns-in-Fails-clause-decided : goal.returns-in-Fails-clause-decided
+returns-in-Fails-clause-decided t c = kept t (goal.at.returns-in-Fails-clause-decided t c).In_ok-outcome_of
+
 pub returns-in-Fails-clause-failure : goal.returns-in-Fails-clause-failure
 returns-in-Fails-clause-failure t c =
     let ds = c.args.case.now.decided.items in

@@ -1,5 +1,9 @@
-use Rattle.std.proofs.Common.{not, sym, ap, ◌∙◌, arith, add-one}
-use Rattle.cert_checker.proofs.FewerHyps.{kept_more, kept_same}
+use Rattle.std.proofs.Common.{List, map, not, refl, sym, ap, ◌∙◌, subst, arith, add-one}
+use Rattle.std.specs.Option.{IfSome}
+use Rattle.kat_model.specs.declared.tree.Kat.{Kat}
+use Rattle.kat_model.specs.Trees.{kat_tree}
+use Rattle.cert_checker.specs.Working.Relevant.{HasFewerHyps}
+use Rattle.cert_checker.proofs.FewerHyps.{AreKept, kept_more, kept_same, fewer_at_end, some_of_ok}
 use Rattle.cert_checker.proofs.checking.fewer_hyps.Goals as goal
 use Rattle.cert_checker.proofs.checking.fewer_hyps.Goals.{then-not-is_short+in_ok-copy+in_ok-push, else-not-is_short+else-asks_only}
 
@@ -17,3 +21,20 @@ loop-hyp-preserved c =
           rw (add-one, w.hyps-is)
           (kept_same kept items i x c.loop-hyp.invariant (omega arith) c.hyp-item.is (ap not (sym c.is_short.ensures ∙ w.if-not-is_short.false)))
     ]
+
+pub loop-hyp-init : goal.loop-hyp-init
+loop-hyp-init c =
+    let all = map kat_tree c.hyps-hyp-items.result.now in
+    subst (λ (l : List Kat). AreKept (map kat_tree l) all all) (sym c.new-hyps.ensures.items) (record { longs = refl; within = λ h m. absurd m })
+
+pub returns : goal.returns
+returns c =
+    let q = c.args.problem.now in
+    let kept = c.loop-hyp.hyps.items in
+    let items = c.hyps-hyp-items.result.now in
+    let left = c.in_ok-left.left in
+    let right = c.in_ok-right.right in
+    subst (λ o. IfSome o (HasFewerHyps q)) (sym c.ok.ensures.value)
+    (some_of_ok c.new.result _ _
+    (λ p made. fewer_at_end q p kept items c.loop-hyp.hyp-index c.tests-2.result c.actions.result left right c.loop-hyp.invariant c.loop-hyp-test.false c.hyps-hyp-items.ensures.value c.tests-2.ensures.value c.actions.ensures.value (c.in_ok-left.ensures ∙ c.left.ensures.value) (c.in_ok-right.ensures ∙ c.right.ensures.value) made)
+    c.new.ensures.made)

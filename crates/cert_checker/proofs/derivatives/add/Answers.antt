@@ -1,11 +1,12 @@
 use Rattle.std.proofs.Common.{◌≡◌, inl, inr, ℕ, Option, Some, None, false, ◌||◌, refl, sym, ap, ◌∙◌, subst, cond, [], ◌∷◌, ◌++◌}
 use Rattle.std.specs.Option.{option_copied, option_map_or}
-use Rattle.kat_model.specs.Steps.{Atom}
-use Rattle.cert_checker.specs.NodeTables.{TableParts, TestsGrow, IsTest, term_at, holds_at}
+use Rattle.kat_model.specs.Steps.{Atom, truth}
+use Rattle.term_nodes.specs.NodeTrees.{test_tree_in}
+use Rattle.cert_checker.specs.NodeTables.{TableParts, TestsGrow, IsTest, nodes_in, term_at, holds_at}
 use Rattle.cert_checker.specs.Targets.{StandFor, chosen, guard_of}
 use Rattle.cert_checker.proofs.ChosenTargets.{guard_member}
 use Rattle.cert_checker.proofs.GrowingTables.{tests_itself}
-use Rattle.cert_checker.proofs.TargetSets.{added_stands}
+use Rattle.cert_checker.proofs.TargetSets.{added_stands, never_stands}
 use Rattle.cert_checker.proofs.derivatives.add.Goals as goal
 use Rattle.cert_checker.proofs.derivatives.add.Goals.{in-Some+in_ok-joined-in-Some, in-None}
 
@@ -54,3 +55,18 @@ returns-clause-grows c =
       | in-Some+in_ok-joined-in-Some w ↦ rw w.tables-is w.either.ensures.grows
       | in-None w ↦ rw w.tables-is (tests_itself c.args.tables.now c.test_node.ensures.tables)
     ]
+
+-- ---- under a guard that is never true
+
+pub returns-in-False-clause-added : goal.returns-in-False-clause-added
+returns-in-False-clause-added c =
+    let t = c.args.tables.now in
+    never_stands t c.args.to.now.entries c.args.guard (λ atom. term_at t c.args.term ∷ []) (λ e h. c.requires e (inr h)) (λ atom. ap (λ b. truth b atom) (c.test_node.ensures.tree ∙ ap (test_tree_in (nodes_in t)) c.in-False.is))
+
+pub returns-in-False-clause-grows : goal.returns-in-False-clause-grows
+returns-in-False-clause-grows c = tests_itself c.args.tables.now c.test_node.ensures.tables
+
+-- ---- what calls require
+
+pub either-requires-clause-second : goal.either-requires-clause-second
+either-requires-clause-second c = (c.requires (c.args.term, c.args.guard) (inl refl)).1

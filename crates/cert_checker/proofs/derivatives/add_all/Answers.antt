@@ -1,9 +1,13 @@
-use Rattle.std.proofs.Common.{◌≡◌, ℕ, List, ◌∷◌, inl, refl, subst}
+use Rattle.std.proofs.Common.{◌≡◌, ℕ, List, ◌∷◌, inl, refl, ap, ◌∙◌, subst}
 use Rattle.std.specs.Map.Iter.{deref_pair}
 use Rattle.std.proofs.lemmas.Map.Iter.{rest_more}
+use Rattle.kat_model.specs.Steps.{truth}
+use Rattle.term_nodes.specs.NodeTrees.{test_tree_in}
+use Rattle.cert_checker.specs.NodeTables.{nodes_in}
+use Rattle.cert_checker.specs.Targets.{chosen}
 use Rattle.cert_checker.proofs.AddingTargets.{IsAdding, adding_more}
-use Rattle.cert_checker.proofs.TargetSets.{test_within, term_within, entries_kept, entry_added}
-use Rattle.cert_checker.proofs.GrowingTables.{tests_trans}
+use Rattle.cert_checker.proofs.TargetSets.{test_within, term_within, entries_kept, entry_added, never_stands}
+use Rattle.cert_checker.proofs.GrowingTables.{tests_itself, tests_trans}
 use Rattle.cert_checker.proofs.derivatives.add_all.Goals as goal
 
 pub both-requires-clause-second : goal.both-requires-clause-second
@@ -37,3 +41,13 @@ pub returns-in_err-add-clause-grows : goal.returns-in_err-add-clause-grows
 returns-in_err-add-clause-grows c =
     tests_trans c.args.tables.now c.loop-term.tables c.add.new.tables c.loop-term.invariant.grows
     (tests_trans c.loop-term.tables c.both.new.self c.add.new.tables c.both.ensures.grows c.add.ensures.grows)
+
+-- ---- under a guard that is never true
+
+pub returns-in-False-clause-added : goal.returns-in-False-clause-added
+returns-in-False-clause-added c =
+    let t = c.args.tables.now in
+    never_stands t c.args.targets.now.entries c.args.guard (chosen t c.args.more.now.entries) c.requires.entries (λ atom. ap (λ b. truth b atom) (c.test_node.ensures.tree ∙ ap (test_tree_in (nodes_in t)) c.in-False.is))
+
+pub returns-in-False-clause-grows : goal.returns-in-False-clause-grows
+returns-in-False-clause-grows c = tests_itself c.args.tables.now c.test_node.ensures.tables

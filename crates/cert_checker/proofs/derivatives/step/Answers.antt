@@ -1,4 +1,4 @@
-use Rattle.std.proofs.Common.{◌≡◌, ◌<◌, ℕ, List, Option, Some, inl, inr, refl, [], ◌∷◌, length, map, ap, ◌∙◌, sym, subst, arith}
+use Rattle.std.proofs.Common.{◌≡◌, ◌<◌, ℕ, List, Option, Some, inl, inr, refl, [], ◌∷◌, length, map, ap, ◌∙◌, sym, subst, cond, arith}
 use Rattle.std.proofs.lemmas.Option.{slice_get_within}
 use Rattle.std.proofs.lemmas.Result.{IfOk-weaker}
 use Rattle.kat_model.specs.Members.{Has}
@@ -6,7 +6,7 @@ use Rattle.term_nodes.specs.declared.TermNode.TheVariants.{Sum}
 use Rattle.term_nodes.specs.Nodes.{IsOver, term_parts}
 use Rattle.kat_model.specs.Steps.{next}
 use Rattle.term_nodes.specs.NodeTrees.{tree_in}
-use Rattle.kat_model.specs.Trees.{Term}
+use Rattle.kat_model.specs.Trees.{Term, one}
 use Rattle.cert_checker.specs.NodeTables.{TableParts, nodes_in, term_at}
 use Rattle.cert_checker.specs.Marks.{IsPart}
 use Rattle.cert_checker.specs.Targets.{StandFor, AreSteps, leads_to}
@@ -138,6 +138,16 @@ returns-in_ok-always-in-Act-clause-grows c = grows_trans c.args.tables.now c.con
 
 pub bounds-accepting-term : goal.bounds-accepting-term
 bounds-accepting-term c = c.requires.count
+
+pub returns-in_default-clause-targets : goal.returns-in_default-clause-targets
+returns-in_default-clause-targets c =
+    let t = c.args.tables.now in
+    let new = c.empty_product.new.tables in
+    let n = length c.args.earlier.now in
+    let accepts = accept_at t c.args.accepting.now n c.requires.accepting c.requires.count in
+    IfOk-weaker c.empty_product.result _ _
+    (λ made s. subst (λ o. StandFor new made.entries (leads_to o (term_at t n))) (sym c.in_default.is) (subst (λ (P : Type 0). P) (λ i. StandFor new made.entries (λ atom. cond (accepts.1 atom i) (one ∷ []) [])) s))
+    c.empty_product.ensures.targets
 
 pub empty_product-requires : goal.empty_product-requires
 empty_product-requires c = (accept_at c.args.tables.now c.args.accepting.now (length c.args.earlier.now) c.requires.accepting c.requires.count).0

@@ -31,3 +31,17 @@ loop-test-preserved c =
 
 pub returns-clause-known : goal.returns-clause-known
 returns-clause-known c = evaluating_ends c.args.first c.args.tables.now c.args.decided.now c.args.asked.now c.loop-test.test-index c.args.known.now c.loop-test.known c.loop-test-test.false c.loop-test.invariant
+
+pub returns-clause-others : goal.returns-clause-others
+returns-clause-others c = c.loop-test.invariant.others
+
+pub returns-clause-room : goal.returns-clause-room
+returns-clause-room c = c.loop-test.invariant.room
+
+pub known_in-requires-clause-narrow : goal.known_in-requires-clause-narrow
+known_in-requires-clause-narrow c = omega (arith, c.requires.narrow, c.requires.decided)
+
+pub bounds-known-test : goal.bounds-known-test
+bounds-known-test c =
+    let there : get_or c.args.asked.now c.loop-test.test-index 0 < length c.args.tables.now.tests = (c.requires.asked _ _ (slice_get-get_or c.args.asked.now c.loop-test.test-index 0 c.loop-test-test.true)).0 in
+    omega (arith, there, c.requires.room, c.loop-test.invariant.room)

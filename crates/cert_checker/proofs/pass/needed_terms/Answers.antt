@@ -82,3 +82,20 @@ returns-clause-needed c =
     let made = subst (λ (l : List Bool). IsClosure t l new) c.deref_mut-2.ensures.value c.close_marks.ensures in
     subst (AreNeeded t cert c.args.shorts.now) (sym (written_back c.loop-pair.marks.len new marks same))
     (gathered_ends t cert c.args.shorts.now c.loop-pair.pair-index marks new (omega (arith, c.loop-pair-test.false, ap length c.pairs-pair-items.ensures.value)) c.loop-pair.invariant.gathered made)
+
+-- ---- how many marks there are
+
+pub mark_all-requires : goal.mark_all-requires
+mark_all-requires c =
+    let same : length c.args.tables.now.terms ≡ length c.deref_mut.result.now = omega (arith, c.deref_mut.ensures.len, c.in_ok-marks.ensures.len, c.term_count.ensures.value) in
+    subst (λ n. IsTrue (are_below n c.args.shorts.now)) same c.requires.shorts
+
+pub close_marks-requires : goal.close_marks-requires
+close_marks-requires c = omega (arith, ap length c.deref_mut-2.ensures.value, c.loop-pair.invariant.count)
+
+pub returns-clause-count : goal.returns-clause-count
+returns-clause-count c =
+    let new = c.close_marks.new.marks in
+    let same : length new ≡ c.loop-pair.marks.len = omega (arith, c.close_marks.auto.marks, c.deref_mut-2.ensures.len) in
+    let all : length new ≡ length c.args.tables.now.terms = omega (arith, c.close_marks.auto.marks, ap length c.deref_mut-2.ensures.value, c.loop-pair.invariant.count) in
+    ap length (written_back c.loop-pair.marks.len new c.loop-pair.marks.items same) ∙ all

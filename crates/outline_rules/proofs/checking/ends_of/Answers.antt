@@ -1,12 +1,31 @@
 use Rattle.std.proofs.Common.{◌∙◌}
 use Rattle.std.proofs.lemmas.Result.{IfOk-weaker}
-use Rattle.outline_rules.proofs.StepSets.{KeepsSteps-trans}
+use Rattle.outline_rules.proofs.StepSets.{IsStepId-kept, KeepsSteps-trans}
 use Rattle.outline_rules.proofs.HypothesisRanges.{problem_hyps, ruled_out_by}
 use Rattle.outline_rules.proofs.Entailments.{ends_are}
 use Rattle.outline_rules.proofs.checking.ends_of.Goals as goal
 
 pub ruled_out_steps-requires : goal.ruled_out_steps-requires
 ruled_out_steps-requires c = record { in_range = problem_hyps c.args.problem.now c.hyps.result.now c.args.diagrams.now.tests c.hyps.ensures.within c.hyps.ensures.value c.requires.tests }
+
+pub and-requires-clause-left : goal.and-requires-clause-left
+and-requires-clause-left c = IsStepId-kept _ _ (KeepsSteps-trans _ _ _ c.in_ok-ruled_out.ensures.kept c.in_ok-free.ensures.kept) _ c.requires.allowed
+
+pub and-requires-clause-right : goal.and-requires-clause-right
+and-requires-clause-right c = IsStepId-kept _ _ (KeepsSteps-trans _ _ _ c.in_ok-ruled_out.ensures.kept c.in_ok-free.ensures.kept) _ c.requires.from
+
+pub and-requires-2-clause-right : goal.and-requires-2-clause-right
+and-requires-2-clause-right c = IsStepId-kept _ _ c.in_ok-there.ensures.kept _ c.in_ok-free.ensures.function.in_range
+
+pub returns-in_err-free-clause-kept : goal.returns-in_err-free-clause-kept
+returns-in_err-free-clause-kept c = KeepsSteps-trans _ _ _ c.in_ok-ruled_out.ensures.kept c.in_err-free.ensures.kept
+
+pub returns-in_err-there-clause-kept : goal.returns-in_err-there-clause-kept
+returns-in_err-there-clause-kept c = KeepsSteps-trans _ _ _ c.in_ok-ruled_out.ensures.kept (KeepsSteps-trans _ _ _ c.in_ok-free.ensures.kept c.in_err-there.ensures.kept)
+
+pub returns-in_err-steps-clause-kept : goal.returns-in_err-steps-clause-kept
+returns-in_err-steps-clause-kept c =
+    KeepsSteps-trans _ _ _ c.in_ok-ruled_out.ensures.kept (KeepsSteps-trans _ _ _ c.in_ok-free.ensures.kept (KeepsSteps-trans _ _ _ c.in_ok-there.ensures.kept c.in_err-steps.ensures.kept))
 
 pub returns-clause-ends : goal.returns-clause-ends
 returns-clause-ends c =

@@ -2,7 +2,7 @@ use Rattle.std.proofs.Common.{◌∙◌, true}
 use Rattle.kat_model.specs.Trees.{test_tree}
 use Rattle.kat_model.specs.Steps.{Atom, truth}
 use Rattle.outline_rules.specs.declared.moments.Moment.TheVariants.{Before}
-use Rattle.outline_rules.proofs.StepSets.{IsStepDiagram-kept}
+use Rattle.outline_rules.proofs.StepSets.{IsStepId-kept, IsStepDiagram-kept, KeepsSteps-trans}
 use Rattle.outline_rules.specs.NoteLists.{note_holds}
 use Rattle.hypothesis_kinds.specs.HypothesisForms.{allows}
 use Rattle.outline_rules.proofs.NodeSets.{sets_kept}
@@ -11,6 +11,12 @@ use Rattle.outline_rules.proofs.checking.is_end_met.Goals as goal
 
 pub implies-requires-clause-from : goal.implies-requires-clause-from
 implies-requires-clause-from c = (c.note_set-last.ensures Before (sets_kept c.args.diagrams.now c.of_test.new.self Before c.in_ok-post.ensures.kept _ _ c.requires.before.nodes)).in_range
+
+pub implies-requires-clause-allowed : goal.implies-requires-clause-allowed
+implies-requires-clause-allowed c = IsStepId-kept _ _ c.in_ok-post.ensures.kept _ c.requires.before.allowed.in_range
+
+pub returns-clause-kept : goal.returns-clause-kept
+returns-clause-kept c = KeepsSteps-trans _ _ _ c.in_ok-post.ensures.kept c.implies.ensures.kept
 
 pub returns-clause-met : goal.returns-clause-met
 returns-clause-met c =

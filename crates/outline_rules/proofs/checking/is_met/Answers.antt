@@ -1,7 +1,7 @@
 use Rattle.std.proofs.Common.{◌∙◌}
 use Rattle.kat_model.specs.Steps.{Atom, truth}
 use Rattle.outline_rules.specs.declared.moments.Moment.TheVariants.{Before}
-use Rattle.outline_rules.proofs.StepSets.{IsStepDiagram-kept}
+use Rattle.outline_rules.proofs.StepSets.{IsStepId-kept, IsStepDiagram-kept, KeepsSteps-trans}
 use Rattle.outline_rules.specs.NoteLists.{note_holds}
 use Rattle.hypothesis_kinds.specs.HypothesisForms.{allows}
 use Rattle.outline_rules.specs.Working.Checks.{guard_tree}
@@ -25,6 +25,21 @@ pub implies-requires-in-Leads-clause-from : goal.implies-requires-in-Leads-claus
 implies-requires-in-Leads-clause-from c =
     let q = c.args.problem.now in
     (c.in_ok-ends-in-Leads.ensures.ends (allows q.hyps) (note_holds c.args.notes.now c.in-Leads.from) c.requires.before.allowed (c.note_set-from-in-Leads.ensures Before c.requires.before.nodes)).in_range
+
+pub implies-requires-clause-allowed : goal.implies-requires-clause-allowed
+implies-requires-clause-allowed c = IsStepId-kept _ _ c.in_ok-guard-in-Implies.ensures.kept _ c.requires.before.allowed.in_range
+
+pub implies-requires-in-Leads-clause-allowed : goal.implies-requires-in-Leads-clause-allowed
+implies-requires-in-Leads-clause-allowed c = IsStepId-kept _ _ c.in_ok-ends-in-Leads.ensures.kept _ c.requires.before.allowed.in_range
+
+pub implies-requires-in-Leads-clause-guard : goal.implies-requires-in-Leads-clause-guard
+implies-requires-in-Leads-clause-guard c = IsStepId-kept _ _ c.in_ok-ends-in-Leads.ensures.kept _ c.constant-always.ensures.function.in_range
+
+pub returns-in_ok-guard-in-Implies-clause-kept : goal.returns-in_ok-guard-in-Implies-clause-kept
+returns-in_ok-guard-in-Implies-clause-kept c = KeepsSteps-trans _ _ _ c.in_ok-guard-in-Implies.ensures.kept c.implies.ensures.kept
+
+pub returns-in_ok-ends-in-Leads-clause-kept : goal.returns-in_ok-ends-in-Leads-clause-kept
+returns-in_ok-ends-in-Leads-clause-kept c = KeepsSteps-trans _ _ _ c.in_ok-ends-in-Leads.ensures.kept c.implies-in-Leads.ensures.kept
 
 pub returns-in_ok-guard-in-Implies-clause-met : goal.returns-in_ok-guard-in-Implies-clause-met
 returns-in_ok-guard-in-Implies-clause-met c =

@@ -6,7 +6,7 @@ use Rattle.text_grammar.specs.Lexemes.{lexemes, text_at, is_terminal}
 use Rattle.text_grammar.specs.Parsed.{Parsed, place_of, before, Reads}
 use Rattle.text_grammar.specs.Actions.{context}
 use Rattle.text_grammar.specs.Exprs.{parse_expr, sums, products, factor, parenthesis}
-use Rattle.text_grammar.proofs.PartFaults.{closed_read, end_made, fault_read, memory_lacks, fault_known, syntax_read, enter_keeps_memory}
+use Rattle.text_grammar.proofs.PartFaults.{closed_read, closed_goes, end_made, goes_later, fault_goes, fault_read, memory_lacks, fault_known, syntax_read, enter_keeps_memory}
 use Rattle.text_grammar.proofs.ExprSteps.{sums_first, sums_fault, sums_next, sums_next_fault, sums_end, products_first, products_fault, products_next, products_next_fault, products_end, factor_none, factor_seen, factor_other, parenthesis_refused, parenthesis_fault, parenthesis_read}
 use Rattle.text_grammar.proofs.expr.+exprs.Goals as goal
 
@@ -86,6 +86,9 @@ product-returns-in_err-first-clause-value g t c =
     fault_read g.R.Reading.memory g.R.Reading.expr g.R.Reading.expr ts c.from_residual.result c.in_err-first.field-0.0 (parse_expr x factor c.args.context us) (parse_expr x products c.args.context us) c.from_residual.ensures.1 c.in_err-first.ensures.value
     (products_fault x c.args.context us c.in_err-first.field-0.0)
 
+pub product-returns-in_err-first-clause-goes : goal.product-returns-in_err-first-clause-goes
+product-returns-in_err-first-clause-goes g t c = fault_goes c.args.from _ c.from_residual.result c.in_err-first.field-0.0 c.from_residual.ensures.1
+
 pub product-parts-init : goal.product-parts-init
 product-parts-init g t c =
     let x = (g.R.Reading.actions c.args.reading.now).conds.exprs in
@@ -103,11 +106,17 @@ product-returns-in_err-more-clause-value g t c =
     fault_read g.R.Reading.memory g.R.Reading.expr g.R.Reading.expr ts c.from_residual-in_err-more.result c.in_err-more.field-0.0 (parse_expr x factor c.args.context (drop (c.parts.at + 1) ts)) (parse_expr x products c.args.context us) c.from_residual-in_err-more.ensures.1 c.in_err-more.ensures.value
     (λ h. sym c.parts.invariant.value ∙ products_next_fault x (g.R.Reading.expr c.parts.all) c.args.context c.parts.at ts c.in_err-more.field-0.0 (sym c.is_at.ensures.value ∙ c.parts-test.true) h)
 
+pub product-returns-in_err-more-clause-goes : goal.product-returns-in_err-more-clause-goes
+product-returns-in_err-more-clause-goes g t c = fault_goes c.args.from _ c.from_residual-in_err-more.result c.in_err-more.field-0.0 c.from_residual-in_err-more.ensures.1
+
 pub product-returns-in_err-all-clause-value : goal.product-returns-in_err-all-clause-value
 product-returns-in_err-all-clause-value g t c =
     let x = (g.R.Reading.actions c.args.reading.now).conds.exprs in
     let ts = lexemes c.args.toks.now in
     memory_lacks g.R.Reading.memory g.R.Reading.expr g.R.Reading.expr ts c.from_residual-in_err-all.result c.in_err-all.field-0.0 (x.join Multiply (g.R.Reading.expr c.parts.all) (g.R.Reading.expr c.in_ok-more.more)) (parse_expr x products c.args.context (drop c.args.from ts)) c.from_residual-in_err-all.ensures.1 c.in_err-all.ensures
+
+pub product-returns-in_err-all-clause-goes : goal.product-returns-in_err-all-clause-goes
+product-returns-in_err-all-clause-goes g t c = fault_goes c.args.from _ c.from_residual-in_err-all.result c.in_err-all.field-0.0 c.from_residual-in_err-all.ensures.1
 
 pub product-parts-preserved : goal.product-parts-preserved
 product-parts-preserved g t c =
@@ -133,6 +142,9 @@ sum-returns-in_err-first-clause-value g t c =
     fault_read g.R.Reading.memory g.R.Reading.expr g.R.Reading.expr ts c.from_residual.result c.in_err-first.field-0.0 (parse_expr x products c.args.context us) (parse_expr x sums c.args.context us) c.from_residual.ensures.1 c.in_err-first.ensures.value
     (sums_fault x c.args.context us c.in_err-first.field-0.0)
 
+pub sum-returns-in_err-first-clause-goes : goal.sum-returns-in_err-first-clause-goes
+sum-returns-in_err-first-clause-goes g t c = fault_goes c.args.from _ c.from_residual.result c.in_err-first.field-0.0 c.from_residual.ensures.1
+
 pub sum-parts-init : goal.sum-parts-init
 sum-parts-init g t c =
     let x = (g.R.Reading.actions c.args.reading.now).conds.exprs in
@@ -150,11 +162,17 @@ sum-returns-in_err-more-clause-value g t c =
     fault_read g.R.Reading.memory g.R.Reading.expr g.R.Reading.expr ts c.from_residual-in_err-more.result c.in_err-more.field-0.0 (parse_expr x products c.args.context (drop (c.parts.at + 1) ts)) (parse_expr x sums c.args.context us) c.from_residual-in_err-more.ensures.1 c.in_err-more.ensures.value
     (λ h. sym c.parts.invariant.value ∙ sums_next_fault x (g.R.Reading.expr c.parts.all) c.args.context c.parts.at ts c.in_err-more.field-0.0 (sym c.is_sum_at.ensures.value ∙ c.parts-test.true) h)
 
+pub sum-returns-in_err-more-clause-goes : goal.sum-returns-in_err-more-clause-goes
+sum-returns-in_err-more-clause-goes g t c = fault_goes c.args.from _ c.from_residual-in_err-more.result c.in_err-more.field-0.0 c.from_residual-in_err-more.ensures.1
+
 pub sum-returns-in_err-all-clause-value : goal.sum-returns-in_err-all-clause-value
 sum-returns-in_err-all-clause-value g t c =
     let x = (g.R.Reading.actions c.args.reading.now).conds.exprs in
     let ts = lexemes c.args.toks.now in
     memory_lacks g.R.Reading.memory g.R.Reading.expr g.R.Reading.expr ts c.from_residual-in_err-all.result c.in_err-all.field-0.0 (x.join c.operator_at-operator.result (g.R.Reading.expr c.parts.all) (g.R.Reading.expr c.in_ok-more.more)) (parse_expr x sums c.args.context (drop c.args.from ts)) c.from_residual-in_err-all.ensures.1 c.in_err-all.ensures
+
+pub sum-returns-in_err-all-clause-goes : goal.sum-returns-in_err-all-clause-goes
+sum-returns-in_err-all-clause-goes g t c = fault_goes c.args.from _ c.from_residual-in_err-all.result c.in_err-all.field-0.0 c.from_residual-in_err-all.ensures.1
 
 pub sum-parts-preserved : goal.sum-parts-preserved
 sum-parts-preserved g t c =
@@ -182,6 +200,9 @@ parenthesis-returns-in_err-inside-clause-value g t c =
     fault_known g.R.Reading.memory g.R.Reading.expr ts c.from_residual.result c.in_err-inside.field-0.0 (parenthesis x (parse_expr x) c.args.context c.args.at us) c.from_residual.ensures.1 (enter_keeps_memory (nat_lt k.depth MAX_OPEN) (context (k.depth + 1) k.negated k.compares) c.args.at c.in_err-inside.field-0.0 refused)
     (parenthesis_refused x (parse_expr x) k c.args.at us c.in_err-inside.field-0.0 refused)
 
+pub parenthesis-returns-in_err-inside-clause-goes : goal.parenthesis-returns-in_err-inside-clause-goes
+parenthesis-returns-in_err-inside-clause-goes g t c = fault_goes c.args.from _ c.from_residual.result c.in_err-inside.field-0.0 c.from_residual.ensures.1
+
 pub parenthesis-returns-in_err-expr-clause-value : goal.parenthesis-returns-in_err-expr-clause-value
 parenthesis-returns-in_err-expr-clause-value g t c =
     let x = (g.R.Reading.actions c.args.reading.now).conds.exprs in
@@ -189,6 +210,9 @@ parenthesis-returns-in_err-expr-clause-value g t c =
     let us = drop c.args.from ts in
     fault_read g.R.Reading.memory g.R.Reading.expr g.R.Reading.expr ts c.from_residual-in_err-expr.result c.in_err-expr.field-0.0 (parse_expr x sums c.in_ok-inside.inside us) (parenthesis x (parse_expr x) c.args.context c.args.at us) c.from_residual-in_err-expr.ensures.1 c.in_err-expr.ensures.value
     (parenthesis_fault x (parse_expr x) c.args.context c.in_ok-inside.inside c.args.at us c.in_err-expr.field-0.0 (sym c.in_ok-inside.ensures))
+
+pub parenthesis-returns-in_err-expr-clause-goes : goal.parenthesis-returns-in_err-expr-clause-goes
+parenthesis-returns-in_err-expr-clause-goes g t c = fault_goes c.args.from _ c.from_residual-in_err-expr.result c.in_err-expr.field-0.0 c.from_residual-in_err-expr.ensures.1
 
 pub parenthesis-returns-clause-value : goal.parenthesis-returns-clause-value
 parenthesis-returns-clause-value g t c =
@@ -198,3 +222,45 @@ parenthesis-returns-clause-value g t c =
     let inside = g.R.Reading.expr c.in_ok-expr.expr in
     closed_read g.R.Reading.memory g.R.Reading.expr ts (drop c.in_ok-expr.end ts) (is_terminal RoundClose) c.then_expect.result c.enclosed_expr.result (x.enclosed inside) (parenthesis x (parse_expr x) c.args.context c.args.at us) c.then_expect.ensures.value c.enclosed_expr.ensures
     (parenthesis_read x (parse_expr x) c.args.context c.in_ok-inside.inside c.args.at us (inside, drop c.in_ok-expr.end ts) (sym c.in_ok-inside.ensures) c.in_ok-expr.ensures.value)
+
+pub parenthesis-returns-clause-goes : goal.parenthesis-returns-clause-goes
+parenthesis-returns-clause-goes g t c = closed_goes c.args.from _ c.in_ok-expr.end c.then_expect.result c.in_ok-expr.ensures.goes.0 c.then_expect.ensures.goes
+
+pub factor-returns-in-RoundOpen-clause-goes : goal.factor-returns-in-RoundOpen-clause-goes
+factor-returns-in-RoundOpen-clause-goes g t c = goes_later c.args.from _ c.parenthesis.result c.parenthesis.ensures.goes
+
+pub factor-parenthesis-requires : goal.factor-parenthesis-requires
+factor-parenthesis-requires g t c κs within = (omega (arith, c.in-Some.ensures.1), within)
+
+pub parenthesis-sum-requires : goal.parenthesis-sum-requires
+parenthesis-sum-requires g t c κs within = (omega arith, within)
+
+pub product-factor-requires : goal.product-factor-requires
+product-factor-requires g t c κs within = (omega arith, within)
+
+pub product-factor-requires-in-parts : goal.product-factor-requires-in-parts
+product-factor-requires-in-parts g t c κs within = (omega (arith, c.parts.invariant.place.0), within)
+
+pub sum-product-requires : goal.sum-product-requires
+sum-product-requires g t c κs within = (omega arith, within)
+
+pub sum-product-requires-in-parts : goal.sum-product-requires-in-parts
+sum-product-requires-in-parts g t c κs within = (omega (arith, c.parts.invariant.place.0), within)
+
+pub factor-number-requires : goal.factor-number-requires
+factor-number-requires g t c κs = λ within. within
+
+pub factor-number-requires-in-One : goal.factor-number-requires-in-One
+factor-number-requires-in-One g t c κs = λ within. within
+
+pub factor-number-requires-in-Number : goal.factor-number-requires-in-Number
+factor-number-requires-in-Number g t c κs = λ within. within
+
+pub parenthesis-enclosed_expr-requires : goal.parenthesis-enclosed_expr-requires
+parenthesis-enclosed_expr-requires g t c κs = λ within. within
+
+pub product-join-requires : goal.product-join-requires
+product-join-requires g t c κs = λ within. within
+
+pub sum-join-requires : goal.sum-join-requires
+sum-join-requires g t c κs = λ within. within

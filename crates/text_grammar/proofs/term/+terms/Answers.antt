@@ -5,7 +5,7 @@ use Rattle.text_grammar.specs.Lexemes.{lexemes, text_at, is_terminal}
 use Rattle.text_grammar.specs.Parsed.{Parsed, place_of, before, Reads}
 use Rattle.text_grammar.specs.Actions.{context}
 use Rattle.text_grammar.specs.Terms.{choice, sequence, unit, parse_term, star_or_not, negation, parenthesis}
-use Rattle.text_grammar.proofs.PartFaults.{closed_read, end_made, end_goes, fault_read, memory_lacks, fault_known, syntax_read, enter_keeps_memory}
+use Rattle.text_grammar.proofs.PartFaults.{closed_read, closed_goes, end_made, end_goes, goes_later, fault_goes, fault_read, memory_lacks, fault_known, syntax_read, enter_keeps_memory}
 use Rattle.text_grammar.proofs.TermSteps.{choice_first, choice_fault, choice_next, choice_next_fault, choice_end, sequence_first, sequence_fault, sequence_star_fault, sequence_next, sequence_next_fault, sequence_next_star_fault, sequence_end, unit_none, unit_seen, unit_other, negation_refused, negation_fault, negation_made, parenthesis_refused, parenthesis_fault, parenthesis_read}
 use Rattle.text_grammar.proofs.term.+terms.Goals as goal
 
@@ -83,12 +83,18 @@ choice-returns-in_err-first-clause-value g t c =
     fault_read g.R.Reading.memory g.R.Reading.term g.R.Reading.term ts c.from_residual.result c.in_err-first.field-0.0 (parse_term x sequence c.args.context us) (parse_term x choice c.args.context us) c.from_residual.ensures.1 c.in_err-first.ensures.value
     (choice_fault x c.args.context us c.in_err-first.field-0.0)
 
+pub choice-returns-in_err-first-clause-goes : goal.choice-returns-in_err-first-clause-goes
+choice-returns-in_err-first-clause-goes g t c = fault_goes c.args.from _ c.from_residual.result c.in_err-first.field-0.0 c.from_residual.ensures.1
+
 pub choice-returns-in_err-list-clause-value : goal.choice-returns-in_err-list-clause-value
 choice-returns-in_err-list-clause-value g t c =
     let x = (g.R.Reading.actions c.args.reading.now) in
     let ts = lexemes c.args.toks.now in
     let us = drop c.args.from ts in
     memory_lacks g.R.Reading.memory g.R.Reading.terms g.R.Reading.term ts c.from_residual-in_err-list.result c.in_err-list.field-0.0 (x.one_of (g.R.Reading.term c.in_ok-first.first)) (parse_term x choice c.args.context us) c.from_residual-in_err-list.ensures.1 c.in_err-list.ensures
+
+pub choice-returns-in_err-list-clause-goes : goal.choice-returns-in_err-list-clause-goes
+choice-returns-in_err-list-clause-goes g t c = fault_goes c.args.from _ c.from_residual-in_err-list.result c.in_err-list.field-0.0 c.from_residual-in_err-list.ensures.1
 
 pub choice-returns-in_err-more-clause-value : goal.choice-returns-in_err-more-clause-value
 choice-returns-in_err-more-clause-value g t c =
@@ -98,12 +104,18 @@ choice-returns-in_err-more-clause-value g t c =
     fault_read g.R.Reading.memory g.R.Reading.term g.R.Reading.term ts c.from_residual-in_err-more.result c.in_err-more.field-0.0 (parse_term x sequence c.args.context (drop (c.parts.at + 1) ts)) (parse_term x choice c.args.context us) c.from_residual-in_err-more.ensures.1 c.in_err-more.ensures.value
     (λ h. sym c.parts.invariant.value ∙ choice_next_fault x (g.R.Reading.terms c.parts.list) c.args.context c.parts.at ts c.in_err-more.field-0.0 (sym c.is_at.ensures.value ∙ c.parts-test.true) h)
 
+pub choice-returns-in_err-more-clause-goes : goal.choice-returns-in_err-more-clause-goes
+choice-returns-in_err-more-clause-goes g t c = fault_goes c.args.from _ c.from_residual-in_err-more.result c.in_err-more.field-0.0 c.from_residual-in_err-more.ensures.1
+
 pub choice-returns-in_err-list-2-clause-value : goal.choice-returns-in_err-list-2-clause-value
 choice-returns-in_err-list-2-clause-value g t c =
     let x = (g.R.Reading.actions c.args.reading.now) in
     let ts = lexemes c.args.toks.now in
     let us = drop c.args.from ts in
     memory_lacks g.R.Reading.memory g.R.Reading.terms g.R.Reading.term ts c.from_residual-in_err-list-2.result c.in_err-list-2.field-0.0 (x.more (g.R.Reading.terms c.parts.list) (g.R.Reading.term c.in_ok-more.more)) (parse_term x choice c.args.context us) c.from_residual-in_err-list-2.ensures.1 c.in_err-list-2.ensures
+
+pub choice-returns-in_err-list-2-clause-goes : goal.choice-returns-in_err-list-2-clause-goes
+choice-returns-in_err-list-2-clause-goes g t c = fault_goes c.args.from _ c.from_residual-in_err-list-2.result c.in_err-list-2.field-0.0 c.from_residual-in_err-list-2.ensures.1
 
 pub choice-returns-clause-value : goal.choice-returns-clause-value
 choice-returns-clause-value g t c =
@@ -146,6 +158,9 @@ sequence-returns-in_err-first-clause-value g t c =
     fault_read g.R.Reading.memory g.R.Reading.term g.R.Reading.term ts c.from_residual.result c.in_err-first.field-0.0 (parse_term x unit c.args.context us) (parse_term x sequence c.args.context us) c.from_residual.ensures.1 c.in_err-first.ensures.value
     (sequence_fault x c.args.context us c.in_err-first.field-0.0)
 
+pub sequence-returns-in_err-first-clause-goes : goal.sequence-returns-in_err-first-clause-goes
+sequence-returns-in_err-first-clause-goes g t c = fault_goes c.args.from _ c.from_residual.result c.in_err-first.field-0.0 c.from_residual.ensures.1
+
 pub sequence-returns-in_err-more-clause-value : goal.sequence-returns-in_err-more-clause-value
 sequence-returns-in_err-more-clause-value g t c =
     let x = (g.R.Reading.actions c.args.reading.now) in
@@ -154,6 +169,9 @@ sequence-returns-in_err-more-clause-value g t c =
     fault_read g.R.Reading.memory g.R.Reading.term g.R.Reading.term ts c.from_residual-in_err-more.result c.in_err-more.field-0.0 (parse_term x unit c.args.context (drop (c.parts.at + 1) ts)) (parse_term x sequence c.args.context us) c.from_residual-in_err-more.ensures.1 c.in_err-more.ensures.value
     (λ h. sym c.parts.invariant.value ∙ sequence_next_fault x (g.R.Reading.terms c.parts.list) c.args.context c.parts.at ts c.in_err-more.field-0.0 (sym c.is_at.ensures.value ∙ c.parts-test.true) h)
 
+pub sequence-returns-in_err-more-clause-goes : goal.sequence-returns-in_err-more-clause-goes
+sequence-returns-in_err-more-clause-goes g t c = fault_goes c.args.from _ c.from_residual-in_err-more.result c.in_err-more.field-0.0 c.from_residual-in_err-more.ensures.1
+
 pub sequence-returns-in_err-list-clause-value : goal.sequence-returns-in_err-list-clause-value
 sequence-returns-in_err-list-clause-value g t c =
     let x = (g.R.Reading.actions c.args.reading.now) in
@@ -161,12 +179,18 @@ sequence-returns-in_err-list-clause-value g t c =
     let us = drop c.args.from ts in
     memory_lacks g.R.Reading.memory g.R.Reading.terms g.R.Reading.term ts c.from_residual-in_err-list.result c.in_err-list.field-0.0 (x.one_of (g.R.Reading.term c.in_ok-first-2.first)) (parse_term x sequence c.args.context us) c.from_residual-in_err-list.ensures.1 c.in_err-list.ensures
 
+pub sequence-returns-in_err-list-clause-goes : goal.sequence-returns-in_err-list-clause-goes
+sequence-returns-in_err-list-clause-goes g t c = fault_goes c.args.from _ c.from_residual-in_err-list.result c.in_err-list.field-0.0 c.from_residual-in_err-list.ensures.1
+
 pub sequence-returns-in_err-list-2-clause-value : goal.sequence-returns-in_err-list-2-clause-value
 sequence-returns-in_err-list-2-clause-value g t c =
     let x = (g.R.Reading.actions c.args.reading.now) in
     let ts = lexemes c.args.toks.now in
     let us = drop c.args.from ts in
     memory_lacks g.R.Reading.memory g.R.Reading.terms g.R.Reading.term ts c.from_residual-in_err-list-2.result c.in_err-list-2.field-0.0 (x.more (g.R.Reading.terms c.parts.list) (g.R.Reading.term c.in_ok-more-2.more)) (parse_term x sequence c.args.context us) c.from_residual-in_err-list-2.ensures.1 c.in_err-list-2.ensures
+
+pub sequence-returns-in_err-list-2-clause-goes : goal.sequence-returns-in_err-list-2-clause-goes
+sequence-returns-in_err-list-2-clause-goes g t c = fault_goes c.args.from _ c.from_residual-in_err-list-2.result c.in_err-list-2.field-0.0 c.from_residual-in_err-list-2.ensures.1
 
 pub sequence-returns-clause-value : goal.sequence-returns-clause-value
 sequence-returns-clause-value g t c =
@@ -190,6 +214,9 @@ sequence-returns-in_err-first-2-clause-value g t c =
     fault_read g.R.Reading.memory g.R.Reading.term g.R.Reading.term ts c.from_residual-in_err-first-2.result c.in_err-first-2.field-0.0 (star_or_not x c.args.context (g.R.Reading.term c.in_ok-first.first) (drop c.in_ok-first.next ts)) (parse_term x sequence c.args.context us) c.from_residual-in_err-first-2.ensures.1 c.in_err-first-2.ensures.value
     (sequence_star_fault x c.args.context us (g.R.Reading.term c.in_ok-first.first, drop c.in_ok-first.next ts) c.in_err-first-2.field-0.0 c.in_ok-first.ensures.value)
 
+pub sequence-returns-in_err-first-2-clause-goes : goal.sequence-returns-in_err-first-2-clause-goes
+sequence-returns-in_err-first-2-clause-goes g t c = fault_goes c.args.from _ c.from_residual-in_err-first-2.result c.in_err-first-2.field-0.0 c.from_residual-in_err-first-2.ensures.1
+
 pub sequence-returns-in_err-more-2-clause-value : goal.sequence-returns-in_err-more-2-clause-value
 sequence-returns-in_err-more-2-clause-value g t c =
     let x = (g.R.Reading.actions c.args.reading.now) in
@@ -197,6 +224,9 @@ sequence-returns-in_err-more-2-clause-value g t c =
     let us = drop c.args.from ts in
     fault_read g.R.Reading.memory g.R.Reading.term g.R.Reading.term ts c.from_residual-in_err-more-2.result c.in_err-more-2.field-0.0 (star_or_not x c.args.context (g.R.Reading.term c.in_ok-more.more) (drop c.in_ok-more.next ts)) (parse_term x sequence c.args.context us) c.from_residual-in_err-more-2.ensures.1 c.in_err-more-2.ensures.value
     (λ h. sym c.parts.invariant.value ∙ sequence_next_star_fault x (g.R.Reading.terms c.parts.list) c.args.context c.parts.at ts (g.R.Reading.term c.in_ok-more.more, drop c.in_ok-more.next ts) c.in_err-more-2.field-0.0 (sym c.is_at.ensures.value ∙ c.parts-test.true) c.in_ok-more.ensures.value h)
+
+pub sequence-returns-in_err-more-2-clause-goes : goal.sequence-returns-in_err-more-2-clause-goes
+sequence-returns-in_err-more-2-clause-goes g t c = fault_goes c.args.from _ c.from_residual-in_err-more-2.result c.in_err-more-2.field-0.0 c.from_residual-in_err-more-2.ensures.1
 
 pub sequence-parts-init : goal.sequence-parts-init
 sequence-parts-init g t c =
@@ -228,6 +258,9 @@ negation-returns-in_err-inside-clause-value g t c =
     fault_known g.R.Reading.memory g.R.Reading.term ts c.from_residual.result c.in_err-inside.field-0.0 (negation x (parse_term x) c.args.context c.args.at us) c.from_residual.ensures.1 (enter_keeps_memory (nat_lt k.depth MAX_OPEN) (context (k.depth + 1) true k.compares) c.args.at c.in_err-inside.field-0.0 refused)
     (negation_refused x (parse_term x) k c.args.at us c.in_err-inside.field-0.0 refused)
 
+pub negation-returns-in_err-inside-clause-goes : goal.negation-returns-in_err-inside-clause-goes
+negation-returns-in_err-inside-clause-goes g t c = fault_goes c.args.from _ c.from_residual.result c.in_err-inside.field-0.0 c.from_residual.ensures.1
+
 pub negation-returns-in_err-operand-clause-value : goal.negation-returns-in_err-operand-clause-value
 negation-returns-in_err-operand-clause-value g t c =
     let x = (g.R.Reading.actions c.args.reading.now) in
@@ -235,6 +268,9 @@ negation-returns-in_err-operand-clause-value g t c =
     let us = drop c.args.from ts in
     fault_read g.R.Reading.memory g.R.Reading.term g.R.Reading.term ts c.from_residual-in_err-operand.result c.in_err-operand.field-0.0 (parse_term x unit c.in_ok-inside.inside us) (negation x (parse_term x) c.args.context c.args.at us) c.from_residual-in_err-operand.ensures.1 c.in_err-operand.ensures.value
     (negation_fault x (parse_term x) c.args.context c.in_ok-inside.inside c.args.at us c.in_err-operand.field-0.0 (sym c.in_ok-inside.ensures))
+
+pub negation-returns-in_err-operand-clause-goes : goal.negation-returns-in_err-operand-clause-goes
+negation-returns-in_err-operand-clause-goes g t c = fault_goes c.args.from _ c.from_residual-in_err-operand.result c.in_err-operand.field-0.0 c.from_residual-in_err-operand.ensures.1
 
 pub negation-returns-clause-value : goal.negation-returns-clause-value
 negation-returns-clause-value g t c =
@@ -260,6 +296,9 @@ parenthesis-returns-in_err-inside-clause-value g t c =
     fault_known g.R.Reading.memory g.R.Reading.term ts c.from_residual.result c.in_err-inside.field-0.0 (parenthesis x (parse_term x) c.args.context c.args.at us) c.from_residual.ensures.1 (enter_keeps_memory (nat_lt k.depth MAX_OPEN) (context (k.depth + 1) k.negated k.compares) c.args.at c.in_err-inside.field-0.0 refused)
     (parenthesis_refused x (parse_term x) k c.args.at us c.in_err-inside.field-0.0 refused)
 
+pub parenthesis-returns-in_err-inside-clause-goes : goal.parenthesis-returns-in_err-inside-clause-goes
+parenthesis-returns-in_err-inside-clause-goes g t c = fault_goes c.args.from _ c.from_residual.result c.in_err-inside.field-0.0 c.from_residual.ensures.1
+
 pub parenthesis-returns-in_err-term-clause-value : goal.parenthesis-returns-in_err-term-clause-value
 parenthesis-returns-in_err-term-clause-value g t c =
     let x = (g.R.Reading.actions c.args.reading.now) in
@@ -267,6 +306,9 @@ parenthesis-returns-in_err-term-clause-value g t c =
     let us = drop c.args.from ts in
     fault_read g.R.Reading.memory g.R.Reading.term g.R.Reading.term ts c.from_residual-in_err-term.result c.in_err-term.field-0.0 (parse_term x choice c.in_ok-inside.inside us) (parenthesis x (parse_term x) c.args.context c.args.at us) c.from_residual-in_err-term.ensures.1 c.in_err-term.ensures.value
     (parenthesis_fault x (parse_term x) c.args.context c.in_ok-inside.inside c.args.at us c.in_err-term.field-0.0 (sym c.in_ok-inside.ensures))
+
+pub parenthesis-returns-in_err-term-clause-goes : goal.parenthesis-returns-in_err-term-clause-goes
+parenthesis-returns-in_err-term-clause-goes g t c = fault_goes c.args.from _ c.from_residual-in_err-term.result c.in_err-term.field-0.0 c.from_residual-in_err-term.ensures.1
 
 pub parenthesis-returns-clause-value : goal.parenthesis-returns-clause-value
 parenthesis-returns-clause-value g t c =
@@ -276,3 +318,78 @@ parenthesis-returns-clause-value g t c =
     let inside = g.R.Reading.term c.in_ok-term.term in
     closed_read g.R.Reading.memory g.R.Reading.term ts (drop c.in_ok-term.end ts) (is_terminal RoundClose) c.then_expect.result c.enclosed_term.result (x.enclosed inside) (parenthesis x (parse_term x) c.args.context c.args.at us) c.then_expect.ensures.value c.enclosed_term.ensures
     (parenthesis_read x (parse_term x) c.args.context c.in_ok-inside.inside c.args.at us (inside, drop c.in_ok-term.end ts) (sym c.in_ok-inside.ensures) c.in_ok-term.ensures.value)
+
+pub parenthesis-returns-clause-goes : goal.parenthesis-returns-clause-goes
+parenthesis-returns-clause-goes g t c = closed_goes c.args.from _ c.in_ok-term.end c.then_expect.result c.in_ok-term.ensures.goes.0 c.then_expect.ensures.goes
+
+pub unit-returns-in-Bang-clause-goes : goal.unit-returns-in-Bang-clause-goes
+unit-returns-in-Bang-clause-goes g t c = goes_later c.args.from _ c.negation.result c.negation.ensures.goes
+
+pub unit-returns-in-SquareOpen-clause-goes : goal.unit-returns-in-SquareOpen-clause-goes
+unit-returns-in-SquareOpen-clause-goes g t c = goes_later c.args.from _ c.bracket.result c.bracket.ensures.goes
+
+pub unit-returns-in-RoundOpen-clause-goes : goal.unit-returns-in-RoundOpen-clause-goes
+unit-returns-in-RoundOpen-clause-goes g t c = goes_later c.args.from _ c.parenthesis.result c.parenthesis.ensures.goes
+
+pub unit-negation-requires : goal.unit-negation-requires
+unit-negation-requires g t c κs within = (omega (arith, c.in-Some.ensures.1), within)
+
+pub unit-parenthesis-requires : goal.unit-parenthesis-requires
+unit-parenthesis-requires g t c κs within = (omega (arith, c.in-Some.ensures.1), within)
+
+pub negation-unit-requires : goal.negation-unit-requires
+negation-unit-requires g t c κs within = (omega arith, within)
+
+pub parenthesis-choice-requires : goal.parenthesis-choice-requires
+parenthesis-choice-requires g t c κs within = (omega arith, within)
+
+pub sequence-unit-requires : goal.sequence-unit-requires
+sequence-unit-requires g t c κs within = (omega arith, within)
+
+pub sequence-unit-requires-in-parts : goal.sequence-unit-requires-in-parts
+sequence-unit-requires-in-parts g t c κs within = (omega (arith, c.parts.invariant.place.0), within)
+
+pub choice-sequence-requires : goal.choice-sequence-requires
+choice-sequence-requires g t c κs within = (omega arith, within)
+
+pub choice-sequence-requires-in-parts : goal.choice-sequence-requires-in-parts
+choice-sequence-requires-in-parts g t c κs within = (omega (arith, c.parts.invariant.place.0), within)
+
+pub unit-zero-requires : goal.unit-zero-requires
+unit-zero-requires g t c κs = λ within. within
+
+pub unit-one-requires : goal.unit-one-requires
+unit-one-requires g t c κs = λ within. within
+
+pub unit-bracket-requires : goal.unit-bracket-requires
+unit-bracket-requires g t c κs = λ within. within
+
+pub negation-negated_term-requires : goal.negation-negated_term-requires
+negation-negated_term-requires g t c κs = λ within. within
+
+pub parenthesis-enclosed_term-requires : goal.parenthesis-enclosed_term-requires
+parenthesis-enclosed_term-requires g t c κs = λ within. within
+
+pub sequence-star_or_not-requires : goal.sequence-star_or_not-requires
+sequence-star_or_not-requires g t c κs = λ within. within
+
+pub sequence-star_or_not-requires-in-parts : goal.sequence-star_or_not-requires-in-parts
+sequence-star_or_not-requires-in-parts g t c κs = λ within. within
+
+pub sequence-one_term-requires : goal.sequence-one_term-requires
+sequence-one_term-requires g t c κs = λ within. within
+
+pub sequence-more_terms-requires : goal.sequence-more_terms-requires
+sequence-more_terms-requires g t c κs = λ within. within
+
+pub sequence-product-requires : goal.sequence-product-requires
+sequence-product-requires g t c κs = λ within. within
+
+pub choice-one_term-requires : goal.choice-one_term-requires
+choice-one_term-requires g t c κs = λ within. within
+
+pub choice-more_terms-requires : goal.choice-more_terms-requires
+choice-more_terms-requires g t c κs = λ within. within
+
+pub choice-sum-requires : goal.choice-sum-requires
+choice-sum-requires g t c κs = λ within. within

@@ -1,10 +1,31 @@
-use Rattle.std.proofs.Common.{◌≡◌, length, take, drop, sym, ap, ◌∙◌, arith}
+use Rattle.std.proofs.Common.{◌≡◌, length, take, drop, sym, ap, ◌∙◌, subst, arith}
 use Rattle.std.specs.Vec.{with_items}
 use Rattle.std.proofs.lemmas.List.{with_items_is}
-use Rattle.cert_checker.specs.Cases.{known_of}
+use Rattle.cert_checker.specs.Cases.{AreAsked, known_of}
 use Rattle.cert_checker.specs.Questions.{QuestionParts, ActionPassParts}
 use Rattle.cert_checker.proofs.KnownTruths.{case_told}
 use Rattle.cert_checker.proofs.known.TestCase.evaluate.Goals as goal
+
+pub evaluate-requires-clause-asked : goal.evaluate-requires-clause-asked
+evaluate-requires-clause-asked c =
+    let q = c.args.question.now in
+    let at_tables : c.question.inside.tables.now ≡ q.tables = ap (λ (p : QuestionParts). p.tables) c.question.view_is in
+    let listed : c.deref-2.result.now ≡ q.asked = c.deref-2.ensures.value ∙ ap (λ (p : QuestionParts). p.asked) c.question.view_is in
+    subst (λ z. AreAsked z c.deref-2.result.now) (sym at_tables) (subst (AreAsked q.tables) (sym listed) c.requires.question.named.asked)
+
+pub evaluate-requires-2-clause-asked : goal.evaluate-requires-2-clause-asked
+evaluate-requires-2-clause-asked c =
+    let q = c.args.question.now in
+    let at_tables : c.question.inside.tables.now ≡ q.tables = ap (λ (p : QuestionParts). p.tables) c.question.view_is in
+    let listed : c.deref-3.result.now ≡ q.action_pass.begin = c.deref-3.ensures.value ∙ ap (λ (p : ActionPassParts). p.begin) c.pass.view_is ∙ ap (λ (p : QuestionParts). p.action_pass.begin) c.question.view_is in
+    subst (λ z. AreAsked z c.deref-3.result.now) (sym at_tables) (subst (AreAsked q.tables) (sym listed) c.requires.question.question.begin)
+
+pub evaluate-requires-3-clause-asked : goal.evaluate-requires-3-clause-asked
+evaluate-requires-3-clause-asked c =
+    let q = c.args.question.now in
+    let at_tables : c.question.inside.tables.now ≡ q.tables = ap (λ (p : QuestionParts). p.tables) c.question.view_is in
+    let listed : c.deref-4.result.now ≡ q.action_pass.end = c.deref-4.ensures.value ∙ ap (λ (p : ActionPassParts). p.end) c.pass.view_is ∙ ap (λ (p : QuestionParts). p.action_pass.end) c.question.view_is in
+    subst (λ z. AreAsked z c.deref-4.result.now) (sym at_tables) (subst (AreAsked q.tables) (sym listed) c.requires.question.question.end)
 
 pub returns-clause-known : goal.returns-clause-known
 returns-clause-known c =

@@ -1,6 +1,7 @@
 use Rattle.std.proofs.Common.{subst}
 use Rattle.cert_checker.specs.NodeTables.{TablesGrow}
 use Rattle.cert_checker.proofs.GrowingTables.{grows_trans}
+use Rattle.cert_checker.proofs.TargetSets.{term_within}
 use Rattle.cert_checker.proofs.tables.Tables.+number_of.Goals as goal
 use Rattle.cert_checker.proofs.tables.Tables.+number_of.Goals.{in-Zero, in-One, in-Test+in_ok-number_of_test-in-Test, in-Act, in-Sum+in_ok-number_of-in-Sum+in_ok-number_of-in-Sum-2, in-Seq+in_ok-number_of-in-Seq+in_ok-number_of-in-Seq-2, in-Star+in_ok-number_of-in-Star}
 
@@ -23,3 +24,16 @@ returns-in_err-number_of-in-Sum-2-clause-grows t c = grows_trans c.args.self.now
 
 pub returns-in_err-number_of-in-Seq-2-clause-grows : goal.returns-in_err-number_of-in-Seq-2-clause-grows
 returns-in_err-number_of-in-Seq-2-clause-grows t c = grows_trans c.args.self.now c.number_of-in-Seq.new.self c.number_of-in-Seq-2.new.self c.number_of-in-Seq.ensures.grows c.number_of-in-Seq-2.ensures.grows
+
+-- the node names only tests and terms of the tables
+pub term-requires : goal.term-requires
+term-requires t c =
+    elim c.match-term.branch [
+      | in-Zero w ↦ rw w.node-is tt
+      | in-One w ↦ rw w.node-is tt
+      | in-Test+in_ok-number_of_test-in-Test w ↦ rw (w.self-is, w.node-is) w.in_ok-number_of_test-in-Test.ensures.tree.0
+      | in-Act w ↦ rw w.node-is tt
+      | in-Sum+in_ok-number_of-in-Sum+in_ok-number_of-in-Sum-2 w ↦ rw (w.self-is, w.node-is) (term_within w.number_of.new.self w.number_of-in-Sum.new.self w.number_of-in-Sum.ensures.grows.was w.number_of-in-Sum.ensures.grows _ w.in_ok-number_of-in-Sum.ensures.is_term, w.in_ok-number_of-in-Sum-2.ensures.is_term)
+      | in-Seq+in_ok-number_of-in-Seq+in_ok-number_of-in-Seq-2 w ↦ rw (w.self-is, w.node-is) (term_within w.number_of-in-Seq.new.self w.number_of-in-Seq-2.new.self w.number_of-in-Seq-2.ensures.grows.was w.number_of-in-Seq-2.ensures.grows _ w.in_ok-number_of-in-Seq.ensures.is_term, w.in_ok-number_of-in-Seq-2.ensures.is_term)
+      | in-Star+in_ok-number_of-in-Star w ↦ rw (w.self-is, w.node-is) w.in_ok-number_of-in-Star.ensures.is_term
+    ]

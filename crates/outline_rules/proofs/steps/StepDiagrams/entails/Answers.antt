@@ -1,6 +1,16 @@
 use Rattle.std.proofs.Common.{◌≡◌, sym, ◌∙◌, eqb-true, eq-eqb}
+use Rattle.outline_rules.proofs.StepSets.{IsStepId-kept, KeepsSteps-trans}
 use Rattle.outline_rules.proofs.Compositions.{never_entails, entails_never}
 use Rattle.outline_rules.proofs.steps.StepDiagrams.entails.Goals as goal
+
+pub and-requires-clause-left : goal.and-requires-clause-left
+and-requires-clause-left c = IsStepId-kept _ _ c.in_ok-outside.ensures.kept _ c.requires.first
+
+pub returns-in_err-broken-clause-kept : goal.returns-in_err-broken-clause-kept
+returns-in_err-broken-clause-kept c = KeepsSteps-trans _ _ _ c.in_ok-outside.ensures.kept c.in_err-broken.ensures.kept
+
+pub returns-clause-kept : goal.returns-clause-kept
+returns-clause-kept c = KeepsSteps-trans _ _ _ c.in_ok-outside.ensures.kept c.in_ok-broken.ensures.kept
 
 pub returns-clause-entails : goal.returns-clause-entails
 returns-clause-entails c =
