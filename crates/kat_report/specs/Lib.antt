@@ -1,6 +1,5 @@
 pub mod Refusals
 pub mod AbstractRefusals
-pub mod FormRefusals
 pub mod Reasons
 pub mod Acceptances
 pub mod InputLines

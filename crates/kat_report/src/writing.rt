@@ -40,8 +40,8 @@ pub(crate) fn put_numbered(
     put_number(alloc, out, number as u64)
 }
 
-/// Returns the line of words and a number.
-pub(crate) fn numbered_line(alloc: Global, words: &[u8], number: u64) -> Result<Vec<u8>, NoMemory>
+/// Returns the line of words and a number in decimal. Fails only when out of memory.
+pub fn numbered_line(alloc: Global, words: &[u8], number: u64) -> Result<Vec<u8>, NoMemory>
     ensures { IfOk result (λ line. line.items ≡ words.now ++ decimal number ++ 10 ∷ []) }
 {
     let mut line = words.to_vec(alloc)?;

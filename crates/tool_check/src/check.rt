@@ -15,13 +15,12 @@ ghost use Rattle.tool_inputs.specs.FileProblem.{Asks};
 ghost use Rattle.tool_inputs.specs.StoreAnswers.{AlwaysEndAlike, AlwaysMeets};
 ghost use Rattle.tool_check.specs.Check.{IsChecked, ChecksBytes, CheckHeadline, CheckReply};
 
-use crate::showing::evidence_in;
 use cert_checker::{Answer, Reason, check};
 use certificate::Evidence;
 use kat_model::{NoMemory, Problem};
 use kat_report::{accepted_line, reason_line};
 use std::alloc::Global;
-use tool_inputs::{EarlyEnd, PairCommand, Reply, line, reply_to_pair};
+use tool_inputs::{EarlyEnd, PairCommand, Reply, evidence_in, line, reply_to_pair};
 
 /// Returns a rejection for this reason.
 pub(crate) fn rejection(alloc: Global, reason: &Reason) -> Result<Reply, NoMemory>

@@ -5,9 +5,7 @@
 mod chain;
 mod check;
 mod replay;
-mod showing;
 
 pub use chain::{ChainCommand, chain_bytes};
 pub use check::{CheckCommand, check_bytes};
 pub use replay::{ReplayCommand, replay_bytes};
-pub use showing::evidence_in;

@@ -5,14 +5,13 @@ ghost use Rattle.tool_inputs.specs.FileProblem.{Asks};
 ghost use Rattle.tool_check.specs.Replay.{IsTold, IsReplayed, ReplaysBytes, ReplayHeadline, ReplayReply};
 
 use crate::check::rejection;
-use crate::showing::evidence_in;
 use cert_checker::Reason;
 use certificate::Evidence;
 use kat_model::{NoMemory, Problem};
 use kat_report::{no_string_line, replay_text};
 use std::alloc::Global;
 use string_tables::{Finding, GString, verdict};
-use tool_inputs::{EarlyEnd, PairCommand, Reply, line, reply_to_pair};
+use tool_inputs::{EarlyEnd, PairCommand, Reply, evidence_in, line, reply_to_pair};
 
 // Returns the reply to a string with this finding.
 fn finding_reply(alloc: Global, string: &GString, finding: &Finding) -> Result<Reply, NoMemory>

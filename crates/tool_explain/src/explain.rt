@@ -23,8 +23,7 @@ use kat_model::{NoMemory, Problem};
 use kat_report::reason_line;
 use std::alloc::Global;
 use string_tables::{Finding, GString, verdict};
-use tool_check::evidence_in;
-use tool_inputs::{EarlyEnd, PairCommand, Reply, reply_to_pair};
+use tool_inputs::{EarlyEnd, PairCommand, Reply, evidence_in, reply_to_pair};
 use while_lang::File;
 
 // Returns a rejection for this reason.

@@ -3,6 +3,7 @@
 //! bytes and to files from one method of a command.
 #![tactic(auto)]
 
+mod evidence;
 mod file_command;
 mod file_problem;
 mod getting;
@@ -12,6 +13,7 @@ mod text_command;
 mod text_problem;
 mod text_question;
 
+pub use evidence::evidence_in;
 pub use file_command::{FileCommand, reply_to_bytes, reply_to_file};
 pub use file_problem::{abstract_for, abstract_in};
 pub use getting::{file_bytes, file_text};

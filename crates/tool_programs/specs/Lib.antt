@@ -1,5 +1,6 @@
 pub mod Gkat
 pub mod Running
 pub mod OneLoop
+pub mod FormFaults
 pub mod Show
 pub mod Working

@@ -12,7 +12,7 @@ use Rattle.while_lang.specs.ProgramSizes.{prog_size, largest_in}
 use Rattle.while_print.specs.ProgramPrinting.{block_levels}
 use Rattle.one_loop.specs.declared.fault.OneLoopFault.{OneLoopFault}
 use Rattle.one_loop.specs.declared.fault.OneLoopFault.TheVariants.{NoMemory, TooManyVars, TooManyStatements}
-use Rattle.kat_report.specs.FormRefusals.{form_fault_line}
+use Rattle.tool_programs.specs.FormFaults.{form_fault_line}
 use Rattle.one_loop.specs.Statements.{HasTooManyStatements}
 use Rattle.one_loop.specs.Forms.{IsOneForm}
 use Rattle.one_loop.specs.Sizes.{IsSmallForm}

@@ -3,6 +3,7 @@
 #![tactic(auto)]
 
 mod counter;
+mod form_fault;
 mod gkat;
 mod oneloop;
 mod running;

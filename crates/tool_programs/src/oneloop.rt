@@ -14,14 +14,14 @@ ghost use Rattle.while_lang.specs.Files.{FileParts};
 ghost use Rattle.problem_file.specs.Reads.{Reads};
 ghost use Rattle.while_lang.specs.Ranges.{IsNumbered};
 ghost use Rattle.tool_commands.specs.ProgramWords.{program_of};
-ghost use Rattle.kat_report.specs.FormRefusals.{form_fault_line};
+ghost use Rattle.tool_programs.specs.FormFaults.{form_fault_line};
 ghost use Rattle.tool_programs.specs.OneLoop.{HasForm, HasNoForm, IsCounterName, FormsFile, OneLoopHeadline, OneLoopReply};
 ghost use Rattle.tool_inputs.specs.Steps.{IsRefusal};
 ghost use Rattle.tool_inputs.specs.ReplySpecs.{EndsWith, Yields, RepliesWith};
 
 use crate::counter::counter_name;
+use crate::form_fault::form_fault_line;
 use kat_model::{NoMemory, Width};
-use kat_report::form_fault_line;
 use one_loop::{OneLoopFault, one_loop};
 use problem_file::{declare, one_program_text};
 use std::alloc::Global;

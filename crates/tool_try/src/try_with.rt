@@ -22,8 +22,7 @@ use kat_report::{no_string_line, reason_line};
 use std::alloc::Global;
 use store_trials::following;
 use string_tables::GString;
-use tool_check::evidence_in;
-use tool_inputs::{EarlyEnd, PairCommand, Reply, line, reply_to_pair};
+use tool_inputs::{EarlyEnd, PairCommand, Reply, evidence_in, line, reply_to_pair};
 use while_lang::{File, Store};
 
 // Returns the stores from which the string can be followed, and then all stores of the list.

@@ -31,7 +31,7 @@ use Rattle.kat_report.specs.InputLines.{too_long_line, words_line}
 use Rattle.tool_commands.specs.ProgramWords.{where_concrete, program_of}
 use Rattle.tool_inputs.specs.Steps.{IsRefusal, HasUnfitWords}
 use Rattle.tool_commands.proofs.StoreValues.{some_numbers}
-use Rattle.kat_report.specs.FormRefusals.{form_fault_line}
+use Rattle.tool_programs.specs.FormFaults.{form_fault_line}
 use Rattle.tool_programs.specs.OneLoop.{IsCounterName, names_with, IsFormFault, HasNoForm, HasForm, PrintsForm, FormsProgram, FormsFile, FormsText, IsWithinText, IsSmallProgram, TellsForm, OneLoopHeadline, LacksProgram, OneLoopReply}
 use Rattle.tool_inputs.specs.ReplySpecs.{EndsWith}
 use Rattle.tool_inputs.proofs.ReplySpecs.{EndsWith-weaker}

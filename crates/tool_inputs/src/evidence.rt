@@ -3,10 +3,10 @@ ghost use Rattle.tool_inputs.specs.EvidenceBytes.{Spells, IsNoEvidence};
 ghost use Rattle.tool_inputs.specs.Steps.{IsRefusal};
 ghost use Rattle.tool_inputs.specs.ReplySpecs.{Yields};
 
+use crate::reply::{EarlyEnd, Reply};
 use certificate::{Evidence, EvidenceFault, read};
 use kat_report::evidence_fault_line;
 use std::alloc::Global;
-use tool_inputs::{EarlyEnd, Reply};
 
 /// Returns the evidence whose text is these bytes. Other bytes are refused with the line of their first fault.
 pub fn evidence_in(alloc: Global, bytes: &[u8]) -> Result<Evidence, EarlyEnd>
