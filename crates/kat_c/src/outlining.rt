@@ -5,8 +5,8 @@ ghost use Rattle.while_lang.specs.Files.{FileParts};
 ghost use Rattle.problem_file.specs.Reads.{Reads};
 ghost use Rattle.while_lang.specs.Concrete.{IsConcrete, Agrees};
 ghost use Rattle.tool_inputs.specs.FileProblem.{Asks};
-ghost use Rattle.tool_outline.specs.Outline.{OutlineHeadline, OutlineReply};
-ghost use Rattle.tool_outline.specs.OutlineCheck.{NotesHeadline, OutlineCheckReply};
+ghost use Rattle.tool_decide.specs.Outline.{OutlineHeadline, OutlineReply};
+ghost use Rattle.tool_decide.specs.OutlineCheck.{NotesHeadline, OutlineCheckReply};
 ghost use Rattle.kat_c.specs.CallEnds.{call_end, GivesReply};
 
 use crate::giving::give;

@@ -8,7 +8,7 @@ ghost use Rattle.tool_programs.specs.OneLoop.{OneLoopHeadline, OneLoopReply};
 ghost use Rattle.tool_programs.specs.Show.{ShowHeadline, ShowReply};
 ghost use Rattle.tool_programs.specs.Gkat.{GkatHeadline, GkatReply};
 ghost use Rattle.tool_flow.specs.Flow.{FlowHeadline, FlowReply};
-ghost use Rattle.tool_optimise.specs.Optimise.{OptimiseHeadline, OptimiseReply};
+ghost use Rattle.tool_decide.specs.Optimise.{OptimiseHeadline, OptimiseReply};
 ghost use Rattle.kat_c.specs.CallEnds.{call_end, GivesReply, RefusesWords};
 
 use crate::giving::give;

@@ -27,15 +27,15 @@ use Rattle.tool_explain.specs.Explain.{ExplainReply}
 use Rattle.tool_try.specs.Try.{TryReply}
 use Rattle.tool_try.specs.Questions.{HasConcrete}
 use Rattle.tool_try.specs.TryWith.{TryWithReply}
-use Rattle.tool_outline.specs.Triples.{HasTask, PosesSomeTask}
-use Rattle.tool_outline.specs.Outline.{IsNoted, OutlinesText, OutlineReply}
-use Rattle.tool_outline.specs.OutlineCheck.{OutlineCheckReply}
+use Rattle.tool_decide.specs.Triples.{HasTask, PosesSomeTask}
+use Rattle.tool_decide.specs.Outline.{IsNoted, OutlinesText, OutlineReply}
+use Rattle.tool_decide.specs.OutlineCheck.{OutlineCheckReply}
 use Rattle.tool_flow.specs.Flow.{FlowReply}
 use Rattle.tool_programs.specs.Show.{ShowReply}
 use Rattle.tool_programs.specs.Gkat.{GkatReply}
 use Rattle.tool_programs.specs.Running.{DoesNotFit, RunReply}
 use Rattle.tool_programs.specs.OneLoop.{LacksProgram, OneLoopReply}
-use Rattle.tool_optimise.specs.Optimise.{LacksAnyProgram, OptimiseReply}
+use Rattle.tool_decide.specs.Optimise.{LacksAnyProgram, OptimiseReply}
 use Rattle.kat_tool.specs.Replies.{RepliesTo, MayNotFit, HasNoCommand, Replies}
 use Rattle.kat_tool.specs.Run.{HasFailed, IsUnfit, IsReply, Call, IsRun}
 use Rattle.kat_tool.specs.Laws.{CausesExclude, CheckAgrees, NotesFollow}
@@ -51,14 +51,14 @@ use Rattle.tool_check.specs.Working.ReplayReplies.{replay_one}
 use Rattle.tool_check.specs.Working.ChainReplies.{chain_one}
 use Rattle.tool_explain.specs.Working.ExplainReplies.{explain_one}
 use Rattle.tool_try.specs.Working.TryReplies.{try_one, try_with_one}
-use Rattle.tool_outline.specs.Working.OutlineReplies.{outline_one}
-use Rattle.tool_outline.specs.Working.NotesReplies.{outline_check_one}
+use Rattle.tool_decide.specs.Working.OutlineReplies.{outline_one}
+use Rattle.tool_decide.specs.Working.NotesReplies.{outline_check_one}
 use Rattle.tool_flow.specs.Working.FlowReplies.{flow_one}
 use Rattle.tool_programs.specs.Working.ShowReplies.{show_one}
 use Rattle.tool_programs.specs.Working.GkatReplies.{gkat_one}
 use Rattle.tool_programs.specs.Working.RunReplies.{run_one}
 use Rattle.tool_programs.specs.Working.OneLoopReplies.{one_loop_one}
-use Rattle.tool_optimise.specs.Working.OptimiseReplies.{optimise_one}
+use Rattle.tool_decide.specs.Working.OptimiseReplies.{optimise_one}
 use Rattle.kat_report.specs.InputLines.{words_line}
 
 -- ---- all commands

@@ -16,15 +16,15 @@ use Rattle.tool_explain.specs.Explain.{ExplainReply}
 use Rattle.tool_try.specs.Try.{TryReply}
 use Rattle.tool_try.specs.Questions.{HasConcrete}
 use Rattle.tool_try.specs.TryWith.{TryWithReply}
-use Rattle.tool_outline.specs.Triples.{PosesSomeTask}
-use Rattle.tool_outline.specs.Outline.{OutlineReply}
-use Rattle.tool_outline.specs.OutlineCheck.{OutlineCheckReply}
+use Rattle.tool_decide.specs.Triples.{PosesSomeTask}
+use Rattle.tool_decide.specs.Outline.{OutlineReply}
+use Rattle.tool_decide.specs.OutlineCheck.{OutlineCheckReply}
 use Rattle.tool_flow.specs.Flow.{FlowReply}
 use Rattle.tool_programs.specs.Show.{ShowReply}
 use Rattle.tool_programs.specs.Gkat.{GkatReply}
 use Rattle.tool_programs.specs.Running.{DoesNotFit, RunReply}
 use Rattle.tool_programs.specs.OneLoop.{LacksProgram, OneLoopReply}
-use Rattle.tool_optimise.specs.Optimise.{LacksAnyProgram, OptimiseReply}
+use Rattle.tool_decide.specs.Optimise.{LacksAnyProgram, OptimiseReply}
 use Rattle.kat_report.specs.InputLines.{words_line}
 
 -- the reply to a command

@@ -1,5 +1,10 @@
+pub mod LogTexts
+pub mod Optimise
+pub mod Working
+pub mod Triples
+pub mod OutlineCheck
+pub mod Outline
 pub mod Decide
 pub mod DecideJson
 pub mod Batch
 pub mod Bench
-pub mod Working

@@ -1,3 +1,8 @@
+pub mod OptimiseReplies
+pub mod FileTriples
+pub mod TextTriples
+pub mod OutlineReplies
+pub mod NotesReplies
 pub mod Goals
 pub mod Tallies
 pub mod DecideReplies

@@ -1,6 +1,6 @@
 use Rattle.std.proofs.Common.{◌≡◌}
 use Rattle.while_lang.specs.Concrete.{Agrees}
-use Rattle.tool_outline.specs.Outline.{OutlineHeadline, OutlineReply}
+use Rattle.tool_decide.specs.Outline.{OutlineHeadline, OutlineReply}
 use Rattle.kat_c.proofs.Replies.{given_reply}
 use Rattle.kat_c.proofs.outlining.kat_outline.Goals as goal
 

@@ -1,6 +1,6 @@
 use Rattle.std.proofs.Common.{◌≡◌}
 use Rattle.while_lang.specs.Concrete.{Agrees}
-use Rattle.tool_outline.specs.OutlineCheck.{NotesHeadline, OutlineCheckReply}
+use Rattle.tool_decide.specs.OutlineCheck.{NotesHeadline, OutlineCheckReply}
 use Rattle.kat_c.proofs.Replies.{given_reply}
 use Rattle.kat_c.proofs.outlining.kat_outline_check.Goals as goal
 

@@ -1,4 +1,4 @@
-use Rattle.tool_optimise.specs.Optimise.{OptimiseHeadline, OptimiseReply}
+use Rattle.tool_decide.specs.Optimise.{OptimiseHeadline, OptimiseReply}
 use Rattle.kat_c.specs.CallEnds.{RefusesWords}
 use Rattle.kat_c.proofs.Replies.{given_reply}
 use Rattle.kat_c.proofs.programs.kat_optimise.Goals as goal

@@ -1,3 +1,0 @@
-pub mod LogTexts
-pub mod Optimise
-pub mod Working

@@ -1,4 +1,0 @@
-pub mod Triples
-pub mod OutlineCheck
-pub mod Outline
-pub mod Working

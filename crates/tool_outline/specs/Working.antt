@@ -1,4 +1,0 @@
-pub mod FileTriples
-pub mod TextTriples
-pub mod OutlineReplies
-pub mod NotesReplies
