@@ -1,3 +1,6 @@
+pub mod PrintedPieces
+pub mod SeparatePrograms
+pub mod PrintedBlocks
 pub mod PlainNames
 pub mod PlainScopes
 pub mod ScopeNames

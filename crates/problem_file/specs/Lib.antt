@@ -1,3 +1,6 @@
+pub mod ProgramPrinting
+pub mod PrintLaws
+pub mod Working
 pub mod Questions
 pub mod NamedTexts
 pub mod CommentedTexts
@@ -5,7 +8,6 @@ pub mod NumberedScopes
 pub mod ProgramNumbers
 pub mod ProgramTexts
 pub mod TextLaws
-pub mod Working
 pub mod Files
 pub mod Numbers
 pub mod ItemActions

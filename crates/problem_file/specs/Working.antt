@@ -1,3 +1,4 @@
+pub mod ProgramTexts
 pub mod Scopes
 pub mod Numbers
 pub mod Walks

@@ -12,6 +12,7 @@ mod laws;
 mod making;
 mod names;
 mod phrase;
+mod print;
 mod program_writing;
 mod reading;
 mod scope;
@@ -19,12 +20,9 @@ mod syntax;
 mod triple;
 mod writing;
 
-pub use laws::{
-    are_in_ranges, commented_texts_read_back, files_are_scanned, have_one_answer, items_are_folded,
-    items_are_made, named_programs_read_back, named_texts_read_back, plain_programs_read_back,
-    plain_texts_read_back, plain_triples_read_back,
-};
+pub use laws::{are_in_ranges, commented_texts_read_back, files_are_scanned, have_one_answer, items_are_folded, items_are_made, named_programs_read_back, named_texts_read_back, plain_programs_read_back, plain_texts_read_back, plain_triples_read_back, printed_programs_read_back};
 pub use names::{name_at, number_at};
+pub use print::print_prog;
 pub use program_writing::one_program_text;
 pub use reading::{fault_in_text, read, read_all, text_of};
 pub use scope::{declare, numbered_scope, plain_scope};

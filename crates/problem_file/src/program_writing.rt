@@ -10,7 +10,7 @@ use std::alloc::Global;
 use text_print::put_name;
 use text_scopes::{Meaning, Scope};
 use while_lang::Prog;
-use while_print::print_prog;
+use crate::print::print_prog;
 
 fn put_width(out: &mut Vec<u8>, width: Width) -> Result<(), NoMemory>
     ensures { OnOk result (out.new.items ≡ out.old.items ++ width_text width) }

@@ -10,7 +10,7 @@ use std::test::Fail;
 use text_scopes::Scope;
 use text_tokens::TextFault;
 use while_lang::{Outcome, Prog, Store, read_block, run};
-use while_print::print_prog;
+use problem_file::print_prog;
 
 fn prog_of(alloc: Global, text: &str, scope: &Scope) -> Result<Prog, TextFault> {
     let found = cut(alloc, text)?;

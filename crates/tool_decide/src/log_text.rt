@@ -8,7 +8,7 @@ use optimiser_steps::{Ended, LogLine, Optimised};
 use std::alloc::Global;
 use std::fmt::Write;
 use text_scopes::Scope;
-use while_print::print_prog;
+use problem_file::print_prog;
 
 fn put_step(alloc: Global, out: &mut Vec<u8>, line: &LogLine) -> Result<(), NoMemory>
     ensures { OnOk result (out.new.items ≡ out.old.items ++ step_line line.now) }

@@ -4,8 +4,8 @@ ghost use Rattle.kat_model.specs.Expressions.{expr_tree, cond_tree};
 ghost use Rattle.text_tokens.specs.Pieces.{spelled};
 ghost use Rattle.text_print.specs.Printing.{name_of, expr_text, cond_text};
 ghost use Rattle.while_lang.specs.ProgramViews.{stmt_tree};
-ghost use Rattle.while_print.specs.ProgramPrinting.{block_pieces};
-ghost use Rattle.while_print.specs.Working.ProgramTexts.{stmt_text, stmts_text};
+ghost use Rattle.problem_file.specs.ProgramPrinting.{block_pieces};
+ghost use Rattle.problem_file.specs.Working.ProgramTexts.{stmt_text, stmts_text};
 
 use kat_model::{Cond, Expr, NoMemory};
 use std::alloc::Global;

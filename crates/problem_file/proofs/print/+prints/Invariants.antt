@@ -1,8 +1,8 @@
 use Rattle.std.proofs.Common.{◌≡◌, ◌++◌, drop}
 use Rattle.text_print.specs.Printing.{name_of}
 use Rattle.while_lang.specs.ProgramViews.{list_tree}
-use Rattle.while_print.specs.Working.ProgramTexts.{stmts_text}
-use Rattle.while_print.proofs.print.+prints.Given as goal
+use Rattle.problem_file.specs.Working.ProgramTexts.{stmts_text}
+use Rattle.problem_file.proofs.print.+prints.Given as goal
 
 -- the text so far and that of the remaining statements are the whole text
 abbrev pub invariant-put_stmts-loop-stmt : goal.invariant-put_stmts-loop-stmt

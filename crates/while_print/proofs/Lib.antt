@@ -1,3 +1,0 @@
-pub mod ProgramPieces
-pub mod SeparatePrograms
-pub mod PrintedBlocks

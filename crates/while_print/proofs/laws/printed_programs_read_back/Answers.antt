@@ -1,5 +1,0 @@
-use Rattle.while_print.proofs.PrintedBlocks.{printed_back}
-use Rattle.while_print.proofs.laws.printed_programs_read_back.Goals as goal
-
-pub returns : goal.returns
-returns c = printed_back

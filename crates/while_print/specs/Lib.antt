@@ -1,3 +1,0 @@
-pub mod ProgramPrinting
-pub mod Laws
-pub mod Working
