@@ -54,7 +54,7 @@ impl ChainReading for ChainScan {
         depth: usize,
         _: (),
     ) -> Result<(((), ()), usize), TextFault> {
-        let (_, end) = text_grammar::read_term(
+        let (_, end) = text_grammar::parse_term(
             &Scan,
             toks,
             from,

@@ -44,7 +44,7 @@ impl GkatReading for ExprScan {
         from: usize,
         depth: usize,
     ) -> Result<((), usize), TextFault> {
-        text_grammar::read_cond(&Scan, toks, from, Context::outermost(depth, true))
+        text_grammar::parse_cond(&Scan, toks, from, Context::outermost(depth, true))
     }
 
     fn never(&self) {}

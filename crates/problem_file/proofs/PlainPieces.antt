@@ -8,7 +8,7 @@ use Rattle.kat_model.specs.Problems.{ProblemParts}
 use Rattle.text_tokens.specs.Pieces.{Piece, word, numeral, symbol, gap, spelled, AreSeparate}
 use Rattle.text_tokens.specs.declared.token.Kind.TheVariants.{Name}
 use Rattle.text_tokens.specs.Kinds.{IsToken}
-use Rattle.text_tokens.proofs.Words.{keyword_is_name}
+use Rattle.text_tokens.proofs.PrintedWords.{keyword_is_name}
 use Rattle.text_scopes.specs.declared.meaning.Meaning.{Meaning}
 use Rattle.text_scopes.specs.declared.meaning.Meaning.TheVariants.{Test, Action}
 use Rattle.text_scopes.specs.ScopeParts.{ScopeParts, IsIdentifier}

@@ -8,7 +8,7 @@ use Rattle.kat_model.specs.Problems.{ProblemParts, IsInRange, AreInRange, terms_
 use Rattle.text_tokens.specs.declared.lexer.TheConstants.{MAX_LEN}
 use Rattle.text_tokens.specs.Lex.{Lexes}
 use Rattle.text_tokens.specs.Pieces.{Piece, spelled, parts_from}
-use Rattle.text_tokens.proofs.Words.{keyword_is_name}
+use Rattle.text_tokens.proofs.PrintedWords.{keyword_is_name}
 use Rattle.text_scopes.specs.declared.meaning.Meaning.{Meaning}
 use Rattle.text_scopes.specs.ScopeParts.{ScopeParts}
 use Rattle.text_print.specs.Printing.{term_nesting}

@@ -3,7 +3,7 @@ use Rattle.std.proofs.Common.{ℕ, List, [], ◌∷◌, refl}
 use Rattle.std.specs.Prelude.{codes}
 use Rattle.text_tokens.specs.declared.token.Kind.TheVariants.{Symbol}
 use Rattle.text_tokens.specs.Pieces.{Piece, symbol, gap, spelled, EndsBefore, AreSeparate}
-use Rattle.text_tokens.proofs.Words.{keyword_is_name}
+use Rattle.text_tokens.proofs.PrintedWords.{keyword_is_name}
 use Rattle.text_scopes.specs.declared.meaning.Meaning.{Meaning}
 use Rattle.text_scopes.specs.ScopeParts.{ScopeParts}
 use Rattle.text_print.specs.Printing.{expr_pieces, cond_pieces}

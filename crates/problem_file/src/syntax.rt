@@ -10,7 +10,7 @@ ghost use Rattle.problem_file.specs.Syntax.{checking, scan_file};
 use crate::item_reading::{Comparison, Declared, ItemReading, Setting};
 use crate::items::read_items;
 use crate::phrase::{Measured, MeasuredSides, MeasuredTriple};
-use text_grammar::{Context, Scan, read_cond, read_term};
+use text_grammar::{Context, Scan, parse_cond, parse_term};
 use text_tokens::{TextFault, Token};
 use while_lang::block_end;
 
@@ -41,7 +41,7 @@ impl ItemReading for Syntax {
     ghost actions = { checking };
 
     fn measure_term(&self, toks: &[Token], from: usize) -> Result<((), usize), TextFault> {
-        read_term(&Scan, toks, from, Context::outermost(0, false))
+        parse_term(&Scan, toks, from, Context::outermost(0, false))
     }
 
     fn measure_cond(
@@ -50,7 +50,7 @@ impl ItemReading for Syntax {
         from: usize,
         compares: bool,
     ) -> Result<((), usize), TextFault> {
-        read_cond(&Scan, toks, from, Context::outermost(1, compares))
+        parse_cond(&Scan, toks, from, Context::outermost(1, compares))
     }
 
     fn measure_block(&self, toks: &[Token], from: usize) -> Result<((), usize), TextFault> {

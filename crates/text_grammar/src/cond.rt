@@ -9,7 +9,7 @@ ghost use Rattle.text_grammar.specs.Lexemes.{lexemes};
 ghost use Rattle.text_grammar.specs.Parsed.{Reads, Goes};
 ghost use Rattle.text_grammar.specs.Conds.{after_close, begins_expr, relation, comparison, parenthesis, negation, parse_cond, disjunction, conjunction, literal};
 
-use crate::expr::read_expr;
+use crate::expr::parse_expr;
 use crate::reading::{Context, Reading, with_end};
 use crate::terminal::{
     Terminal, is_at, is_round_close_at, is_round_open_at, syntax_fault_at, terminal_at, text_at,
@@ -70,14 +70,14 @@ fn comparison<R: Reading>(
     ensures value { Reads R.memory R.cond (lexemes toks.now) result (comparison (R.actions reading.now).conds context (drop from (lexemes toks.now))) }
     ensures goes { Goes from (length toks.now) result }
 {
-    let (left, next) = read_expr(reading, toks, from, context)?;
+    let (left, next) = parse_expr(reading, toks, from, context)?;
     let (relation, next) = relation(toks, next)?;
-    let (right, end) = read_expr(reading, toks, next, context)?;
+    let (right, end) = parse_expr(reading, toks, next, context)?;
     Ok((reading.compare(relation, left, right), end))
 }
 
-/// Reads the condition that begins at `from`, in the way that [`crate::read_term`] reads a term.
-pub fn read_cond<R: Reading>(
+/// Reads the condition that begins at `from`, in the way that [`crate::parse_term`] reads a term.
+pub fn parse_cond<R: Reading>(
     reading: &R,
     toks: &[Token],
     from: usize,

@@ -19,8 +19,8 @@ fn operator_at(toks: &[Token], i: usize) -> Operator
     }
 }
 
-/// Reads the expression that begins at `from`, in the way that [`crate::read_term`] reads a term.
-pub fn read_expr<R: Reading>(
+/// Reads the expression that begins at `from`, in the way that [`crate::parse_term`] reads a term.
+pub fn parse_expr<R: Reading>(
     reading: &R,
     toks: &[Token],
     from: usize,

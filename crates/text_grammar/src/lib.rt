@@ -10,12 +10,12 @@ mod scan;
 mod term;
 mod terminal;
 
-pub use cond::read_cond;
-pub use expr::read_expr;
+pub use cond::parse_cond;
+pub use expr::parse_expr;
 pub use laws::{grammar_is_scanned, phrases_are_unique, phrases_end};
 pub use reading::{Context, Operator, Reading, with_end};
 pub use scan::{Scan, cond_end, expr_end, term_end};
-pub use term::read_term;
+pub use term::parse_term;
 pub use terminal::{
     Keyword, Separator, Terminal, expect, is_at, is_sum_at, place_at, syntax_fault_at, terminal_at,
     terminal_of, text_at,

@@ -5,10 +5,10 @@ ghost use Rattle.text_grammar.specs.Parsed.{Wants};
 ghost use Rattle.text_grammar.specs.Scans.{scanning, scan_term, scan_cond, scan_expr};
 ghost use Rattle.text_grammar.specs.Faults.{IsSyntaxFault};
 
-use crate::cond::read_cond;
-use crate::expr::read_expr;
+use crate::cond::parse_cond;
+use crate::expr::parse_expr;
 use crate::reading::{Context, Operator, Reading};
-use crate::term::read_term;
+use crate::term::parse_term;
 use kat_model::Rel;
 use text_tokens::{TextFault, Token};
 
@@ -144,7 +144,7 @@ pub fn term_end(toks: &[Token], from: usize, depth: usize) -> Result<usize, Text
     ensures goes { IfOk result (λ end. (from < end) × (end ≤ length toks.now)) }
     ensures fault { IfErr result (λ fault. IsSyntaxFault (drop from (lexemes toks.now)) fault) }
 {
-    let (_, end) = read_term(&Scan, toks, from, Context::outermost(depth, true))?;
+    let (_, end) = parse_term(&Scan, toks, from, Context::outermost(depth, true))?;
     Ok(end)
 }
 
@@ -154,7 +154,7 @@ pub fn cond_end(toks: &[Token], from: usize, depth: usize) -> Result<usize, Text
     ensures goes { IfOk result (λ end. (from < end) × (end ≤ length toks.now)) }
     ensures fault { IfErr result (λ fault. IsSyntaxFault (drop from (lexemes toks.now)) fault) }
 {
-    let (_, end) = read_cond(&Scan, toks, from, Context::outermost(depth, true))?;
+    let (_, end) = parse_cond(&Scan, toks, from, Context::outermost(depth, true))?;
     Ok(end)
 }
 
@@ -164,6 +164,6 @@ pub fn expr_end(toks: &[Token], from: usize, depth: usize) -> Result<usize, Text
     ensures goes { IfOk result (λ end. (from < end) × (end ≤ length toks.now)) }
     ensures fault { IfErr result (λ fault. IsSyntaxFault (drop from (lexemes toks.now)) fault) }
 {
-    let (_, end) = read_expr(&Scan, toks, from, Context::outermost(depth, true))?;
+    let (_, end) = parse_expr(&Scan, toks, from, Context::outermost(depth, true))?;
     Ok(end)
 }

@@ -4,7 +4,7 @@ ghost use Rattle.text_grammar.specs.Lexemes.{lexemes};
 ghost use Rattle.text_grammar.specs.Parsed.{Reads, Goes};
 ghost use Rattle.text_grammar.specs.Terms.{parenthesis, bracket, negation, star_or_not, parse_term, choice, sequence, unit};
 
-use crate::cond::read_cond;
+use crate::cond::parse_cond;
 use crate::reading::{Context, Reading, with_end};
 use crate::terminal::{
     Terminal, expect, is_at, syntax_fault_at, terminal_at, text_at, then_expect,
@@ -15,7 +15,7 @@ use text_tokens::{TextFault, Token};
 /// fault in the text: `Syntax` at a token that is not allowed there (with the place `usize::MAX` after the last token),
 /// `TooDeep` at a token that takes the number of open constructs beyond `MAX_OPEN`, `NumberTooWide` at a number of 2^64
 /// or more, or the fault with which an action rejects a part. Only an action fails with `NoMemory`.
-pub fn read_term<R: Reading>(
+pub fn parse_term<R: Reading>(
     reading: &R,
     toks: &[Token],
     from: usize,
@@ -140,7 +140,7 @@ fn bracket<R: Reading>(
     ensures goes { Goes from (length toks.now) result }
 {
     let inside = context.enter(at)?;
-    let (cond, end) = read_cond(reading, toks, from, inside)?;
+    let (cond, end) = parse_cond(reading, toks, from, inside)?;
     let end = expect(toks, end, Terminal::SquareClose)?;
     with_end(reading.tested(cond), end)
 }

@@ -13,7 +13,7 @@ use Rattle.text_tokens.specs.Kinds.{IsToken}
 use Rattle.text_tokens.specs.Pieces.{Piece, word, symbol, gap, spelled, EndsBefore, AreSeparate}
 use Rattle.text_tokens.proofs.Beginnings.{is_mark, name_begins, begins_no_mark, char_some}
 use Rattle.text_tokens.proofs.Gaps.{char_high}
-use Rattle.text_tokens.proofs.Words.{keyword_is_name, decimal_is_number}
+use Rattle.text_tokens.proofs.PrintedWords.{keyword_is_name, decimal_is_number}
 use Rattle.text_scopes.specs.declared.meaning.Meaning.{Meaning}
 use Rattle.text_scopes.specs.declared.meaning.Meaning.TheVariants.{Test, Action, Var}
 use Rattle.text_scopes.specs.ScopeParts.{ScopeParts, IsNameOf}

@@ -32,7 +32,7 @@ pub fn measure_term(
     ensures value { Reads ⊥ (λ m. m) (lexemes toks.now) result (parse_term (extents scope.now) choice (context depth false false) (drop from (lexemes toks.now))) }
     ensures goes { Goes from (length toks.now) result }
 {
-    text_grammar::read_term(
+    text_grammar::parse_term(
         &Measure { scope },
         toks,
         from,
@@ -52,7 +52,7 @@ pub fn measure_cond(
     ensures value { Reads ⊥ (λ m. m) (lexemes toks.now) result (parse_cond (cond_extents scope.now) disjunction (context depth false compares) (drop from (lexemes toks.now))) }
     ensures goes { Goes from (length toks.now) result }
 {
-    text_grammar::read_cond(
+    text_grammar::parse_cond(
         &Measure { scope },
         toks,
         from,
@@ -70,7 +70,7 @@ pub fn measure_expr(
     ensures value { Reads ⊥ (λ m. m) (lexemes toks.now) result (parse_expr (expr_extents scope.now) sums (context depth false true) (drop from (lexemes toks.now))) }
     ensures goes { Goes from (length toks.now) result }
 {
-    text_grammar::read_expr(
+    text_grammar::parse_expr(
         &Measure { scope },
         toks,
         from,
@@ -90,7 +90,7 @@ pub fn build_term(
     ensures value { Reads (Unit {0}) kat_tree (lexemes toks.now) result (parse_term (trees scope.now) choice (context depth false false) (drop from (lexemes toks.now))) }
     ensures goes { Goes from (length toks.now) result }
 {
-    text_grammar::read_term(
+    text_grammar::parse_term(
         &Build { alloc, scope },
         toks,
         from,
@@ -110,7 +110,7 @@ pub fn build_cond(
     ensures value { Reads (Unit {0}) cond_tree (lexemes toks.now) result (parse_cond (cond_trees scope.now) disjunction (context depth false compares) (drop from (lexemes toks.now))) }
     ensures goes { Goes from (length toks.now) result }
 {
-    text_grammar::read_cond(
+    text_grammar::parse_cond(
         &Build { alloc, scope },
         toks,
         from,
@@ -129,7 +129,7 @@ pub fn build_expr(
     ensures value { Reads (Unit {0}) expr_tree (lexemes toks.now) result (parse_expr (expr_trees scope.now) sums (context depth false true) (drop from (lexemes toks.now))) }
     ensures goes { Goes from (length toks.now) result }
 {
-    text_grammar::read_expr(
+    text_grammar::parse_expr(
         &Build { alloc, scope },
         toks,
         from,

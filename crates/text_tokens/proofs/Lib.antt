@@ -7,5 +7,5 @@ pub mod Ends
 pub mod Readings
 pub mod Slices
 pub mod Printed
-pub mod Words
+pub mod PrintedWords
 pub mod PieceExamples

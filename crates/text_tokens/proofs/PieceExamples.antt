@@ -6,7 +6,7 @@ use Rattle.text_tokens.specs.TokenParts.{token_parts}
 use Rattle.text_tokens.specs.Lex.{Lexes}
 use Rattle.text_tokens.specs.Pieces.{Piece, word, numeral, symbol, gap, AreSeparate}
 use Rattle.text_tokens.proofs.Printed.{printed}
-use Rattle.text_tokens.proofs.Words.{word_is_name}
+use Rattle.text_tokens.proofs.PrintedWords.{word_is_name}
 
 abbrev set_x : List Piece
 set_x = word (codes "x") ∷ gap 32 ∷ symbol (codes ":=") ∷ gap 32 ∷ numeral (codes "12") ∷ symbol (codes ";") ∷ gap 10 ∷ []

@@ -1,7 +1,7 @@
 //! Keywords.
 ghost use Rattle.std.specs.Prelude.{◌≡◌};
 ghost use Rattle.text_tokens.specs.Keywords.{is_keyword};
-ghost use Rattle.text_tokens.specs.Working.Words.{is_item_word, is_program_word};
+ghost use Rattle.text_tokens.specs.Working.KeywordParts.{is_item_word, is_program_word};
 
 fn is_item_word(text: &str) -> bool
     ensures { result ≡ is_item_word text.now }

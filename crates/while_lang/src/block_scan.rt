@@ -48,7 +48,7 @@ impl BlockReading for BlockScan {
         from: usize,
         depth: usize,
     ) -> Result<((), usize), TextFault> {
-        text_grammar::read_expr(&Scan, toks, from, Context::outermost(depth, true))
+        text_grammar::parse_expr(&Scan, toks, from, Context::outermost(depth, true))
     }
 
     fn read_cond(
@@ -57,7 +57,7 @@ impl BlockReading for BlockScan {
         from: usize,
         depth: usize,
     ) -> Result<((), usize), TextFault> {
-        text_grammar::read_cond(&Scan, toks, from, Context::outermost(depth, true))
+        text_grammar::parse_cond(&Scan, toks, from, Context::outermost(depth, true))
     }
 
     fn none(&self) {}

@@ -1,4 +1,4 @@
-use Rattle.text_tokens.proofs.Words.{keyword_is_name, decimal_is_number}
+use Rattle.text_tokens.proofs.PrintedWords.{keyword_is_name, decimal_is_number}
 use Rattle.text_tokens.proofs.laws.words_are_tokens.Goals as goal
 
 pub returns-clause-keywords : goal.returns-clause-keywords

@@ -16,7 +16,7 @@ use Rattle.unicode_ident.proofs.IdentLemmas.{is_xid_start-ascii, is_xid_continue
 use Rattle.text_tokens.specs.declared.token.Kind.TheVariants.{Name, Number}
 use Rattle.text_tokens.specs.Kinds.{is_name, begins_name, IsToken}
 use Rattle.text_tokens.specs.Keywords.{keywords, is_keyword}
-use Rattle.text_tokens.specs.Working.Words.{item_words, program_words, is_item_word, is_program_word}
+use Rattle.text_tokens.specs.Working.KeywordParts.{item_words, program_words, is_item_word, is_program_word}
 use Rattle.text_tokens.proofs.Beginnings.{passes_all, name_from_parts}
 
 -- ---- ASCII names
