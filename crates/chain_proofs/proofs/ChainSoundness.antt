@@ -5,8 +5,8 @@ use Rattle.std.specs.Str.{bytes_eq}
 use Rattle.std.specs.Prelude.{codes}
 use Rattle.std.proofs.lemmas.List.{drop-drop}
 use Rattle.kat_model.specs.declared.limits.TheConstants.{MAX_OPEN}
-use Rattle.text_tokens.specs.declared.fault.TextFault.{TextFault}
-use Rattle.text_tokens.specs.declared.fault.TextFault.TheVariants.{Syntax}
+use Rattle.text_grammar.specs.declared.fault.TextFault.{TextFault}
+use Rattle.text_grammar.specs.declared.fault.TextFault.TheVariants.{Syntax}
 use Rattle.text_grammar.specs.declared.terminal.Terminal.TheVariants.{Name, Keyword, Separator, Dot}
 use Rattle.text_grammar.specs.declared.terminal.Keyword.TheVariants as word
 use Rattle.text_grammar.specs.declared.terminal.Separator.TheVariants.{Semicolon, CurlyOpen, CurlyClose, Equals}

@@ -1,7 +1,7 @@
 -- The chain made from tokens is the chain of their phrase.
 use Rattle.std.proofs.Common.{◌≡◌, ℕ, List, [], ◌∷◌, false, Result, Ok, Err, refl}
 use Rattle.kat_model.specs.Trees.{Term}
-use Rattle.text_tokens.specs.declared.fault.TextFault.{TextFault}
+use Rattle.text_grammar.specs.declared.fault.TextFault.{TextFault}
 use Rattle.text_grammar.specs.declared.terminal.Terminal.TheVariants.{And, Compares, Dot, Or, Plus, Star}
 use Rattle.text_grammar.specs.Lexemes.{Lexeme}
 use Rattle.text_grammar.specs.Parsed.{◌>>=◌, before, change, place_of}

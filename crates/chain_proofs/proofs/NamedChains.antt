@@ -1,7 +1,7 @@
 -- The tests of tokens never fail with out of memory: reading takes fewer steps than its bound.
 use Rattle.std.proofs.Common.{◌≡◌, refl, ℕ, zero, suc, ◌+◌, ◌<◌, List, [], ◌∷◌, length, drop, Bool, true, false, cond, nat_lt, ◌||◌, Option, Some, None, Ok, Err, arith}
 use Rattle.kat_model.specs.declared.limits.TheConstants.{MAX_TERM_NODES, MAX_TEXT_NODES}
-use Rattle.text_tokens.specs.declared.fault.TextFault.TheVariants.{Syntax, TooLarge}
+use Rattle.text_grammar.specs.declared.fault.TextFault.TheVariants.{Syntax, TooLarge}
 use Rattle.text_grammar.specs.declared.terminal.Terminal.TheVariants.{Name, Keyword, Separator, Dot}
 use Rattle.text_grammar.specs.declared.terminal.Keyword.TheVariants as word
 use Rattle.text_grammar.specs.declared.terminal.Separator.TheVariants.{Semicolon, CurlyOpen, CurlyClose, Equals}

@@ -1,7 +1,7 @@
 -- The value of a chain under actions, computed from left to right, or the first fault.
 use Rattle.std.specs.Prelude.{ℕ, [], ◌∷◌, false, Option, None, Some, Result, Ok}
 use Rattle.kat_model.specs.Trees.{Term}
-use Rattle.text_tokens.specs.declared.fault.TextFault.{TextFault}
+use Rattle.text_grammar.specs.declared.fault.TextFault.{TextFault}
 use Rattle.text_grammar.specs.Parsed.{◌>>=◌, place_of}
 use Rattle.text_grammar.specs.Actions.{context}
 use Rattle.text_grammar.specs.Phrases.{term, Phrase, yield_before}

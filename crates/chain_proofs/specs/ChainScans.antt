@@ -1,8 +1,8 @@
 -- The syntax test of a whole chain.
 use Rattle.std.specs.Prelude.{ℕ, ◌+◌, List, [], ◌∷◌, length, false, Result, Ok, Err}
 use Rattle.std.proofs.Common.{arith}
-use Rattle.text_tokens.specs.declared.fault.TextFault.{TextFault}
-use Rattle.text_tokens.specs.declared.fault.TextFault.TheVariants.{Syntax}
+use Rattle.text_grammar.specs.declared.fault.TextFault.{TextFault}
+use Rattle.text_grammar.specs.declared.fault.TextFault.TheVariants.{Syntax}
 use Rattle.text_grammar.specs.Lexemes.{Lexeme, lexeme}
 use Rattle.text_grammar.specs.Parsed.{Parsed, ◌>>=◌, change}
 use Rattle.text_grammar.specs.Actions.{context}

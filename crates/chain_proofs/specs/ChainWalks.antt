@@ -1,8 +1,8 @@
 -- Reading chains from the start of the tokens.
 use Rattle.std.specs.Prelude.{ℕ, zero, suc, List, [], ◌∷◌, length, drop, Bool, false, ◌||◌, if◌then◌else◌, codes, Option, None, Some, Result, Ok, Err}
 use Rattle.std.specs.Str.{bytes_eq}
-use Rattle.text_tokens.specs.declared.fault.TextFault.{TextFault}
-use Rattle.text_tokens.specs.declared.fault.TextFault.TheVariants.{NoMemory, Syntax}
+use Rattle.text_grammar.specs.declared.fault.TextFault.{TextFault}
+use Rattle.text_grammar.specs.declared.fault.TextFault.TheVariants.{NoMemory, Syntax}
 use Rattle.text_grammar.specs.declared.terminal.Terminal.TheVariants.{Name, Keyword, Separator, Dot}
 use Rattle.text_grammar.specs.declared.terminal.Keyword.TheVariants as word
 use Rattle.text_grammar.specs.declared.terminal.Separator.TheVariants.{Semicolon, CurlyOpen, CurlyClose, Equals}

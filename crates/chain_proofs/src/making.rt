@@ -12,9 +12,8 @@ use crate::walk::read_chain;
 use chain_rules::{Axiom, Chain, Line};
 use kat_model::{Kat, MAX_TERM_NODES, MAX_TEXT_NODES, NoMemory};
 use std::alloc::Global;
-use text_grammar::place_at;
+use text_grammar::{TextFault, Token, place_at};
 use text_scopes::{Scope, build_term, measure_term};
-use text_tokens::{TextFault, Token};
 
 // Builds the chain, with the names of the scope.
 #[derive(Clone, Copy)]

@@ -6,8 +6,7 @@ ghost use Rattle.chain_proofs.specs.ChainScans.{scanning_chain, scan_chain};
 
 use crate::chain_reading::ChainReading;
 use crate::walk::read_chain;
-use text_grammar::{Context, Scan, terminal_at};
-use text_tokens::{TextFault, Token};
+use text_grammar::{Context, Scan, TextFault, Token, terminal_at};
 
 // Makes nothing of a chain and refuses no part.
 struct ChainScan;

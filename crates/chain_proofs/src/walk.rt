@@ -9,8 +9,7 @@ ghost use Rattle.chain_proofs.specs.Working.Reading.{reason_of};
 use crate::chain_reading::ChainReading;
 use crate::words::{expect_word, has_inner, has_number, is_word_at, rule_name_at};
 use problem_file::number_at;
-use text_grammar::{Separator, Terminal, expect, is_at, place_at};
-use text_tokens::{TextFault, Token};
+use text_grammar::{Separator, Terminal, TextFault, Token, expect, is_at, place_at};
 use while_lang::enter;
 
 // A rule, its path, and whether it requires an inner chain.

@@ -4,8 +4,7 @@ ghost use Rattle.text_grammar.specs.Lexemes.{lexemes};
 ghost use Rattle.text_grammar.specs.Parsed.{Makes, Wants};
 ghost use Rattle.chain_proofs.specs.ChainWalks.{is_word, wants_word, rule_name, has_number, has_inner};
 
-use text_grammar::{Keyword, Terminal, syntax_fault_at, terminal_at, text_at};
-use text_tokens::{TextFault, Token};
+use text_grammar::{Keyword, Terminal, TextFault, Token, syntax_fault_at, terminal_at, text_at};
 
 /// Whether the token at an index is this plain name.
 pub(crate) fn is_word_at(toks: &[Token], i: usize, word: &str) -> bool

@@ -1,6 +1,6 @@
 -- What holds of the value of a result, if it has one.
 use Rattle.std.proofs.Common.{◌≡◌, Bool, true, false, if◌then◌else◌, Result, Ok, Err, refl, subst}
-use Rattle.text_tokens.specs.declared.fault.TextFault.{TextFault}
+use Rattle.text_grammar.specs.declared.fault.TextFault.{TextFault}
 use Rattle.text_grammar.specs.Parsed.{◌>>=◌}
 
 abbrev pub Holds : {V : Type 0} → (V → Type 0) → Result V TextFault → Type 0

@@ -1,9 +1,9 @@
 -- The terminals of tokens.
 use Rattle.std.specs.Prelude.{ℕ, List, if◌then◌else◌, codes, Option, Some, None}
 use Rattle.std.specs.Str.{bytes_eq}
-use Rattle.text_tokens.specs.declared.token.Kind.{Kind}
-use Rattle.text_tokens.specs.declared.token.Kind.TheVariants as kind
-use Rattle.text_tokens.specs.TokenParts.{TokenParts, token_parts}
+use Rattle.text_grammar.specs.declared.token.Kind.{Kind}
+use Rattle.text_grammar.specs.declared.token.Kind.TheVariants as kind
+use Rattle.text_grammar.specs.TokenParts.{TokenParts, token_parts}
 use Rattle.text_grammar.specs.declared.terminal.Terminal.{Terminal}
 use Rattle.text_grammar.specs.declared.terminal.Terminal.TheVariants.{Zero, One, Number, WideNumber}
 use Rattle.text_grammar.specs.Terminals as grammar

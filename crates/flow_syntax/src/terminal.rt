@@ -1,12 +1,11 @@
 //! The terminals of the format, numbered after those that the reader knows.
 ghost use Rattle.std.specs.Prelude.{◌≡◌, [], ◌∷◌};
-ghost use Rattle.text_tokens.specs.TokenParts.{parts_of_token};
+ghost use Rattle.text_grammar.specs.TokenParts.{parts_of_token};
 ghost use Rattle.flow_syntax.specs.Terminals.{word_terminal, symbol_terminal, number_terminal, terminal_of, spelled_number};
 ghost use Rattle.flow_syntax.specs.Working.Words.{word_of_two, comparison_word, width_of_three, word_of_three, word_of_four, word_of_five, word_of_six};
 
 use crate::rule::{CLOSE_ROUND, NUMBER, OPEN_ROUND, WIDE_NUMBER};
-use text_grammar::Terminal;
-use text_tokens::{Kind, Token};
+use text_grammar::{Kind, Terminal, Token};
 
 /// A name that is not a keyword.
 pub const NAME: usize = 5;

@@ -1,10 +1,10 @@
 -- Bytes are the text of exactly one flow file or have exactly one first fault.
 use Rattle.std.proofs.Common.{◌≡◌, ◌⊎◌, inl, inr, ⊎_elim, ℕ, List, length, map, Result, Ok, Err, IfErr, refl, sym, ap, subst, ◌∙◌}
-use Rattle.text_tokens.specs.declared.fault.TextFault.{TextFault}
-use Rattle.text_tokens.specs.declared.fault.TextFault.TheVariants.{NoMemory, BadToken}
-use Rattle.text_tokens.specs.TokenParts.{TokenParts}
-use Rattle.text_tokens.specs.Lex.{Lexes, IsFault}
-use Rattle.text_tokens.proofs.Readings.{one_lexing}
+use Rattle.text_grammar.specs.declared.fault.TextFault.{TextFault}
+use Rattle.text_grammar.specs.declared.fault.TextFault.TheVariants.{NoMemory, BadToken}
+use Rattle.text_grammar.specs.TokenParts.{TokenParts}
+use Rattle.text_grammar.specs.Lex.{Lexes, IsFault}
+use Rattle.text_grammar.proofs.Readings.{one_lexing}
 use Rattle.text_grammar.specs.Parsed.{Makes}
 use Rattle.text_grammar.specs.Lexemes.{Lexeme}
 use Rattle.flow_syntax.specs.declared.rule.Step.{Step}

@@ -1,6 +1,6 @@
 //! The items of a text, checked one by one.
 ghost use Rattle.std.specs.Prelude.{◌≡◌, []};
-ghost use Rattle.text_tokens.specs.TokenParts.{parts_of_token};
+ghost use Rattle.text_grammar.specs.TokenParts.{parts_of_token};
 ghost use Rattle.text_grammar.specs.Parsed.{Makes};
 ghost use Rattle.problem_file.specs.Working.Walks.{Does};
 ghost use Rattle.flow_text.specs.Scopes.{sort_meant, sort_named, next_parameter, parameters_after};
@@ -18,7 +18,7 @@ use flow_model::Sort;
 use flow_syntax::{Block, Item, nodes_with, spelled_number};
 use kat_model::{MAX_ROUNDS, append};
 use std::alloc::Global;
-use text_tokens::{TextFault, Token};
+use text_grammar::{TextFault, Token};
 
 /// A graph with the numbers of sorts, functions, variables and graphs that are declared before it.
 pub(crate) struct WrittenGraph<'a> {

@@ -10,7 +10,7 @@ use crate::sight::Sight;
 use flow_model::{ExprNode, Sort};
 use flow_syntax::Node;
 use std::alloc::Global;
-use text_tokens::TextFault;
+use text_grammar::TextFault;
 
 /// Returns the expression with its names resolved, where a sort is wanted, or its first fault in text order.
 pub(crate) fn resolve_expr(

@@ -1,6 +1,6 @@
 -- Reading the tokens of items gives their fold.
 use Rattle.std.proofs.Common.{◌≡◌, ℕ, zero, suc, ◌<◌, ◌≤◌, List, [], ◌∷◌, length, Result, Ok, Err, refl, ap, ◌∙◌, arith}
-use Rattle.text_tokens.specs.declared.fault.TextFault.{TextFault}
+use Rattle.text_grammar.specs.declared.fault.TextFault.{TextFault}
 use Rattle.text_grammar.specs.declared.terminal.Terminal.TheVariants.{RoundClose, SquareClose, Plus, Dot, Separator}
 use Rattle.text_grammar.specs.declared.terminal.Separator.TheVariants.{Comma, Semicolon, Caret}
 use Rattle.text_grammar.specs.Lexemes.{Lexeme, is_terminal}

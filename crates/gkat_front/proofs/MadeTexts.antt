@@ -1,7 +1,7 @@
 -- The result for the tokens of items is the result of the items.
 use Rattle.std.proofs.Common.{◌≡◌, ℕ, List, false, Result, Ok, Err, refl}
 use Rattle.kat_model.specs.Expressions.{CondTree, test_without_comparisons}
-use Rattle.text_tokens.specs.declared.fault.TextFault.{TextFault}
+use Rattle.text_grammar.specs.declared.fault.TextFault.{TextFault}
 use Rattle.text_grammar.specs.Lexemes.{Lexeme}
 use Rattle.text_grammar.specs.Parsed.{◌>>=◌, before, change}
 use Rattle.text_grammar.specs.Actions.{context}

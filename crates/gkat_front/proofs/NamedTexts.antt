@@ -2,7 +2,7 @@
 use Rattle.std.proofs.Common.{ℕ, zero, suc, ◌<◌, List, [], ◌∷◌, length, drop, true, false, nat_lt, Option, Some, None, Ok, Err, arith, nat_le}
 use Rattle.std.specs.Option.{is_some}
 use Rattle.kat_model.specs.declared.limits.TheConstants.{MAX_TESTS, MAX_ACTIONS, MAX_TERM_NODES}
-use Rattle.text_tokens.specs.declared.fault.TextFault.TheVariants.{TooLarge, TooMany, TwoGoals, DoubleName}
+use Rattle.text_grammar.specs.declared.fault.TextFault.TheVariants.{TooLarge, TooMany, TwoGoals, DoubleName}
 use Rattle.text_grammar.specs.declared.terminal.Terminal.TheVariants.{RoundOpen, RoundClose, SquareOpen, SquareClose, Plus, Dot, Zero, One, Name, Keyword, Separator}
 use Rattle.text_grammar.specs.declared.terminal.Keyword.TheVariants as word
 use Rattle.text_grammar.specs.declared.terminal.Separator.TheVariants.{Comma, Semicolon, Caret}

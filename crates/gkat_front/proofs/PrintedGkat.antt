@@ -5,10 +5,10 @@ use Rattle.std.specs.Prelude.{codes}
 use Rattle.kat_model.specs.declared.limits.TheConstants.{MAX_OPEN}
 use Rattle.kat_model.specs.Trees.{TestTree, bottom, top, prim, complement, meet, join}
 use Rattle.kat_model.specs.Expressions.{CondTree, has_comparison, test_without_comparisons}
-use Rattle.text_tokens.specs.declared.fault.TextFault.{TextFault}
-use Rattle.text_tokens.specs.declared.lexer.TheConstants.{MAX_LEN}
-use Rattle.text_tokens.specs.Pieces.{Piece, word, numeral, symbol, gap, spelled}
-use Rattle.text_tokens.proofs.Printed.{printed}
+use Rattle.text_grammar.specs.declared.fault.TextFault.{TextFault}
+use Rattle.text_grammar.specs.declared.lexer.TheConstants.{MAX_LEN}
+use Rattle.text_grammar.specs.Pieces.{Piece, word, numeral, symbol, gap, spelled}
+use Rattle.text_grammar.proofs.Printed.{printed}
 use Rattle.text_grammar.specs.declared.terminal.Terminal.{Terminal}
 use Rattle.text_grammar.specs.declared.terminal.Terminal.TheVariants.{RoundOpen, SquareOpen, Plus, Dot, Separator}
 use Rattle.text_grammar.specs.declared.terminal.Separator.TheVariants.{Caret}

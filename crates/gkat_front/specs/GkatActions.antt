@@ -1,6 +1,6 @@
 -- Actions on the parts of an expression, called while it is read.
 use Rattle.std.specs.Prelude.{ℕ, List, length, Result}
-use Rattle.text_tokens.specs.declared.fault.TextFault.{TextFault}
+use Rattle.text_grammar.specs.declared.fault.TextFault.{TextFault}
 use Rattle.text_grammar.specs.Lexemes.{Lexeme}
 use Rattle.text_grammar.specs.Parsed.{Parsed}
 use Rattle.text_grammar.proofs.Within.{Within}

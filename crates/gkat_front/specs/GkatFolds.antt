@@ -2,7 +2,7 @@
 use Rattle.std.specs.Prelude.{ℕ, false, Result, Ok}
 use Rattle.kat_model.specs.Trees.{TestTree}
 use Rattle.kat_model.specs.Expressions.{test_without_comparisons}
-use Rattle.text_tokens.specs.declared.fault.TextFault.{TextFault}
+use Rattle.text_grammar.specs.declared.fault.TextFault.{TextFault}
 use Rattle.text_grammar.specs.Parsed.{◌>>=◌}
 use Rattle.text_grammar.specs.Actions.{context}
 use Rattle.text_grammar.specs.Phrases.{cond, Phrase}

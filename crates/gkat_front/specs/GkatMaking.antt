@@ -3,8 +3,8 @@ use Rattle.std.specs.Prelude.{ℕ, ◌+◌, List, [], ◌∷◌, ◌++◌, lengt
 use Rattle.std.proofs.Common.{arith}
 use Rattle.kat_model.specs.Trees.{TestTree, bottom, top, prim}
 use Rattle.kat_model.specs.Expressions.{test_without_comparisons}
-use Rattle.text_tokens.specs.declared.fault.TextFault.{TextFault}
-use Rattle.text_tokens.specs.declared.fault.TextFault.TheVariants.{UnknownName, Sort}
+use Rattle.text_grammar.specs.declared.fault.TextFault.{TextFault}
+use Rattle.text_grammar.specs.declared.fault.TextFault.TheVariants.{UnknownName, Sort}
 use Rattle.text_grammar.specs.Lexemes.{Lexeme}
 use Rattle.text_grammar.specs.Parsed.{Parsed, ◌>>=◌, change}
 use Rattle.text_grammar.specs.Actions.{context}

@@ -1,6 +1,6 @@
 -- The effect of each item of a text on the state after the items before it, and the syntax test of items.
 use Rattle.std.specs.Prelude.{List, Result, Ok}
-use Rattle.text_tokens.specs.declared.fault.TextFault.{TextFault}
+use Rattle.text_grammar.specs.declared.fault.TextFault.{TextFault}
 use Rattle.text_grammar.specs.Lexemes.{Lexeme}
 use Rattle.text_grammar.specs.Parsed.{◌>>=◌}
 use Rattle.gkat_front.specs.Expressions.{GkatTree}

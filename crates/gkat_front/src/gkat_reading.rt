@@ -4,7 +4,7 @@ ghost use Rattle.text_grammar.specs.Lexemes.{lexemes};
 ghost use Rattle.text_grammar.specs.Parsed.{Makes, Reads, Goes};
 ghost use Rattle.gkat_front.specs.GkatActions.{GkatActions};
 
-use text_tokens::{TextFault, Token};
+use text_grammar::{TextFault, Token};
 
 // What to make of the parts of an expression while it is read. The methods are called for the parts in text order. A
 // fault of a method ends the reading. Places are byte offsets in the text.

@@ -7,7 +7,7 @@ ghost use Rattle.problem_file.specs.Working.Walks.{Does};
 ghost use Rattle.gkat_front.specs.FileActions.{FileActions};
 ghost use Rattle.gkat_front.specs.Working.Declarations.{declare_by};
 
-use text_tokens::{TextFault, Token};
+use text_grammar::{TextFault, Token};
 
 // The kinds of declared names.
 #[derive(Clone, Copy)]

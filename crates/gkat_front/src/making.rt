@@ -11,7 +11,7 @@ use crate::products::gkat_product;
 use kat_model::{Test, test_without_comparisons};
 use std::alloc::Global;
 use text_scopes::{Meaning, Scope, build_cond, measure_cond};
-use text_tokens::{TextFault, Token};
+use text_grammar::{TextFault, Token};
 
 // Builds the tree of an expression, with the names of the scope.
 #[derive(Clone, Copy)]

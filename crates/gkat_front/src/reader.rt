@@ -9,7 +9,7 @@ use crate::walk::read_expr;
 use kat_model::{MAX_ACTIONS, MAX_TERM_NODES, MAX_TESTS};
 use std::alloc::Global;
 use text_scopes::{Meaning, Scope};
-use text_tokens::{TextFault, Token};
+use text_grammar::{TextFault, Token};
 
 // Reads items that passed the syntax test.
 pub(crate) struct GkatReader {

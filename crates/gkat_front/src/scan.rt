@@ -9,8 +9,7 @@ use crate::gkat_reading::GkatReading;
 use crate::item_reading::{GkatDeclared, GkatItemReading};
 use crate::items::read_items;
 use crate::walk::read_expr;
-use text_grammar::{Context, Scan};
-use text_tokens::{TextFault, Token};
+use text_grammar::{Context, Scan, TextFault, Token};
 
 // Makes nothing of an expression and refuses no part.
 struct ExprScan;

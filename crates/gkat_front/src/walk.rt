@@ -5,10 +5,7 @@ ghost use Rattle.text_grammar.specs.Parsed.{Reads, Goes};
 ghost use Rattle.gkat_front.specs.GkatWalks.{guard_by, tested_by, round_by, unit_by, factor_by, product_by, whole, parse_gkat};
 
 use crate::gkat_reading::GkatReading;
-use text_grammar::{
-    Separator, Terminal, expect, is_at, place_at, syntax_fault_at, terminal_at, text_at, with_end,
-};
-use text_tokens::{TextFault, Token};
+use text_grammar::{Separator, Terminal, TextFault, Token, expect, is_at, place_at, syntax_fault_at, terminal_at, text_at, with_end};
 use while_lang::enter;
 
 // Reads a condition in brackets.

@@ -1,7 +1,7 @@
 -- The programs of blocks use only declared tests, actions and variables.
 use Rattle.std.proofs.Common.{◌≡◌, ℕ, ◌+◌, ◌<◌, List, [], ◌∷◌, ◌++◌, Bool, true, false, nat_lt, cond as if_true, slice_get, Option, Some, None, Ok, Err, refl, subst}
 use Rattle.kat_model.specs.declared.limits.TheConstants.{MAX_OPEN}
-use Rattle.text_tokens.specs.declared.fault.TextFault.TheVariants.{TooDeep}
+use Rattle.text_grammar.specs.declared.fault.TextFault.TheVariants.{TooDeep}
 use Rattle.text_grammar.specs.Parsed.{◌>>=◌}
 use Rattle.text_grammar.specs.Actions.{context}
 use Rattle.text_grammar.proofs.ParserSoundness.{bind_ok}

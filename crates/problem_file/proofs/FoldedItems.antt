@@ -1,7 +1,7 @@
 -- Reading the tokens of items with any actions gives the fold of the actions over the items.
 use Rattle.std.proofs.Common.{◌≡◌, ℕ, zero, suc, ◌≤◌, List, [], ◌∷◌, length, drop, Bool, true, false, cond as if_true, Result, Ok, Err, Option, Some, None, refl, ap, ◌∙◌, arith}
 use Rattle.std.specs.Option.{option_and_then}
-use Rattle.text_tokens.specs.declared.fault.TextFault.{TextFault}
+use Rattle.text_grammar.specs.declared.fault.TextFault.{TextFault}
 use Rattle.text_grammar.specs.declared.terminal.Terminal.TheVariants.{Keyword, Separator, Zero}
 use Rattle.text_grammar.specs.declared.terminal.Separator.TheVariants.{Comma, Semicolon, CurlyClose, Equals}
 use Rattle.text_grammar.specs.Lexemes.{Lexeme, is_terminal}

@@ -6,7 +6,7 @@ use Rattle.kat_model.specs.Expressions.{ExprTree, CondTree, always, never, named
 use Rattle.kat_model.specs.Problems.{IsTestInRange, IsInRange, AreInRange}
 use Rattle.kat_model.proofs.BalancedTrees.{balanced_holds}
 use Rattle.kat_model.proofs.Ranges.{AreInRange-append, AreInRange-append_left, AreInRange-append_right}
-use Rattle.text_tokens.specs.declared.fault.TextFault.{TextFault}
+use Rattle.text_grammar.specs.declared.fault.TextFault.{TextFault}
 use Rattle.text_grammar.specs.declared.reading.Context.{Context}
 use Rattle.text_grammar.specs.declared.reading.Operator.{Operator}
 use Rattle.text_grammar.specs.declared.reading.Operator.TheVariants.{Add, Subtract, Multiply}

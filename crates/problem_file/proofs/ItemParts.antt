@@ -1,6 +1,6 @@
 -- The results of items by the results of their parts.
 use Rattle.std.proofs.Common.{◌≡◌, ℕ, List, ◌∷◌, drop, Result, Ok, Err, refl}
-use Rattle.text_tokens.specs.declared.fault.TextFault.{TextFault}
+use Rattle.text_grammar.specs.declared.fault.TextFault.{TextFault}
 use Rattle.text_grammar.specs.declared.terminal.Terminal.{Terminal}
 use Rattle.text_grammar.specs.declared.terminal.Terminal.TheVariants.{Keyword, Separator, Zero}
 use Rattle.text_grammar.specs.declared.terminal.Keyword.{Keyword as KeywordOf}

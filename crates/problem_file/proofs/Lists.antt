@@ -1,8 +1,8 @@
 -- Lists of names and of items. The rest of a list has fewer tokens, so fewer steps suffice for it.
 use Rattle.std.proofs.Common.{◌≡◌, ℕ, zero, suc, ◌<◌, ◌≤◌, List, [], ◌∷◌, length, true, Result, Ok, Err, refl, ap, sym, ◌∙◌, arith, drop, length-drop}
-use Rattle.text_tokens.specs.declared.fault.TextFault.{TextFault}
-use Rattle.text_tokens.specs.declared.fault.TextFault.TheVariants.{NoMemory}
-use Rattle.text_tokens.specs.declared.token.Token.{Token}
+use Rattle.text_grammar.specs.declared.fault.TextFault.{TextFault}
+use Rattle.text_grammar.specs.declared.fault.TextFault.TheVariants.{NoMemory}
+use Rattle.text_grammar.specs.declared.token.Token.{Token}
 use Rattle.text_grammar.specs.declared.terminal.Terminal.TheVariants.{Separator}
 use Rattle.text_grammar.specs.declared.terminal.Separator.TheVariants.{Comma}
 use Rattle.text_grammar.specs.Lexemes.{Lexeme, lexemes, heads, is_terminal}

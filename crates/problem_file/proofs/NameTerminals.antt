@@ -1,12 +1,12 @@
 -- The tokens that are names in the grammar.
 use Rattle.std.proofs.Common.{◌≡◌, ◌<◌, ◌+◌, ℕ, zero, suc, List, [], ◌∷◌, length, drop, get_or, Option, Some, None, Bool, true, false, cond, not, Ok, Err, refl, sym, ap, ◌∙◌, subst, arith}
 use Rattle.std.specs.Prelude.{codes, bytes_eq}
-use Rattle.text_tokens.specs.declared.fault.TextFault.TheVariants.{Syntax}
-use Rattle.text_tokens.specs.declared.token.Kind.{Kind}
-use Rattle.text_tokens.specs.declared.token.Kind.TheVariants as kind
-use Rattle.text_tokens.specs.declared.token.Token.{Token}
-use Rattle.text_tokens.specs.Kinds.{IsToken}
-use Rattle.text_tokens.specs.Keywords.{is_keyword}
+use Rattle.text_grammar.specs.declared.fault.TextFault.TheVariants.{Syntax}
+use Rattle.text_grammar.specs.declared.token.Kind.{Kind}
+use Rattle.text_grammar.specs.declared.token.Kind.TheVariants as kind
+use Rattle.text_grammar.specs.declared.token.Token.{Token}
+use Rattle.text_grammar.specs.Kinds.{IsToken}
+use Rattle.text_grammar.specs.Keywords.{is_keyword}
 use Rattle.kat_model.specs.declared.expression.Rel.TheVariants.{Eq, Ne, Lt, Le, Gt, Ge}
 use Rattle.text_grammar.specs.declared.terminal.Keyword.TheVariants as word
 use Rattle.text_grammar.specs.declared.terminal.Separator.TheVariants.{Comma, Semicolon, CurlyOpen, CurlyClose, Equals, Becomes, Caret}

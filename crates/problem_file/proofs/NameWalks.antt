@@ -1,7 +1,7 @@
 -- Names separated by commas: the tokens read are names, reading them gives the fold over the names, fewer tokens
 -- remain, and no fault is `NoMemory` if the action at a name gives no such fault.
 use Rattle.std.proofs.Common.{◌≡◌, ℕ, zero, suc, ◌<◌, ◌≤◌, List, [], ◌∷◌, length, length-drop, drop, false, cond as if_true, Result, Ok, Err, refl, ap, ◌∙◌, arith}
-use Rattle.text_tokens.specs.declared.fault.TextFault.{TextFault}
+use Rattle.text_grammar.specs.declared.fault.TextFault.{TextFault}
 use Rattle.text_grammar.specs.declared.terminal.Terminal.TheVariants.{Name, Separator}
 use Rattle.text_grammar.specs.declared.terminal.Separator.TheVariants.{Comma, Semicolon}
 use Rattle.text_grammar.specs.Lexemes.{Lexeme, lexeme, heads, is_terminal}

@@ -1,6 +1,6 @@
 -- A fault of a block is never `NoMemory` if its actions give no such fault, because the steps suffice.
 use Rattle.std.proofs.Common.{ℕ, zero, suc, ◌+◌, ◌*◌, ◌<◌, List, [], ◌∷◌, length, Bool, true, false, cond as if_true, Ok, Err, arith, drop, length-drop}
-use Rattle.text_tokens.specs.declared.fault.TextFault.TheVariants.{Syntax}
+use Rattle.text_grammar.specs.declared.fault.TextFault.TheVariants.{Syntax}
 use Rattle.text_grammar.specs.declared.terminal.Terminal.{Terminal}
 use Rattle.text_grammar.specs.declared.terminal.Terminal.TheVariants.{Name, Keyword, Separator}
 use Rattle.text_grammar.specs.declared.terminal.Keyword.TheVariants as word

@@ -2,7 +2,7 @@
 use Rattle.std.proofs.Common.{ℕ, ◌+◌, List, length, nat_lt, Bool, true, false, Ok, Err, Option, Some, None, is_some, slice_get, ◌∷◌, [], nat_le}
 use Rattle.std.specs.Option.{option_and_then}
 use Rattle.kat_model.specs.declared.limits.TheConstants.{MAX_TESTS, MAX_ACTIONS, MAX_VARS, MAX_ROUNDS, MAX_TERM_NODES, MAX_TEXT_NODES, MAX_HYPS, MAX_OPEN}
-use Rattle.text_tokens.specs.declared.fault.TextFault.TheVariants.{Sort, TooDeep, DoubleName, TooMany, TooLarge, NumberTooWide}
+use Rattle.text_grammar.specs.declared.fault.TextFault.TheVariants.{Sort, TooDeep, DoubleName, TooMany, TooLarge, NumberTooWide}
 use Rattle.text_grammar.specs.declared.reading.Context.{Context}
 use Rattle.text_grammar.specs.declared.terminal.Terminal.TheVariants.{Number, WideNumber}
 use Rattle.text_grammar.specs.Lexemes.{Lexeme, lexeme}

@@ -5,7 +5,7 @@ use Rattle.std.specs.Prelude.{codes}
 use Rattle.kat_model.specs.declared.limits.TheConstants.{MAX_TESTS, MAX_ACTIONS, MAX_TERM_NODES, MAX_TEXT_NODES, MAX_HYPS, MAX_OPEN}
 use Rattle.kat_model.specs.Trees.{Term, term_size}
 use Rattle.kat_model.specs.Problems.{terms_size}
-use Rattle.text_tokens.specs.Pieces.{Piece, word, gap}
+use Rattle.text_grammar.specs.Pieces.{Piece, word, gap}
 use Rattle.text_grammar.specs.declared.terminal.Terminal.{Terminal}
 use Rattle.text_grammar.specs.declared.terminal.Terminal.TheVariants.{Name, Keyword, Separator, Zero}
 use Rattle.text_grammar.specs.declared.terminal.Keyword.TheVariants as keyword

@@ -5,8 +5,8 @@ use Rattle.std.proofs.lemmas.List.{append-nil}
 use Rattle.std.specs.Prelude.{codes}
 use Rattle.kat_model.specs.declared.limits.TheConstants.{MAX_TERM_NODES, MAX_EXPR_NODES, MAX_OPEN}
 use Rattle.kat_model.specs.Expressions.{ExprTree, CondTree}
-use Rattle.text_tokens.specs.Pieces.{Piece, word, symbol, gap}
-use Rattle.text_tokens.proofs.Printed.{printed}
+use Rattle.text_grammar.specs.Pieces.{Piece, word, symbol, gap}
+use Rattle.text_grammar.proofs.Printed.{printed}
 use Rattle.text_grammar.specs.declared.terminal.Terminal.{Terminal}
 use Rattle.text_grammar.specs.declared.terminal.Terminal.TheVariants.{Name, Keyword, Separator}
 use Rattle.text_grammar.specs.declared.terminal.Keyword.TheVariants as keyword

@@ -4,7 +4,7 @@ use Rattle.std.specs.Prelude.{codes}
 use Rattle.kat_model.specs.declared.limits.TheConstants.{MAX_OPEN}
 use Rattle.kat_model.specs.Expressions.{CondTree}
 use Rattle.kat_model.specs.declared.expression.Width.{Width}
-use Rattle.text_tokens.specs.Pieces.{Piece, symbol, gap}
+use Rattle.text_grammar.specs.Pieces.{Piece, symbol, gap}
 use Rattle.text_grammar.specs.declared.terminal.Terminal.TheVariants.{Separator}
 use Rattle.text_grammar.specs.declared.terminal.Separator.TheVariants.{CurlyOpen}
 use Rattle.text_grammar.specs.Lexemes.{Lexeme, lexeme}

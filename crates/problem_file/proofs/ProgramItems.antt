@@ -5,7 +5,7 @@ use Rattle.kat_model.specs.declared.limits.TheConstants.{MAX_VARS, MAX_TERM_NODE
 use Rattle.kat_model.specs.Expressions.{CondTree}
 use Rattle.kat_model.specs.declared.expression.Width.{Width}
 use Rattle.kat_model.specs.declared.expression.Width.TheVariants.{W8, W16, W32, W64}
-use Rattle.text_tokens.specs.Pieces.{Piece, word, numeral, symbol, gap}
+use Rattle.text_grammar.specs.Pieces.{Piece, word, numeral, symbol, gap}
 use Rattle.text_grammar.specs.declared.terminal.Terminal.{Terminal}
 use Rattle.text_grammar.specs.declared.terminal.Terminal.TheVariants.{Name, Number, Keyword, Separator}
 use Rattle.text_grammar.specs.declared.terminal.Keyword.TheVariants as keyword

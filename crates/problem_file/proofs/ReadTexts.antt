@@ -2,13 +2,13 @@
 use Rattle.std.proofs.Common.{◌≡◌, ◌⊎◌, ℕ, List, map, length, slice_get, get_or, Some, Result, Ok, Err, IfErr, MatchResult, Vec, ap, subst, ◌∙◌}
 use Rattle.std.specs.Option.{option_map}
 use Rattle.std.proofs.lemmas.Option.{slice_get-map, slice_get_within, get_or_from_slice_get}
-use Rattle.text_tokens.specs.declared.token.Token.{Token}
+use Rattle.text_grammar.specs.declared.token.Token.{Token}
 use Rattle.std.specs.declared.alloc.Global.{Global}
-use Rattle.text_tokens.specs.declared.fault.TextFault.{TextFault}
-use Rattle.text_tokens.specs.declared.fault.TextFault.TheVariants.{NoMemory}
-use Rattle.text_tokens.specs.TokenParts.{parts_of_tokens, parts_of_token}
-use Rattle.text_tokens.specs.Lex.{Lexes, IsSlice}
-use Rattle.text_tokens.proofs.Slices.{slices_from}
+use Rattle.text_grammar.specs.declared.fault.TextFault.{TextFault}
+use Rattle.text_grammar.specs.declared.fault.TextFault.TheVariants.{NoMemory}
+use Rattle.text_grammar.specs.TokenParts.{parts_of_tokens, parts_of_token}
+use Rattle.text_grammar.specs.Lex.{Lexes, IsSlice}
+use Rattle.text_grammar.proofs.Slices.{slices_from}
 use Rattle.text_grammar.specs.Lexemes.{lexemes}
 use Rattle.text_grammar.specs.Parsed.{Makes}
 use Rattle.problem_file.specs.Tokens.{AreTokens}

@@ -1,6 +1,6 @@
 -- Consequences of a known result.
 use Rattle.std.proofs.Common.{◌≡◌, Bool, true, false, cond as if_true, Result, Ok, Err, refl, ap, subst}
-use Rattle.text_tokens.specs.declared.fault.TextFault.{TextFault}
+use Rattle.text_grammar.specs.declared.fault.TextFault.{TextFault}
 use Rattle.text_grammar.specs.Parsed.{◌>>=◌}
 
 abbrev pub ok_of : {A : Type 0} → A → Result A TextFault

@@ -3,12 +3,12 @@ use Rattle.std.proofs.Common.{◌≡◌, ◌≤◌, ◌<◌, ◌⊎◌, inl, inr
 use Rattle.std.specs.Str.{IsUtf8, IsValidUpTo, is_utf8}
 use Rattle.std.proofs.lemmas.Str.{IsUtf8-from_is_utf8, utf8_valid_len-IsValidUpTo}
 use Rattle.std.proofs.lemmas.Bool.{ltb-true, ltb-false}
-use Rattle.text_tokens.specs.declared.lexer.TheConstants.{MAX_LEN}
-use Rattle.text_tokens.specs.declared.fault.TextFault.{TextFault}
-use Rattle.text_tokens.specs.declared.fault.TextFault.TheVariants.{NoMemory, TooLong, NotUtf8, BadToken, Syntax}
-use Rattle.text_tokens.specs.TokenParts.{TokenParts}
-use Rattle.text_tokens.specs.Lex.{IsText, Lexes, FirstBad, IsFault}
-use Rattle.text_tokens.proofs.Readings.{one_lexing, one_bad, not_both, some_reading}
+use Rattle.text_grammar.specs.declared.lexer.TheConstants.{MAX_LEN}
+use Rattle.text_grammar.specs.declared.fault.TextFault.{TextFault}
+use Rattle.text_grammar.specs.declared.fault.TextFault.TheVariants.{NoMemory, TooLong, NotUtf8, BadToken, Syntax}
+use Rattle.text_grammar.specs.TokenParts.{TokenParts}
+use Rattle.text_grammar.specs.Lex.{IsText, Lexes, FirstBad, IsFault}
+use Rattle.text_grammar.proofs.Readings.{one_lexing, one_bad, not_both, some_reading}
 use Rattle.text_grammar.specs.Lexemes.{Lexeme, lexeme_of}
 use Rattle.text_grammar.specs.Parsed.{Makes}
 use Rattle.text_grammar.proofs.NamedFaults.{IsNamedFault, IsNamed}

@@ -4,7 +4,7 @@ use Rattle.std.proofs.Common.{◌≡◌, ℕ, ◌+◌, ◌≤◌, List, [], fals
 use Rattle.kat_model.specs.declared.limits.TheConstants.{MAX_TERM_NODES}
 use Rattle.kat_model.specs.Trees.{Term, test_size, term_size}
 use Rattle.kat_model.specs.Expressions.{CondTree, test_without_comparisons}
-use Rattle.text_tokens.specs.declared.fault.TextFault.{TextFault}
+use Rattle.text_grammar.specs.declared.fault.TextFault.{TextFault}
 use Rattle.text_grammar.specs.declared.terminal.Terminal.TheVariants.{Separator}
 use Rattle.text_grammar.specs.declared.terminal.Separator.TheVariants.{CurlyClose}
 use Rattle.text_grammar.specs.Lexemes.{Lexeme}

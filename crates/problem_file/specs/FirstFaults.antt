@@ -1,11 +1,11 @@
 -- The first fault of the bytes of a text, for any checks of its tokens.
 use Rattle.std.specs.Prelude.{◌≡◌, ◌≤◌, ◌<◌, ℕ, min, List, length, map, Result, Ok, Err}
 use Rattle.std.specs.Str.{IsValidUpTo}
-use Rattle.text_tokens.specs.declared.lexer.TheConstants.{MAX_LEN}
-use Rattle.text_tokens.specs.declared.fault.TextFault.{TextFault}
-use Rattle.text_tokens.specs.declared.fault.TextFault.TheVariants.{TooLong, NotUtf8, BadToken, Syntax}
-use Rattle.text_tokens.specs.TokenParts.{TokenParts}
-use Rattle.text_tokens.specs.Lex.{Lexes, FirstBad}
+use Rattle.text_grammar.specs.declared.lexer.TheConstants.{MAX_LEN}
+use Rattle.text_grammar.specs.declared.fault.TextFault.{TextFault}
+use Rattle.text_grammar.specs.declared.fault.TextFault.TheVariants.{TooLong, NotUtf8, BadToken, Syntax}
+use Rattle.text_grammar.specs.TokenParts.{TokenParts}
+use Rattle.text_grammar.specs.Lex.{Lexes, FirstBad}
 use Rattle.text_grammar.specs.Lexemes.{Lexeme, lexeme_of}
 
 -- a fault after the last token is placed at the length of the text

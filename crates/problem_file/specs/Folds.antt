@@ -1,8 +1,8 @@
 -- The results of actions on items, from left to right, or the first fault. A measurement includes the tokens after its
 -- phrase, so the folds take these too.
 use Rattle.std.specs.Prelude.{ℕ, List, [], ◌∷◌, Bool, true, false, if◌then◌else◌, Result, Ok, Err, Option, Some, None, option_and_then}
-use Rattle.text_tokens.specs.declared.fault.TextFault.{TextFault}
-use Rattle.text_tokens.specs.declared.fault.TextFault.TheVariants.{NumberTooWide}
+use Rattle.text_grammar.specs.declared.fault.TextFault.{TextFault}
+use Rattle.text_grammar.specs.declared.fault.TextFault.TheVariants.{NumberTooWide}
 use Rattle.text_grammar.specs.declared.terminal.Terminal.TheVariants.{Separator, Zero}
 use Rattle.text_grammar.specs.declared.terminal.Separator.TheVariants.{Comma, CurlyClose, Equals}
 use Rattle.text_grammar.specs.Lexemes.{Lexeme}

@@ -1,7 +1,7 @@
 -- The actions on the parts of an item during reading. An action may refuse a part; every other error in an item is an
 -- error of syntax.
 use Rattle.std.specs.Prelude.{ℕ, List, Result, Option}
-use Rattle.text_tokens.specs.declared.fault.TextFault.{TextFault}
+use Rattle.text_grammar.specs.declared.fault.TextFault.{TextFault}
 use Rattle.text_grammar.specs.Lexemes.{Lexeme}
 use Rattle.text_grammar.specs.Actions.{Actions}
 use Rattle.while_lang.specs.BlockActions.{BlockActions}

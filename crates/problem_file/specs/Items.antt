@@ -1,7 +1,7 @@
 -- The items of a problem file, read one after the other with any actions.
 use Rattle.std.specs.Prelude.{ℕ, zero, suc, List, [], ◌∷◌, length, drop, Bool, true, false, if◌then◌else◌, Result, Ok, Err, Option, Some, None, option_and_then}
-use Rattle.text_tokens.specs.declared.fault.TextFault.{TextFault}
-use Rattle.text_tokens.specs.declared.fault.TextFault.TheVariants.{NoMemory, Syntax, NumberTooWide}
+use Rattle.text_grammar.specs.declared.fault.TextFault.{TextFault}
+use Rattle.text_grammar.specs.declared.fault.TextFault.TheVariants.{NoMemory, Syntax, NumberTooWide}
 use Rattle.text_grammar.specs.declared.terminal.Terminal.TheVariants.{Name, Keyword, Separator, Zero, One, Number, WideNumber}
 use Rattle.text_grammar.specs.declared.terminal.Keyword.TheVariants as word
 use Rattle.text_grammar.specs.declared.terminal.Separator.TheVariants.{Comma, Semicolon, CurlyOpen, CurlyClose, Equals}

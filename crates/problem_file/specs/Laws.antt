@@ -1,8 +1,8 @@
 -- The laws of problem files. Each is the contract of a function of the crate that does nothing.
 use Rattle.std.specs.Prelude.{◌≡◌, ◌↔◌, ◌⊎◌, ℕ, List, Ok}
 use Rattle.kat_model.specs.Members.{Has}
-use Rattle.text_tokens.specs.declared.fault.TextFault.{TextFault}
-use Rattle.text_tokens.specs.declared.fault.TextFault.TheVariants.{NoMemory}
+use Rattle.text_grammar.specs.declared.fault.TextFault.{TextFault}
+use Rattle.text_grammar.specs.declared.fault.TextFault.TheVariants.{NoMemory}
 use Rattle.text_grammar.specs.Lexemes.{Lexeme}
 use Rattle.while_lang.specs.BlockLaws.{AreLimited}
 use Rattle.while_lang.specs.Files.{GoalTree, FileParts}

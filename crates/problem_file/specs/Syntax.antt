@@ -1,6 +1,6 @@
 -- The syntax check of a whole file.
 use Rattle.std.specs.Prelude.{List, Result, Ok, None}
-use Rattle.text_tokens.specs.declared.fault.TextFault.{TextFault}
+use Rattle.text_grammar.specs.declared.fault.TextFault.{TextFault}
 use Rattle.text_grammar.specs.Lexemes.{Lexeme}
 use Rattle.text_grammar.specs.Scans.{scanning}
 use Rattle.while_lang.specs.BlockScans.{scanning_blocks}

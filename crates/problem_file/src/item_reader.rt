@@ -7,7 +7,7 @@ use crate::goal_limit::GoalLimit;
 use kat_model::{Kat, MAX_ACTIONS, MAX_TESTS, MAX_TEXT_NODES, MAX_VARS, Width};
 use std::alloc::Global;
 use text_scopes::{Meaning, Scope};
-use text_tokens::{TextFault, Token};
+use text_grammar::{TextFault, Token};
 use while_lang::{File, Goal, NamedProg};
 
 // Reads items whose syntax was checked before.

@@ -9,7 +9,7 @@ ghost use Rattle.problem_file.specs.Items.{measure_term, measure_cond, measure_b
 ghost use Rattle.problem_file.specs.Working.Walks.{measured_of, sides_of, triple_of, Tells, Does};
 
 use crate::phrase::{Measured, MeasuredSides, MeasuredTriple};
-use text_tokens::{TextFault, Token};
+use text_grammar::{TextFault, Token};
 
 // The kinds of names that an item may declare.
 #[derive(Clone, Copy)]

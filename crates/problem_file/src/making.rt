@@ -28,9 +28,8 @@ use kat_model::{
     Cond, Items, Kat, MAX_HYPS, MAX_OPEN, MAX_ROUNDS, MAX_TERM_NODES, NoMemory, Width,
 };
 use std::alloc::Global;
-use text_grammar::{Terminal, terminal_at};
+use text_grammar::{Terminal, TextFault, Token, terminal_at};
 use text_scopes::{Extent, build_cond, build_term, measure_cond, measure_term};
-use text_tokens::{TextFault, Token};
 use while_lang::{Goal, NamedProg, Side, build_block, measure_block, prog_meant};
 
 // Checks that an item, or a part of a goal, is within the limit of nodes; `TooLarge` at `at` past it.

@@ -7,8 +7,7 @@ ghost use Rattle.text_scopes.specs.ScopeParts.{IsIdentifier};
 ghost use Rattle.problem_file.specs.Items.{name_at, number_at, lone_name};
 ghost use Rattle.problem_file.specs.Tokens.{AreTokens};
 
-use text_grammar::{Terminal, syntax_fault_at, terminal_at, terminal_of, text_at};
-use text_tokens::{TextFault, Token};
+use text_grammar::{Terminal, TextFault, Token, syntax_fault_at, terminal_at, terminal_of, text_at};
 
 /// Returns the token at an index if it is a name. Otherwise fails with `Syntax` at its place, or at `usize::MAX` after
 /// the last token.

@@ -10,8 +10,7 @@ ghost use Rattle.problem_file.specs.Syntax.{checking, scan_file};
 use crate::item_reading::{Comparison, Declared, ItemReading, Setting};
 use crate::items::read_items;
 use crate::phrase::{Measured, MeasuredSides, MeasuredTriple};
-use text_grammar::{Context, Scan, parse_cond, parse_term};
-use text_tokens::{TextFault, Token};
+use text_grammar::{Context, Scan, TextFault, Token, parse_cond, parse_term};
 use while_lang::block_end;
 
 // Checks that a block begins at an index, and returns the index after it.

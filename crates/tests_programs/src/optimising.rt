@@ -7,7 +7,7 @@ use problem_file::{File, print_prog, read};
 use std::alloc::Global;
 use std::test::Fail;
 use text_scopes::Scope;
-use text_tokens::TextFault;
+use text_grammar::TextFault;
 
 // Whether the log has no step, or only this one, at the first statement.
 fn are_steps(log: &[LogLine], step: Option<u8>) -> bool {

@@ -9,7 +9,7 @@ use problem_file::{File, Goal, Side, plain_scope, read};
 use std::alloc::Global;
 use std::test::Fail;
 use text_scopes::Scope;
-use text_tokens::TextFault;
+use text_grammar::TextFault;
 use while_lang::{Prog, encode};
 
 // Reads a file. The numbers of the file are in range.

@@ -5,7 +5,7 @@ use kat_model::{Kat, NoMemory, Problem, Test};
 use std::alloc::Global;
 use std::test::Fail;
 use text_scopes::Scope;
-use text_tokens::TextFault;
+use text_grammar::TextFault;
 
 fn closed_text(alloc: Global, closed: &Closed, scope: &Scope) -> Result<Vec<u8>, NoMemory> {
     let mut out = Vec::new(alloc);

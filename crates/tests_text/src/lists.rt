@@ -5,7 +5,7 @@ use std::alloc::Global;
 use std::test::Fail;
 use text_print::{print_cond, print_term};
 use text_scopes::Scope;
-use text_tokens::TextFault;
+use text_grammar::TextFault;
 
 // Returns the actions p, q, p, .. .
 fn actions(alloc: Global, count: usize) -> Result<Vec<Kat>, NoMemory> {

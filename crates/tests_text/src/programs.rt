@@ -8,7 +8,7 @@ use kat_model::{NoMemory, Width};
 use std::alloc::Global;
 use std::test::Fail;
 use text_scopes::Scope;
-use text_tokens::TextFault;
+use text_grammar::TextFault;
 use while_lang::{Outcome, Prog, Store, read_block, run};
 use problem_file::print_prog;
 

@@ -2,8 +2,8 @@
 -- found by hand.
 use Rattle.std.proofs.Common.{◌≡◌, ℕ, ◌+◌, List, [], ◌∷◌, ◌++◌, map, false, true, Ok, Err, refl}
 use Rattle.std.specs.Prelude.{codes}
-use Rattle.text_tokens.specs.declared.fault.TextFault.TheVariants.{Syntax, TooDeep, NumberTooWide}
-use Rattle.text_tokens.specs.Pieces.{Piece, word, numeral, symbol, gap, parts_from}
+use Rattle.text_grammar.specs.declared.fault.TextFault.TheVariants.{Syntax, TooDeep, NumberTooWide}
+use Rattle.text_grammar.specs.Pieces.{Piece, word, numeral, symbol, gap, parts_from}
 use Rattle.text_grammar.specs.declared.reading.Operator.{Operator}
 use Rattle.text_grammar.specs.declared.reading.Operator.TheVariants.{Add, Subtract, Multiply}
 use Rattle.text_grammar.specs.Lexemes.{Lexeme, lexeme_of}

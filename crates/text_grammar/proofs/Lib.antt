@@ -1,3 +1,14 @@
+pub mod Beginnings
+pub mod Runs
+pub mod Fronts
+pub mod NameRuns
+pub mod Gaps
+pub mod Ends
+pub mod Readings
+pub mod Slices
+pub mod Printed
+pub mod PrintedWords
+pub mod PieceExamples
 pub mod PartFaults
 mod Seen
 pub mod Symbols

@@ -1,6 +1,6 @@
 -- A phrase is the longest if the token that follows cannot continue it.
 use Rattle.std.proofs.Common.{◌≡◌, ℕ, List, [], ◌∷◌, Bool, true, false, ◌||◌, Result, refl}
-use Rattle.text_tokens.specs.declared.fault.TextFault.{TextFault}
+use Rattle.text_grammar.specs.declared.fault.TextFault.{TextFault}
 use Rattle.text_grammar.specs.declared.terminal.Terminal.{Terminal}
 use Rattle.text_grammar.specs.declared.terminal.Terminal.TheVariants.{RoundClose, SquareClose, Star, Plus, Dot, And, Or, Compares}
 use Rattle.text_grammar.specs.Lexemes.{Lexeme, lexeme, heads, is_sum, is_terminal}

@@ -2,12 +2,12 @@
 use Rattle.std.proofs.Common.{◌≡◌, ℕ, zero, suc, ◌+◌, ◌-◌, List, [], ◌∷◌, map, drop, Bool, true, false, cond, Option, Some, None, refl, add-one, sub-one}
 use Rattle.std.proofs.lemmas.Slice.Eq.{bytes_eq-Decides}
 use Rattle.std.specs.Prelude.{codes, bytes_eq}
-use Rattle.text_tokens.specs.declared.token.Kind.{Kind}
-use Rattle.text_tokens.specs.declared.token.Kind.TheVariants as kind
+use Rattle.text_grammar.specs.declared.token.Kind.{Kind}
+use Rattle.text_grammar.specs.declared.token.Kind.TheVariants as kind
 use Rattle.text_grammar.specs.declared.terminal.Terminal.{Terminal}
 use Rattle.text_grammar.specs.declared.terminal.Terminal.TheVariants.{RoundOpen, RoundClose}
 use Rattle.text_grammar.specs.Terminals.{terminal_of, is_symbol, heads_symbol, numbered}
-use Rattle.text_tokens.specs.TokenParts.{TokenParts, token_parts}
+use Rattle.text_grammar.specs.TokenParts.{TokenParts, token_parts}
 use Rattle.text_grammar.specs.Lexemes.{Lexeme, lexeme, lexeme_of, heads, is_terminal}
 use Rattle.text_grammar.specs.Conds.{after_close}
 

@@ -1,8 +1,8 @@
 -- The token at an index.
 use Rattle.std.proofs.Common.{◌≡◌, ℕ, zero, suc, ◌+◌, ◌<◌, List, [], ◌∷◌, length, drop, get_or, Some, refl, ap, sym, subst, arith}
-use Rattle.text_tokens.specs.declared.token.Token.{Token}
+use Rattle.text_grammar.specs.declared.token.Token.{Token}
 use Rattle.text_grammar.specs.declared.terminal.Terminal.{Terminal}
-use Rattle.text_tokens.specs.TokenParts.{parts_of_tokens}
+use Rattle.text_grammar.specs.TokenParts.{parts_of_tokens}
 use Rattle.text_grammar.specs.Terminals.{terminal_of, is_symbol, heads_symbol}
 use Rattle.text_grammar.specs.Lexemes.{Sees}
 

@@ -3,7 +3,7 @@ use Rattle.std.proofs.Common.{◌≡◌, List, [], ◌∷◌, Bool, true, false,
 use Rattle.std.proofs.lemmas.Bool.{eqb-true}
 use denote.Enum.Bare.{same_true}
 use Rattle.kat_model.specs.contracts.expression.Rel.{the_type as rel_type}
-use Rattle.text_tokens.specs.declared.fault.TextFault.TheVariants.{Syntax}
+use Rattle.text_grammar.specs.declared.fault.TextFault.TheVariants.{Syntax}
 use Rattle.text_grammar.specs.contracts.terminal.Keyword.{the_type as keyword_type}
 use Rattle.text_grammar.specs.contracts.terminal.Separator.{the_type as separator_type}
 use Rattle.text_grammar.specs.contracts.terminal.TerminalPartialEq.TheImpl.{ghosts}

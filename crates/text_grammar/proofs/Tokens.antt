@@ -1,7 +1,7 @@
 -- Indices of tokens, and a token that must follow.
 use Rattle.std.proofs.Common.{◌≡◌, ℕ, ◌+◌, List, [], ◌∷◌, Bool, true, false, Ok, Err, drop, refl}
 use Rattle.std.proofs.lemmas.List.{drop-drop}
-use Rattle.text_tokens.specs.declared.fault.TextFault.TheVariants.{Syntax}
+use Rattle.text_grammar.specs.declared.fault.TextFault.TheVariants.{Syntax}
 use Rattle.text_grammar.specs.declared.terminal.Terminal.{Terminal}
 use Rattle.text_grammar.specs.Lexemes.{Lexeme, lexeme, heads}
 use Rattle.text_grammar.specs.Parsed.{place_of, wants}

@@ -1,7 +1,7 @@
 -- The condition parser.
 use Rattle.std.specs.Prelude.{ℕ, zero, suc, ◌+◌, ◌*◌, List, [], ◌∷◌, length, drop, Bool, if◌then◌else◌, Ok, Err}
 use Rattle.kat_model.specs.declared.expression.Rel.{Rel}
-use Rattle.text_tokens.specs.declared.fault.TextFault.TheVariants.{NoMemory, Syntax}
+use Rattle.text_grammar.specs.declared.fault.TextFault.TheVariants.{NoMemory, Syntax}
 use Rattle.text_grammar.specs.declared.terminal.Terminal.TheVariants.{RoundOpen, RoundClose, Bang, And, Or, Compares, Zero, One, Number, WideNumber, True, False, Name}
 use Rattle.text_grammar.specs.declared.reading.Context.{Context}
 use Rattle.text_grammar.specs.Lexemes.{Lexeme, lexeme, heads, makes_expr, is_terminal}

@@ -1,6 +1,6 @@
 -- The token that follows a phrase, and what it decides.
 use Rattle.std.specs.Prelude.{◌≡◌, ◌↔◌, ℕ, List, Bool, false, ◌||◌, Result, Ok}
-use Rattle.text_tokens.specs.declared.fault.TextFault.{TextFault}
+use Rattle.text_grammar.specs.declared.fault.TextFault.{TextFault}
 use Rattle.text_grammar.specs.declared.terminal.Terminal.{Terminal}
 use Rattle.text_grammar.specs.declared.terminal.Terminal.TheVariants.{Star, Plus, Dot, And, Or}
 use Rattle.text_grammar.specs.Lexemes.{Lexeme, heads, is_sum, is_terminal}

@@ -1,7 +1,7 @@
 -- The fold of the actions over a phrase, from left to right, or the first fault.
 use Rattle.std.specs.Prelude.{Bool, if◌then◌else◌, Result, Ok, Err}
-use Rattle.text_tokens.specs.declared.fault.TextFault.{TextFault}
-use Rattle.text_tokens.specs.declared.fault.TextFault.TheVariants.{NumberTooWide}
+use Rattle.text_grammar.specs.declared.fault.TextFault.{TextFault}
+use Rattle.text_grammar.specs.declared.fault.TextFault.TheVariants.{NumberTooWide}
 use Rattle.text_grammar.specs.declared.reading.Context.{Context}
 use Rattle.text_grammar.specs.declared.reading.Operator.{Operator}
 use Rattle.text_grammar.specs.declared.reading.Operator.TheVariants.{Add, Subtract, Multiply}

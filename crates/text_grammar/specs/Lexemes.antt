@@ -1,7 +1,7 @@
 -- Tokens as the grammar sees them.
 use Rattle.std.specs.Prelude.{◌≡◌, ℕ, ◌+◌, ◌<◌, ◌≤◌, List, [], ◌∷◌, length, map, drop, Bool, true, false, Option, Some, None, slice_get, ◌==◌}
-use Rattle.text_tokens.specs.declared.token.Token.{Token}
-use Rattle.text_tokens.specs.TokenParts.{TokenParts, token_parts, parts_of_tokens}
+use Rattle.text_grammar.specs.declared.token.Token.{Token}
+use Rattle.text_grammar.specs.TokenParts.{TokenParts, token_parts, parts_of_tokens}
 use Rattle.text_grammar.specs.declared.terminal.Terminal.{Terminal}
 use Rattle.kat_model.specs.contracts.expression.RelPartialEq.TheImpl.{ghosts as relation}
 use Rattle.text_grammar.specs.contracts.terminal.KeywordPartialEq.TheImpl.{ghosts as word}

@@ -1,3 +1,9 @@
+pub mod Keywords
+pub mod Kinds
+pub mod Lex
+pub mod TokenParts
+pub mod Pieces
+pub mod Working
 pub mod Terminals
 pub mod Lexemes
 pub mod Parsed
@@ -11,4 +17,3 @@ pub mod Scans
 pub mod Ends
 pub mod Ended
 pub mod Faults
-pub mod Working

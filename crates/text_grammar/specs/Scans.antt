@@ -1,6 +1,6 @@
 -- The syntax check: finds the end of a phrase, or its first fault.
 use Rattle.std.specs.Prelude.{◌≡◌, ◌↔◌, ℕ, List, true, false, Result, Ok}
-use Rattle.text_tokens.specs.declared.fault.TextFault.{TextFault}
+use Rattle.text_grammar.specs.declared.fault.TextFault.{TextFault}
 use Rattle.text_grammar.specs.Lexemes.{Lexeme}
 use Rattle.text_grammar.specs.Parsed.{◌>>=◌}
 use Rattle.text_grammar.specs.Actions.{ExprActions, CondActions, Actions, context}

@@ -4,9 +4,9 @@ use Rattle.std.specs.Str.{bytes_eq}
 use Rattle.std.specs.List.{list_all}
 use Rattle.std.specs.Char.{is_ascii_digit}
 use Rattle.kat_model.specs.declared.expression.Rel.TheVariants.{Eq, Ne, Lt, Le, Gt, Ge}
-use Rattle.text_tokens.specs.declared.token.Kind.{Kind}
-use Rattle.text_tokens.specs.declared.token.Kind.TheVariants as kind
-use Rattle.text_tokens.specs.TokenParts.{TokenParts, token_parts}
+use Rattle.text_grammar.specs.declared.token.Kind.{Kind}
+use Rattle.text_grammar.specs.declared.token.Kind.TheVariants as kind
+use Rattle.text_grammar.specs.TokenParts.{TokenParts, token_parts}
 use Rattle.text_grammar.specs.declared.terminal.Keyword.TheVariants as word
 use Rattle.text_grammar.specs.declared.terminal.Separator.TheVariants.{Comma, Semicolon, CurlyOpen, CurlyClose, Equals, Becomes, Caret}
 use Rattle.text_grammar.specs.declared.terminal.Terminal.{Terminal}

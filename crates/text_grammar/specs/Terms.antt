@@ -1,6 +1,6 @@
 -- The term parser.
 use Rattle.std.specs.Prelude.{ℕ, zero, suc, ◌+◌, ◌*◌, List, [], ◌∷◌, length, drop, if◌then◌else◌, Ok, Err}
-use Rattle.text_tokens.specs.declared.fault.TextFault.TheVariants.{NoMemory, Syntax}
+use Rattle.text_grammar.specs.declared.fault.TextFault.TheVariants.{NoMemory, Syntax}
 use Rattle.text_grammar.specs.declared.terminal.Terminal.TheVariants.{RoundOpen, RoundClose, SquareOpen, SquareClose, Bang, Star, Plus, Dot, Zero, One, Name}
 use Rattle.text_grammar.specs.declared.reading.Context.{Context}
 use Rattle.text_grammar.specs.Lexemes.{Lexeme, lexeme, heads, is_terminal}

@@ -1,2 +1,4 @@
+pub mod Fronts
+pub mod KeywordParts
 pub mod Symbols
 pub mod Words

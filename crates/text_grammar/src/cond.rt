@@ -16,7 +16,8 @@ use crate::terminal::{
     then_expect,
 };
 use kat_model::Rel;
-use text_tokens::{TextFault, Token};
+use crate::fault::TextFault;
+use crate::token::Token;
 
 // Returns the index after the parenthesis that matches one just before `from`, or the number of tokens if there is
 // none. Compares the text of a token with one symbol: `terminal_at`, which distinguishes all terminals, took four to

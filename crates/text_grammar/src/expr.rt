@@ -8,7 +8,8 @@ use crate::reading::{Context, Operator, Reading, with_end};
 use crate::terminal::{
     Terminal, is_at, is_sum_at, syntax_fault_at, terminal_at, text_at, then_expect,
 };
-use text_tokens::{TextFault, Token};
+use crate::fault::TextFault;
+use crate::token::Token;
 
 fn operator_at(toks: &[Token], i: usize) -> Operator
     ensures { result ≡ operator_at (drop i (lexemes toks.now)) }

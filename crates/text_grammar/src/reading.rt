@@ -5,7 +5,7 @@ ghost use Rattle.text_grammar.specs.Ended.{with_end};
 ghost use Rattle.text_grammar.specs.Actions.{Actions, context, enter, enter_not};
 
 use kat_model::{MAX_OPEN, Rel};
-use text_tokens::TextFault;
+use crate::fault::TextFault;
 
 /// An operation on numbers. A list of operations groups to the left.
 #[derive(Clone, Copy)]

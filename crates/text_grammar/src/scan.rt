@@ -10,7 +10,8 @@ use crate::expr::parse_expr;
 use crate::reading::{Context, Operator, Reading};
 use crate::term::parse_term;
 use kat_model::Rel;
-use text_tokens::{TextFault, Token};
+use crate::fault::TextFault;
+use crate::token::Token;
 
 /// The actions that make nothing and accept every part. A parse with them only checks the syntax.
 pub struct Scan;

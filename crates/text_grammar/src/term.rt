@@ -9,7 +9,8 @@ use crate::reading::{Context, Reading, with_end};
 use crate::terminal::{
     Terminal, expect, is_at, syntax_fault_at, terminal_at, text_at, then_expect,
 };
-use text_tokens::{TextFault, Token};
+use crate::fault::TextFault;
+use crate::token::Token;
 
 /// Reads the term that begins at `from`. Returns the result of the actions and the index after the term, or the first
 /// fault in the text: `Syntax` at a token that is not allowed there (with the place `usize::MAX` after the last token),

@@ -2,8 +2,8 @@
 ghost use Rattle.std.specs.Prelude.{◌≡◌, ℕ, ◌+◌, ◌<◌, [], ◌∷◌, length, drop, slice_get, IsTrue, IfOk, Ok, true};
 ghost use Rattle.std.specs.List.{list_all};
 ghost use Rattle.std.specs.Char.{is_ascii_digit};
-ghost use Rattle.text_tokens.specs.TokenParts.{parts_of_tokens};
-ghost use Rattle.text_tokens.specs.declared.fault.TextFault.TheVariants.{Syntax};
+ghost use Rattle.text_grammar.specs.TokenParts.{parts_of_tokens};
+ghost use Rattle.text_grammar.specs.declared.fault.TextFault.TheVariants.{Syntax};
 ghost use Rattle.text_grammar.specs.Terminals.{terminal_of, is_symbol, heads_symbol, keyword_terminal, number_terminal, symbol_terminal, is_digits, small_number};
 ghost use Rattle.text_grammar.specs.Working.Symbols.{symbol_of_one, symbol_of_two};
 ghost use Rattle.text_grammar.specs.Working.Words.{word_of_four, word_of_five, word_of_six, other_word};
@@ -11,7 +11,8 @@ ghost use Rattle.text_grammar.specs.Lexemes.{lexemes, text_at, Sees, heads, is_t
 ghost use Rattle.text_grammar.specs.Parsed.{place_of, Reads, Wants, wants, then_wants};
 
 use kat_model::Rel;
-use text_tokens::{Kind, TextFault, Token};
+use crate::token::{Kind, Token};
+use crate::fault::TextFault;
 
 /// A keyword, spelled as its variant in lower case. `true` and `false` are [`Terminal::True`] and [`Terminal::False`].
 #[derive(Clone, Copy, PartialEq, Eq)]
@@ -100,7 +101,7 @@ pub enum Terminal {
     Keyword(Keyword),
     /// A symbol that occurs in no phrase.
     Separator(Separator),
-    /// Not a token of the format; never occurs in texts cut by [`text_tokens::tokens`].
+    /// Not a token of the format; never occurs in texts cut by [`crate::lexer::tokens`].
     Other,
 }
 

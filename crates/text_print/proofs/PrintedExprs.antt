@@ -5,7 +5,7 @@ use Rattle.std.specs.Prelude.{codes}
 use Rattle.std.specs.Fmt.{decimal}
 use Rattle.kat_model.specs.declared.limits.TheConstants.{MAX_OPEN}
 use Rattle.kat_model.specs.Expressions.{ExprTree, number, variable, plus, minus, times}
-use Rattle.text_tokens.specs.Pieces.{Piece, word, numeral, symbol}
+use Rattle.text_grammar.specs.Pieces.{Piece, word, numeral, symbol}
 use Rattle.text_grammar.specs.declared.terminal.Terminal.{Terminal}
 use Rattle.text_grammar.specs.declared.terminal.Terminal.TheVariants.{Zero, One, Number}
 use Rattle.text_grammar.specs.declared.reading.Context.{Context}

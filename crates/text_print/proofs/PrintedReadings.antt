@@ -4,10 +4,10 @@ use Rattle.std.proofs.lemmas.Bool.{le-ltb}
 use Rattle.kat_model.specs.declared.limits.TheConstants.{MAX_TERM_NODES, MAX_EXPR_NODES, MAX_OPEN}
 use Rattle.kat_model.specs.Trees.{Term, term_size}
 use Rattle.kat_model.specs.Expressions.{ExprTree, CondTree, has_comparison}
-use Rattle.text_tokens.specs.declared.fault.TextFault.{TextFault}
-use Rattle.text_tokens.specs.declared.lexer.TheConstants.{MAX_LEN}
-use Rattle.text_tokens.specs.Pieces.{spelled}
-use Rattle.text_tokens.proofs.Printed.{printed}
+use Rattle.text_grammar.specs.declared.fault.TextFault.{TextFault}
+use Rattle.text_grammar.specs.declared.lexer.TheConstants.{MAX_LEN}
+use Rattle.text_grammar.specs.Pieces.{spelled}
+use Rattle.text_grammar.proofs.Printed.{printed}
 use Rattle.text_grammar.specs.Parsed.{Parsed, before, place_of}
 use Rattle.text_grammar.specs.Actions.{context}
 use Rattle.text_grammar.specs.Exprs.{parse_expr, sums}

@@ -5,7 +5,7 @@ use Rattle.std.specs.Prelude.{codes}
 use Rattle.kat_model.specs.declared.limits.TheConstants.{MAX_OPEN}
 use Rattle.kat_model.specs.Expressions.{has_comparison, test_without_comparisons}
 use Rattle.kat_model.specs.Trees.{TestTree, bottom, top, prim, complement, meet, join, Term, zero, one, test, act, sum, product, star as star_term}
-use Rattle.text_tokens.specs.Pieces.{Piece, word, numeral, symbol}
+use Rattle.text_grammar.specs.Pieces.{Piece, word, numeral, symbol}
 use Rattle.text_grammar.specs.declared.terminal.Terminal.{Terminal}
 use Rattle.text_grammar.specs.declared.terminal.Terminal.TheVariants.{RoundOpen, SquareOpen, Dot}
 use Rattle.text_grammar.specs.declared.reading.Context.{Context}

@@ -2,8 +2,8 @@
 use Rattle.std.proofs.Common.{ℕ, List, true, false, cond, nat_lt, Result, Ok, Err}
 use Rattle.kat_model.specs.declared.limits.TheConstants.{MAX_OPEN}
 use Rattle.kat_model.specs.declared.expression.Rel.{Rel}
-use Rattle.text_tokens.specs.declared.fault.TextFault.{TextFault}
-use Rattle.text_tokens.specs.declared.fault.TextFault.TheVariants.{TooDeep}
+use Rattle.text_grammar.specs.declared.fault.TextFault.{TextFault}
+use Rattle.text_grammar.specs.declared.fault.TextFault.TheVariants.{TooDeep}
 use Rattle.text_grammar.specs.declared.reading.Context.{Context}
 use Rattle.text_grammar.specs.declared.reading.Operator.{Operator}
 use Rattle.text_grammar.specs.declared.reading.Operator.TheVariants.{Multiply}

@@ -12,8 +12,7 @@ use kat_model::{
     Cond, Expr, Kat, NoMemory, Rel, Test, all_of, any_of, seq_of, sum_of, test_without_comparisons,
 };
 use std::alloc::Global;
-use text_grammar::{Context, Operator, Reading};
-use text_tokens::TextFault;
+use text_grammar::{Context, Operator, Reading, TextFault};
 
 // The actions that build the tree of a phrase. The phrase was measured before.
 #[derive(Clone, Copy)]

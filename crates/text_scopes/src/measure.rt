@@ -8,8 +8,7 @@ use crate::extent::{Extent, cut_extent};
 use crate::meaning::Meaning;
 use crate::scope::Scope;
 use kat_model::{MAX_OPEN, Rel};
-use text_grammar::{Context, Operator, Reading};
-use text_tokens::TextFault;
+use text_grammar::{Context, Operator, Reading, TextFault};
 
 // The actions that measure a phrase and reject what is not allowed in it.
 #[derive(Clone, Copy)]

@@ -7,7 +7,7 @@ use kat_model::NoMemory;
 use std::alloc::Global;
 use std::collections::BTreeMap;
 use std::marker::Model;
-use text_tokens::{TextFault, Token};
+use text_grammar::{TextFault, Token};
 
 // A one-to-one table: each name denotes one meaning, and each meaning has at most one name.
 pub(crate) struct Names {

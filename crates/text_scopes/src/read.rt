@@ -18,8 +18,7 @@ use crate::measure::Measure;
 use crate::scope::Scope;
 use kat_model::{Cond, Expr, Kat, MAX_EXPR_NODES, MAX_TERM_NODES};
 use std::alloc::Global;
-use text_grammar::{Context, place_at};
-use text_tokens::{TextFault, Token};
+use text_grammar::{Context, TextFault, Token, place_at};
 
 /// Returns the size and nesting of the term that begins at `from`, with `depth` open constructs around it, and the
 /// index after the term; or the first fault in its syntax or its names in text order. Takes no memory.

@@ -2,8 +2,8 @@
 use Rattle.std.proofs.Common.{◌≡◌, ℕ, zero, suc, ◌+◌, ◌<◌, List, [], ◌∷◌, Bool, true, false, cond as if_true, nat_lt, Result, Ok, Err, refl, ap, sym, subst, ◌∙◌, drop}
 use Rattle.std.proofs.lemmas.Bool.{ltb-true}
 use Rattle.kat_model.specs.declared.limits.TheConstants.{MAX_OPEN}
-use Rattle.text_tokens.specs.declared.fault.TextFault.{TextFault}
-use Rattle.text_tokens.specs.declared.fault.TextFault.TheVariants.{TooDeep}
+use Rattle.text_grammar.specs.declared.fault.TextFault.{TextFault}
+use Rattle.text_grammar.specs.declared.fault.TextFault.TheVariants.{TooDeep}
 use Rattle.text_grammar.specs.declared.terminal.Terminal.TheVariants.{Name, Keyword, Separator}
 use Rattle.text_grammar.specs.declared.terminal.Keyword.TheVariants as word
 use Rattle.text_grammar.specs.declared.terminal.Separator.TheVariants.{Semicolon, CurlyOpen, CurlyClose, Becomes}

@@ -1,7 +1,7 @@
 -- The faults that the syntax check of blocks reports.
 use Rattle.std.specs.Prelude.{◌≡◌, ◌⊎◌, ℕ, List, Bool, true, ◌||◌, Err}
-use Rattle.text_tokens.specs.declared.fault.TextFault.{TextFault}
-use Rattle.text_tokens.specs.declared.fault.TextFault.TheVariants.{Syntax, TooDeep, NumberTooWide}
+use Rattle.text_grammar.specs.declared.fault.TextFault.{TextFault}
+use Rattle.text_grammar.specs.declared.fault.TextFault.TheVariants.{Syntax, TooDeep, NumberTooWide}
 use Rattle.text_grammar.specs.declared.terminal.Terminal.{Terminal}
 use Rattle.text_grammar.specs.declared.terminal.Terminal.TheVariants.{Keyword, Separator}
 use Rattle.text_grammar.specs.declared.terminal.Keyword.TheVariants as word

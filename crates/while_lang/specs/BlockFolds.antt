@@ -1,6 +1,6 @@
 -- The fold of the actions over a block, from left to right, or the first fault.
 use Rattle.std.specs.Prelude.{ℕ, true, false, Result, Ok}
-use Rattle.text_tokens.specs.declared.fault.TextFault.{TextFault}
+use Rattle.text_grammar.specs.declared.fault.TextFault.{TextFault}
 use Rattle.text_grammar.specs.Parsed.{◌>>=◌}
 use Rattle.text_grammar.specs.Actions.{context}
 use Rattle.text_grammar.specs.Phrases.{cond, expr, Phrase}

@@ -1,7 +1,7 @@
 -- The reading of a block: its tree and its nesting, or its first fault.
 use Rattle.std.specs.Prelude.{ℕ, List, Result}
 use Rattle.kat_model.specs.declared.limits.TheConstants.{MAX_TERM_NODES}
-use Rattle.text_tokens.specs.declared.fault.TextFault.{TextFault}
+use Rattle.text_grammar.specs.declared.fault.TextFault.{TextFault}
 use Rattle.text_grammar.specs.Lexemes.{Lexeme}
 use Rattle.text_grammar.specs.Parsed.{Parsed, change, place_of}
 use Rattle.text_scopes.specs.declared.extent.Extent.{Extent}

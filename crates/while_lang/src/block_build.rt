@@ -16,7 +16,7 @@ use crate::prog::{Prog, Stmt, push_stmt};
 use kat_model::{Cond, Expr, NoMemory};
 use std::alloc::Global;
 use text_scopes::{Meaning, Scope};
-use text_tokens::{TextFault, Token};
+use text_grammar::{TextFault, Token};
 
 // The actions that build the tree of a block. The block was measured before.
 #[derive(Clone, Copy)]

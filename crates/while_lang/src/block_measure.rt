@@ -13,7 +13,7 @@ use crate::named::NamedProg;
 use crate::numbered::prog_at;
 use kat_model::{MAX_EXPR_NODES, MAX_OPEN, MAX_TERM_NODES};
 use text_scopes::{Extent, Meaning, Scope};
-use text_tokens::{TextFault, Token};
+use text_grammar::{TextFault, Token};
 
 // The actions that measure a block and reject what is not allowed in it.
 #[derive(Clone, Copy)]

@@ -11,9 +11,8 @@ use crate::named::NamedProg;
 use crate::prog::Prog;
 use kat_model::MAX_TERM_NODES;
 use std::alloc::Global;
-use text_grammar::place_at;
+use text_grammar::{TextFault, Token, place_at};
 use text_scopes::Scope;
-use text_tokens::{TextFault, Token};
 
 /// Reads the block that begins at `from`, with no open construct around it. Returns its program, with the programs that
 /// it names spliced in, the index after it, and its nesting. Otherwise fails with the first fault in its syntax or its

@@ -5,7 +5,7 @@ ghost use Rattle.text_grammar.specs.Parsed.{Makes, Reads, Goes};
 ghost use Rattle.while_lang.specs.BlockActions.{BlockActions};
 ghost use Rattle.while_lang.specs.Blocks.{cond_by, expr_by};
 
-use text_tokens::{TextFault, Token};
+use text_grammar::{TextFault, Token};
 
 // The semantic actions of the block parser. It calls the methods for the parts of a block in text order; each method on
 // statements appends to the statements of the block so far. A part that a method rejects ends the parse with that

@@ -7,8 +7,7 @@ ghost use Rattle.while_lang.specs.BlockFaults.{IsBlockFault};
 
 use crate::block_reading::BlockReading;
 use crate::blocks::read_block;
-use text_grammar::{Context, Scan};
-use text_tokens::{TextFault, Token};
+use text_grammar::{Context, Scan, TextFault, Token};
 
 // The actions that make nothing and accept every part.
 struct BlockScan;

@@ -1,7 +1,7 @@
 -- The check of the first token.
 use Rattle.std.specs.Prelude.{List, [], ◌∷◌, Result, Ok}
 use Rattle.kat_model.specs.declared.expression.Width.{Width}
-use Rattle.text_tokens.specs.declared.fault.TextFault.{TextFault}
+use Rattle.text_grammar.specs.declared.fault.TextFault.{TextFault}
 use Rattle.text_grammar.specs.Lexemes.{Lexeme}
 use Rattle.problem_file.specs.Numbers.{check_number}
 

@@ -8,8 +8,8 @@ use Rattle.kat_model.specs.Trees.{TestTree, top, bottom, prim}
 use Rattle.kat_model.specs.Expressions.{test_without_comparisons}
 use Rattle.kat_model.specs.Problems.{IsTestInRange, IsInRange}
 use Rattle.kat_model.proofs.BalancedTrees.{balanced_holds}
-use Rattle.text_tokens.specs.declared.fault.TextFault.{TextFault}
-use Rattle.text_tokens.specs.declared.fault.TextFault.TheVariants.{DoubleName, TooMany, TooLarge}
+use Rattle.text_grammar.specs.declared.fault.TextFault.{TextFault}
+use Rattle.text_grammar.specs.declared.fault.TextFault.TheVariants.{DoubleName, TooMany, TooLarge}
 use Rattle.text_grammar.specs.Actions.{context}
 use Rattle.text_grammar.specs.Phrases.{cond, Phrase}
 use Rattle.text_grammar.specs.Folds.{fold}

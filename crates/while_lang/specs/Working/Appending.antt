@@ -1,7 +1,7 @@
 -- The results of functions that append what they read to a list.
 use Rattle.std.specs.Prelude.{◌≡◌, ℕ, List, drop, Result, Ok, Err}
-use Rattle.text_tokens.specs.declared.fault.TextFault.{TextFault}
-use Rattle.text_tokens.specs.declared.fault.TextFault.TheVariants.{NoMemory}
+use Rattle.text_grammar.specs.declared.fault.TextFault.{TextFault}
+use Rattle.text_grammar.specs.declared.fault.TextFault.TheVariants.{NoMemory}
 use Rattle.text_grammar.specs.declared.terminal.Terminal.TheVariants.{Separator}
 use Rattle.text_grammar.specs.declared.terminal.Separator.TheVariants.{Semicolon}
 use Rattle.text_grammar.specs.Lexemes.{Lexeme, is_terminal}

@@ -1,6 +1,6 @@
 use Rattle.std.proofs.Common.{◌<◌, List, length, drop, length-drop, Err, sym, subst, ap, ◌∙◌, arith}
 use Rattle.std.proofs.lemmas.Result.{err_from_is_err_and}
-use Rattle.text_tokens.specs.declared.fault.TextFault.{TextFault}
+use Rattle.text_grammar.specs.declared.fault.TextFault.{TextFault}
 use Rattle.text_grammar.specs.Lexemes.{Lexeme, lexemes}
 use Rattle.gkat_front.specs.Items.{item_by, items_by}
 use Rattle.problem_file.specs.Working.Walks.{Does}

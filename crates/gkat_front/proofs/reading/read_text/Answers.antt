@@ -1,8 +1,8 @@
 use Rattle.std.proofs.Common.{◌≡◌, ◌⊎◌, Ok, Err, sym, subst, ap, ◌∙◌}
 use Rattle.std.proofs.lemmas.Result.{err_from_is_err_and}
-use Rattle.text_tokens.specs.declared.fault.TextFault.{TextFault}
-use Rattle.text_tokens.specs.declared.fault.TextFault.TheVariants.{NoMemory}
-use Rattle.text_tokens.specs.TokenParts.{parts_of_tokens}
+use Rattle.text_grammar.specs.declared.fault.TextFault.{TextFault}
+use Rattle.text_grammar.specs.declared.fault.TextFault.TheVariants.{NoMemory}
+use Rattle.text_grammar.specs.TokenParts.{parts_of_tokens}
 use Rattle.text_grammar.specs.Lexemes.{lexemes}
 use Rattle.text_grammar.specs.Parsed.{Makes}
 use Rattle.problem_file.specs.Tokens.{AreTokens}

@@ -1,5 +1,5 @@
 use Rattle.std.proofs.Common.{sym, ◌∙◌}
-use Rattle.text_tokens.specs.TokenParts.{parts_of_tokens}
+use Rattle.text_grammar.specs.TokenParts.{parts_of_tokens}
 use Rattle.text_grammar.proofs.Parentheses.{opens_is_symbol}
 use Rattle.text_grammar.proofs.terminal.is_round_open_at.Goals as goal
 
