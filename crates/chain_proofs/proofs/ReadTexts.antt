@@ -1,12 +1,12 @@
 -- The chain that bytes spell is the result of both passes over their tokens.
 use Rattle.std.proofs.Common.{◌≡◌, ℕ, List, [], map, Result, Ok, sym, ap, ◌∙◌}
-use Rattle.text_grammar.specs.declared.fault.TextFault.{TextFault}
-use Rattle.text_grammar.specs.declared.token.Token.{Token}
-use Rattle.text_grammar.specs.TokenParts.{TokenParts, parts_of_tokens}
-use Rattle.text_grammar.specs.Lex.{Lexes}
-use Rattle.text_grammar.specs.Lexemes.{lexeme_of, lexemes}
-use Rattle.text_grammar.specs.Parsed.{◌>>=◌}
-use Rattle.text_grammar.proofs.ParserSoundness.{bind_ok}
+use Rattle.text_scopes.specs.declared.fault.TextFault.{TextFault}
+use Rattle.text_scopes.specs.declared.token.Token.{Token}
+use Rattle.text_scopes.specs.TokenParts.{TokenParts, parts_of_tokens}
+use Rattle.text_scopes.specs.Lex.{Lexes}
+use Rattle.text_scopes.specs.Lexemes.{lexeme_of, lexemes}
+use Rattle.text_scopes.specs.Parsed.{◌>>=◌}
+use Rattle.text_scopes.proofs.ParserSoundness.{bind_ok}
 use Rattle.text_scopes.specs.ScopeParts.{ScopeParts}
 use Rattle.chain_rules.specs.Chains.{ChainTree}
 use Rattle.chain_proofs.specs.ChainPhrases.{chain_onto}

@@ -1,17 +1,17 @@
 -- The syntax test accepts exactly the chains.
 use Rattle.std.proofs.Common.{◌≡◌, ℕ, ◌+◌, List, [], ◌∷◌, false, Option, None, Some, Ok, refl, ap, subst, ◌∙◌}
-use Rattle.text_grammar.specs.Lexemes.{Lexeme, lexeme}
-use Rattle.text_grammar.specs.Parsed.{◌>>=◌, before}
-use Rattle.text_grammar.specs.Actions.{context}
-use Rattle.text_grammar.specs.Scans.{scanning}
-use Rattle.text_grammar.specs.Terms.{parse_term, choice}
-use Rattle.text_grammar.specs.Phrases.{term, Phrase, yield_before, MeetsLookahead, IsWithinLimits, IsPhrase}
-use Rattle.text_grammar.specs.Folds.{fold}
-use Rattle.text_grammar.specs.Ends.{Ends}
-use Rattle.text_grammar.proofs.ParserSoundness.{bind_ok, changed_ok, term_found}
-use Rattle.text_grammar.proofs.ParserCompleteness.{changed, term_parsed}
-use Rattle.text_grammar.proofs.Longest.{longest}
-use Rattle.text_grammar.proofs.Scanned.{scanned}
+use Rattle.text_scopes.specs.Lexemes.{Lexeme, lexeme}
+use Rattle.text_scopes.specs.Parsed.{◌>>=◌, before}
+use Rattle.text_scopes.specs.Actions.{context}
+use Rattle.text_scopes.specs.Scans.{scanning}
+use Rattle.text_scopes.specs.Terms.{parse_term, choice}
+use Rattle.text_scopes.specs.Phrases.{term, Phrase, yield_before, MeetsLookahead, IsWithinLimits, IsPhrase}
+use Rattle.text_scopes.specs.Folds.{fold}
+use Rattle.text_scopes.specs.Ends.{Ends}
+use Rattle.text_scopes.proofs.ParserSoundness.{bind_ok, changed_ok, term_found}
+use Rattle.text_scopes.proofs.ParserCompleteness.{changed, term_parsed}
+use Rattle.text_scopes.proofs.Longest.{longest}
+use Rattle.text_scopes.proofs.Scanned.{scanned}
 use Rattle.while_lang.proofs.ScannedBlocks.{enters}
 use Rattle.problem_file.specs.Phrases.{Numeral}
 use Rattle.problem_file.proofs.ScannedFiles.{numeral_passes}

@@ -3,12 +3,12 @@ use Rattle.std.proofs.Common.{◌≡◌, ℕ, zero, suc, ◌+◌, List, [], ◌�
 use Rattle.std.proofs.lemmas.Option.{slice_get_past, none-some}
 use Rattle.kat_model.specs.Trees.{Term}
 use Rattle.kat_model.specs.Problems.{IsInRange}
-use Rattle.text_grammar.specs.declared.fault.TextFault.{TextFault}
-use Rattle.text_grammar.specs.Parsed.{◌>>=◌, place_of}
-use Rattle.text_grammar.specs.Actions.{context}
-use Rattle.text_grammar.specs.Phrases.{term, Phrase, yield_before}
-use Rattle.text_grammar.specs.Folds.{fold}
-use Rattle.text_grammar.proofs.ParserSoundness.{bind_ok}
+use Rattle.text_scopes.specs.declared.fault.TextFault.{TextFault}
+use Rattle.text_scopes.specs.Parsed.{◌>>=◌, place_of}
+use Rattle.text_scopes.specs.Actions.{context}
+use Rattle.text_scopes.specs.Phrases.{term, Phrase, yield_before}
+use Rattle.text_scopes.specs.Folds.{fold}
+use Rattle.text_scopes.proofs.ParserSoundness.{bind_ok}
 use Rattle.text_scopes.specs.declared.meaning.Meaning.TheVariants.{Test, Action}
 use Rattle.text_scopes.specs.ScopeParts.{ScopeParts, Definition}
 use Rattle.text_scopes.specs.Measuring.{extents}

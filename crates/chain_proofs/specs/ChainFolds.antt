@@ -1,11 +1,11 @@
 -- The value of a chain under actions, computed from left to right, or the first fault.
 use Rattle.std.specs.Prelude.{ℕ, [], ◌∷◌, false, Option, None, Some, Result, Ok}
 use Rattle.kat_model.specs.Trees.{Term}
-use Rattle.text_grammar.specs.declared.fault.TextFault.{TextFault}
-use Rattle.text_grammar.specs.Parsed.{◌>>=◌, place_of}
-use Rattle.text_grammar.specs.Actions.{context}
-use Rattle.text_grammar.specs.Phrases.{term, Phrase, yield_before}
-use Rattle.text_grammar.specs.Folds.{fold}
+use Rattle.text_scopes.specs.declared.fault.TextFault.{TextFault}
+use Rattle.text_scopes.specs.Parsed.{◌>>=◌, place_of}
+use Rattle.text_scopes.specs.Actions.{context}
+use Rattle.text_scopes.specs.Phrases.{term, Phrase, yield_before}
+use Rattle.text_scopes.specs.Folds.{fold}
 use Rattle.text_scopes.specs.ScopeParts.{ScopeParts}
 use Rattle.text_scopes.specs.Measuring.{extents}
 use Rattle.text_scopes.specs.Building.{trees}

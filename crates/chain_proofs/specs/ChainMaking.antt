@@ -4,14 +4,14 @@ use Rattle.std.specs.Str.{bytes_eq}
 use Rattle.std.proofs.Common.{arith}
 use Rattle.kat_model.specs.declared.limits.TheConstants.{MAX_TERM_NODES, MAX_TEXT_NODES}
 use Rattle.kat_model.specs.Trees.{Term}
-use Rattle.text_grammar.specs.declared.fault.TextFault.{TextFault}
-use Rattle.text_grammar.specs.declared.fault.TextFault.TheVariants.{UnknownName, TooLarge}
-use Rattle.text_grammar.specs.Lexemes.{Lexeme}
-use Rattle.text_grammar.specs.Parsed.{Parsed, ◌>>=◌, change, place_of}
-use Rattle.text_grammar.specs.Actions.{context}
-use Rattle.text_grammar.specs.Terms.{parse_term, choice}
-use Rattle.text_grammar.proofs.Within.{Within}
-use Rattle.text_grammar.proofs.TermSteps.{term_read_short}
+use Rattle.text_scopes.specs.declared.fault.TextFault.{TextFault}
+use Rattle.text_scopes.specs.declared.fault.TextFault.TheVariants.{UnknownName, TooLarge}
+use Rattle.text_scopes.specs.Lexemes.{Lexeme}
+use Rattle.text_scopes.specs.Parsed.{Parsed, ◌>>=◌, change, place_of}
+use Rattle.text_scopes.specs.Actions.{context}
+use Rattle.text_scopes.specs.Terms.{parse_term, choice}
+use Rattle.text_scopes.proofs.Within.{Within}
+use Rattle.text_scopes.proofs.TermSteps.{term_read_short}
 use Rattle.text_scopes.specs.declared.extent.Extent.{Extent}
 use Rattle.text_scopes.specs.ScopeParts.{ScopeParts}
 use Rattle.text_scopes.specs.Measuring.{extents}

@@ -1,15 +1,15 @@
 -- The result for the tokens of items is the result of the items.
 use Rattle.std.proofs.Common.{◌≡◌, ℕ, List, false, Result, Ok, Err, refl}
 use Rattle.kat_model.specs.Expressions.{CondTree, test_without_comparisons}
-use Rattle.text_grammar.specs.declared.fault.TextFault.{TextFault}
-use Rattle.text_grammar.specs.Lexemes.{Lexeme}
-use Rattle.text_grammar.specs.Parsed.{◌>>=◌, before, change}
-use Rattle.text_grammar.specs.Actions.{context}
-use Rattle.text_grammar.specs.Phrases.{cond, Phrase, yield_before, MeetsLookahead}
-use Rattle.text_grammar.specs.Folds.{fold}
-use Rattle.text_grammar.specs.Ends.{Ends}
-use Rattle.text_grammar.proofs.ParserCompleteness.{cond_parsed}
-use Rattle.text_grammar.proofs.Longest.{longest}
+use Rattle.text_scopes.specs.declared.fault.TextFault.{TextFault}
+use Rattle.text_scopes.specs.Lexemes.{Lexeme}
+use Rattle.text_scopes.specs.Parsed.{◌>>=◌, before, change}
+use Rattle.text_scopes.specs.Actions.{context}
+use Rattle.text_scopes.specs.Phrases.{cond, Phrase, yield_before, MeetsLookahead}
+use Rattle.text_scopes.specs.Folds.{fold}
+use Rattle.text_scopes.specs.Ends.{Ends}
+use Rattle.text_scopes.proofs.ParserCompleteness.{cond_parsed}
+use Rattle.text_scopes.proofs.Longest.{longest}
 use Rattle.text_scopes.specs.declared.extent.Extent.{Extent}
 use Rattle.text_scopes.specs.ScopeParts.{ScopeParts}
 use Rattle.text_scopes.specs.Measuring.{extents}

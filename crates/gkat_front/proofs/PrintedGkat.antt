@@ -5,18 +5,18 @@ use Rattle.std.specs.Prelude.{codes}
 use Rattle.kat_model.specs.declared.limits.TheConstants.{MAX_OPEN}
 use Rattle.kat_model.specs.Trees.{TestTree, bottom, top, prim, complement, meet, join}
 use Rattle.kat_model.specs.Expressions.{CondTree, has_comparison, test_without_comparisons}
-use Rattle.text_grammar.specs.declared.fault.TextFault.{TextFault}
-use Rattle.text_grammar.specs.declared.lexer.TheConstants.{MAX_LEN}
-use Rattle.text_grammar.specs.Pieces.{Piece, word, numeral, symbol, gap, spelled}
-use Rattle.text_grammar.proofs.Printed.{printed}
-use Rattle.text_grammar.specs.declared.terminal.Terminal.{Terminal}
-use Rattle.text_grammar.specs.declared.terminal.Terminal.TheVariants.{RoundOpen, SquareOpen, Plus, Dot, Separator}
-use Rattle.text_grammar.specs.declared.terminal.Separator.TheVariants.{Caret}
-use Rattle.text_grammar.specs.Lexemes.{Lexeme, lexeme}
-use Rattle.text_grammar.specs.Parsed.{◌>>=◌}
-use Rattle.text_grammar.specs.Actions.{context}
-use Rattle.text_grammar.specs.Phrases.{lit, cond as condition, Leaf, Phrase, one_conj, one_lit}
-use Rattle.text_grammar.specs.Folds.{fold}
+use Rattle.text_scopes.specs.declared.fault.TextFault.{TextFault}
+use Rattle.text_scopes.specs.declared.lexer.TheConstants.{MAX_LEN}
+use Rattle.text_scopes.specs.Pieces.{Piece, word, numeral, symbol, gap, spelled}
+use Rattle.text_scopes.proofs.Printed.{printed}
+use Rattle.text_scopes.specs.declared.terminal.Terminal.{Terminal}
+use Rattle.text_scopes.specs.declared.terminal.Terminal.TheVariants.{RoundOpen, SquareOpen, Plus, Dot, Separator}
+use Rattle.text_scopes.specs.declared.terminal.Separator.TheVariants.{Caret}
+use Rattle.text_scopes.specs.Lexemes.{Lexeme, lexeme}
+use Rattle.text_scopes.specs.Parsed.{◌>>=◌}
+use Rattle.text_scopes.specs.Actions.{context}
+use Rattle.text_scopes.specs.Phrases.{lit, cond as condition, Leaf, Phrase, one_conj, one_lit}
+use Rattle.text_scopes.specs.Folds.{fold}
 use Rattle.text_scopes.specs.declared.extent.Extent.{Extent}
 use Rattle.text_scopes.specs.declared.meaning.Meaning.{Meaning}
 use Rattle.text_scopes.specs.declared.meaning.Meaning.TheVariants.{Test, Action}

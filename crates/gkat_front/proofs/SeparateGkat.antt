@@ -2,7 +2,7 @@
 use Rattle.std.proofs.Common.{List, ℕ, ◌∷◌, refl}
 use Rattle.std.specs.Prelude.{codes}
 use Rattle.kat_model.specs.Trees.{bottom, top, prim, complement, meet, join}
-use Rattle.text_grammar.specs.Pieces.{Piece, symbol, gap, spelled, AreSeparate}
+use Rattle.text_scopes.specs.Pieces.{Piece, symbol, gap, spelled, AreSeparate}
 use Rattle.text_scopes.specs.declared.meaning.Meaning.{Meaning}
 use Rattle.text_scopes.specs.declared.meaning.Meaning.TheVariants.{Test, Action}
 use Rattle.text_scopes.specs.ScopeParts.{ScopeParts}

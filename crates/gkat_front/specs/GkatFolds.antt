@@ -2,11 +2,11 @@
 use Rattle.std.specs.Prelude.{ℕ, false, Result, Ok}
 use Rattle.kat_model.specs.Trees.{TestTree}
 use Rattle.kat_model.specs.Expressions.{test_without_comparisons}
-use Rattle.text_grammar.specs.declared.fault.TextFault.{TextFault}
-use Rattle.text_grammar.specs.Parsed.{◌>>=◌}
-use Rattle.text_grammar.specs.Actions.{context}
-use Rattle.text_grammar.specs.Phrases.{cond, Phrase}
-use Rattle.text_grammar.specs.Folds.{fold}
+use Rattle.text_scopes.specs.declared.fault.TextFault.{TextFault}
+use Rattle.text_scopes.specs.Parsed.{◌>>=◌}
+use Rattle.text_scopes.specs.Actions.{context}
+use Rattle.text_scopes.specs.Phrases.{cond, Phrase}
+use Rattle.text_scopes.specs.Folds.{fold}
 use Rattle.text_scopes.specs.ScopeParts.{ScopeParts}
 use Rattle.text_scopes.specs.Measuring.{extents}
 use Rattle.text_scopes.specs.Building.{trees}

@@ -1,7 +1,7 @@
 -- Printed expressions: their texts, and the pieces that spell the texts.
 use Rattle.std.specs.Prelude.{◌+◌, max, ℕ, List, ◌∷◌, ◌++◌, codes, Bool, true, false, if◌then◌else◌}
 use Rattle.kat_model.specs.Trees.{TestTree, bottom, top}
-use Rattle.text_grammar.specs.Pieces.{Piece, word, numeral, symbol, gap}
+use Rattle.text_scopes.specs.Pieces.{Piece, word, numeral, symbol, gap}
 use Rattle.text_scopes.specs.declared.meaning.Meaning.{Meaning}
 use Rattle.text_scopes.specs.declared.meaning.Meaning.TheVariants.{Action}
 use Rattle.text_scopes.specs.ScopeParts.{ScopeParts, IsNameOf}

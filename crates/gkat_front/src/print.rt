@@ -1,7 +1,7 @@
 //! Prints expressions.
 ghost use Rattle.std.specs.Prelude.{◌≡◌, [], ◌++◌, codes, OnOk, IfOk};
 ghost use Rattle.kat_model.specs.Trees.{test_tree};
-ghost use Rattle.text_grammar.specs.Pieces.{spelled};
+ghost use Rattle.text_scopes.specs.Pieces.{spelled};
 ghost use Rattle.text_print.specs.Printing.{name_of};
 ghost use Rattle.gkat_front.specs.Expressions.{test, gkat_tree};
 ghost use Rattle.gkat_front.specs.Printing.{is_loop, guard_text, gkat_text, gkat_pieces};

@@ -3,10 +3,5 @@
 //! `text_print`.
 #![tactic(auto)]
 
-pub use text_grammar::{Kind, TextFault, Token, cond_end, expr_end, grammar_is_scanned, is_keyword, one_reading, phrases_are_unique, phrases_end, pieces_lex, term_end, tokens, tokens_are_slices, words_are_tokens};
+pub use text_scopes::{Extent, Kind, Meaning, Scope, TextFault, Token, build_cond, build_expr, build_term, cond_end, expr_end, grammar_is_scanned, is_keyword, measure_cond, measure_expr, measure_term, measures_are_of_trees, one_reading, phrases_are_passed, phrases_are_unique, phrases_end, pieces_lex, read_cond, read_expr, read_term, sound_phrases_are_measured, term_end, tokens, tokens_are_slices, words_are_tokens};
 pub use text_print::{print_cond, print_expr, print_term, printed_reads_back};
-pub use text_scopes::{
-    Extent, Meaning, Scope, build_cond, build_expr, build_term, measure_cond, measure_expr,
-    measure_term, measures_are_of_trees, phrases_are_passed, read_cond, read_expr, read_term,
-    sound_phrases_are_measured,
-};

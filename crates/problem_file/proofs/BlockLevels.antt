@@ -1,7 +1,7 @@
 -- A block that is well scoped and within the depth limit is not too deep after the programs that it names are expanded.
 use Rattle.std.proofs.Common.{ℕ, ◌+◌, ◌≤◌, max, true, false, List, slice_get, Option, Some, None, arith}
 use Rattle.kat_model.specs.declared.limits.TheConstants.{MAX_OPEN}
-use Rattle.text_grammar.specs.Actions.{context}
+use Rattle.text_scopes.specs.Actions.{context}
 use Rattle.text_scopes.specs.declared.meaning.Meaning.{Meaning}
 use Rattle.text_scopes.specs.declared.meaning.Meaning.TheVariants.{Test, Action, Var, Term, Prog}
 use Rattle.text_scopes.specs.ScopeParts.{ScopeParts, meaning}

@@ -1,10 +1,10 @@
 -- The programs of blocks use only declared tests, actions and variables.
 use Rattle.std.proofs.Common.{◌≡◌, ℕ, ◌+◌, ◌<◌, List, [], ◌∷◌, ◌++◌, Bool, true, false, nat_lt, cond as if_true, slice_get, Option, Some, None, Ok, Err, refl, subst}
 use Rattle.kat_model.specs.declared.limits.TheConstants.{MAX_OPEN}
-use Rattle.text_grammar.specs.declared.fault.TextFault.TheVariants.{TooDeep}
-use Rattle.text_grammar.specs.Parsed.{◌>>=◌}
-use Rattle.text_grammar.specs.Actions.{context}
-use Rattle.text_grammar.proofs.ParserSoundness.{bind_ok}
+use Rattle.text_scopes.specs.declared.fault.TextFault.TheVariants.{TooDeep}
+use Rattle.text_scopes.specs.Parsed.{◌>>=◌}
+use Rattle.text_scopes.specs.Actions.{context}
+use Rattle.text_scopes.proofs.ParserSoundness.{bind_ok}
 use Rattle.text_scopes.specs.declared.meaning.Meaning.{Meaning}
 use Rattle.text_scopes.specs.declared.meaning.Meaning.TheVariants.{Test, Action, Var, Term, Prog}
 use Rattle.text_scopes.specs.ScopeParts.{ScopeParts, meaning}

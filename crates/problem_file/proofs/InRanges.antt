@@ -6,12 +6,12 @@ use Rattle.kat_model.specs.Expressions.{ExprTree, CondTree, always, never, named
 use Rattle.kat_model.specs.Problems.{IsTestInRange, IsInRange, AreInRange}
 use Rattle.kat_model.proofs.BalancedTrees.{balanced_holds}
 use Rattle.kat_model.proofs.Ranges.{AreInRange-append, AreInRange-append_left, AreInRange-append_right}
-use Rattle.text_grammar.specs.declared.fault.TextFault.{TextFault}
-use Rattle.text_grammar.specs.declared.reading.Context.{Context}
-use Rattle.text_grammar.specs.declared.reading.Operator.{Operator}
-use Rattle.text_grammar.specs.declared.reading.Operator.TheVariants.{Add, Subtract, Multiply}
-use Rattle.text_grammar.specs.Phrases.{term, cond, expr, Phrase}
-use Rattle.text_grammar.specs.Folds.{fold}
+use Rattle.text_scopes.specs.declared.fault.TextFault.{TextFault}
+use Rattle.text_scopes.specs.declared.reading.Context.{Context}
+use Rattle.text_scopes.specs.declared.reading.Operator.{Operator}
+use Rattle.text_scopes.specs.declared.reading.Operator.TheVariants.{Add, Subtract, Multiply}
+use Rattle.text_scopes.specs.Phrases.{term, cond, expr, Phrase}
+use Rattle.text_scopes.specs.Folds.{fold}
 use Rattle.text_scopes.specs.declared.meaning.Meaning.{Meaning}
 use Rattle.text_scopes.specs.declared.meaning.Meaning.TheVariants.{Test, Action, Var, Term as TermName, Prog}
 use Rattle.text_scopes.specs.Sizes.{as_test}

@@ -4,15 +4,15 @@ use Rattle.std.proofs.lemmas.Bool.{ltb-true, ltb-false}
 use Rattle.kat_model.specs.declared.limits.TheConstants.{MAX_TERM_NODES, MAX_EXPR_NODES}
 use Rattle.kat_model.specs.Trees.{Term, test_size, term_size}
 use Rattle.kat_model.specs.Expressions.{CondTree, test_without_comparisons}
-use Rattle.text_grammar.specs.declared.fault.TextFault.{TextFault}
-use Rattle.text_grammar.specs.Lexemes.{Lexeme}
-use Rattle.text_grammar.specs.Parsed.{◌>>=◌, before}
-use Rattle.text_grammar.specs.Actions.{context}
-use Rattle.text_grammar.specs.Phrases.{term, cond, Phrase, yield_before, MeetsLookahead, IsWithinLimits}
-use Rattle.text_grammar.specs.Ends.{Ends}
-use Rattle.text_grammar.specs.Folds.{fold}
-use Rattle.text_grammar.proofs.ParserCompleteness.{term_parsed, cond_parsed}
-use Rattle.text_grammar.proofs.Longest.{longest}
+use Rattle.text_scopes.specs.declared.fault.TextFault.{TextFault}
+use Rattle.text_scopes.specs.Lexemes.{Lexeme}
+use Rattle.text_scopes.specs.Parsed.{◌>>=◌, before}
+use Rattle.text_scopes.specs.Actions.{context}
+use Rattle.text_scopes.specs.Phrases.{term, cond, Phrase, yield_before, MeetsLookahead, IsWithinLimits}
+use Rattle.text_scopes.specs.Ends.{Ends}
+use Rattle.text_scopes.specs.Folds.{fold}
+use Rattle.text_scopes.proofs.ParserCompleteness.{term_parsed, cond_parsed}
+use Rattle.text_scopes.proofs.Longest.{longest}
 use Rattle.text_scopes.specs.declared.extent.Extent.{Extent}
 use Rattle.text_scopes.specs.Sizes.{cond_size, largest_expr, capped}
 use Rattle.text_scopes.specs.ScopeParts.{ScopeParts}

@@ -2,16 +2,16 @@
 use Rattle.std.proofs.Common.{ℕ, ◌+◌, List, length, nat_lt, Bool, true, false, Ok, Err, Option, Some, None, is_some, slice_get, ◌∷◌, [], nat_le}
 use Rattle.std.specs.Option.{option_and_then}
 use Rattle.kat_model.specs.declared.limits.TheConstants.{MAX_TESTS, MAX_ACTIONS, MAX_VARS, MAX_ROUNDS, MAX_TERM_NODES, MAX_TEXT_NODES, MAX_HYPS, MAX_OPEN}
-use Rattle.text_grammar.specs.declared.fault.TextFault.TheVariants.{Sort, TooDeep, DoubleName, TooMany, TooLarge, NumberTooWide}
-use Rattle.text_grammar.specs.declared.reading.Context.{Context}
-use Rattle.text_grammar.specs.declared.terminal.Terminal.TheVariants.{Number, WideNumber}
-use Rattle.text_grammar.specs.Lexemes.{Lexeme, lexeme}
-use Rattle.text_grammar.specs.Parsed.{Parsed}
-use Rattle.text_grammar.specs.Actions.{context}
-use Rattle.text_grammar.specs.Conds.{disjunction}
-use Rattle.text_grammar.specs.Terms.{choice}
-use Rattle.text_grammar.specs.Scans.{scanning}
-use Rattle.text_grammar.proofs.NamedFaults.{IsNamedFault, IsNamed, then_named, if_named, NameTerms, cond_named, term_named, change_named}
+use Rattle.text_scopes.specs.declared.fault.TextFault.TheVariants.{Sort, TooDeep, DoubleName, TooMany, TooLarge, NumberTooWide}
+use Rattle.text_scopes.specs.declared.reading.Context.{Context}
+use Rattle.text_scopes.specs.declared.terminal.Terminal.TheVariants.{Number, WideNumber}
+use Rattle.text_scopes.specs.Lexemes.{Lexeme, lexeme}
+use Rattle.text_scopes.specs.Parsed.{Parsed}
+use Rattle.text_scopes.specs.Actions.{context}
+use Rattle.text_scopes.specs.Conds.{disjunction}
+use Rattle.text_scopes.specs.Terms.{choice}
+use Rattle.text_scopes.specs.Scans.{scanning}
+use Rattle.text_scopes.proofs.NamedFaults.{IsNamedFault, IsNamed, then_named, if_named, NameTerms, cond_named, term_named, change_named}
 use Rattle.text_scopes.specs.declared.meaning.Meaning.{Meaning}
 use Rattle.text_scopes.specs.declared.meaning.Meaning.TheVariants.{Test, Action, Var, Term as TermName, Prog}
 use Rattle.text_scopes.specs.declared.extent.Extent.{Extent}

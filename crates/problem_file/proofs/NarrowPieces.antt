@@ -7,11 +7,11 @@ use Rattle.kat_model.specs.declared.expression.Rel.{Rel}
 use Rattle.kat_model.specs.declared.expression.Width.{Width}
 use Rattle.kat_model.specs.Stores.{modulus}
 use Rattle.kat_model.specs.Expressions.{ExprTree, number, variable, plus, minus, times, CondTree, always, never, named, compared, negation, both, either}
-use Rattle.text_grammar.specs.Pieces.{Piece, symbol, gap}
-use Rattle.text_grammar.specs.declared.terminal.Terminal.{Terminal}
-use Rattle.text_grammar.specs.declared.terminal.Terminal.TheVariants.{Zero, One, Number}
-use Rattle.text_grammar.specs.Terminals.{symbol_terminal, keyword_terminal, number_terminal}
-use Rattle.text_grammar.specs.Lexemes.{Lexeme, lexeme}
+use Rattle.text_scopes.specs.Pieces.{Piece, symbol, gap}
+use Rattle.text_scopes.specs.declared.terminal.Terminal.{Terminal}
+use Rattle.text_scopes.specs.declared.terminal.Terminal.TheVariants.{Zero, One, Number}
+use Rattle.text_scopes.specs.Terminals.{symbol_terminal, keyword_terminal, number_terminal}
+use Rattle.text_scopes.specs.Lexemes.{Lexeme, lexeme}
 use Rattle.text_scopes.specs.declared.meaning.Meaning.{Meaning}
 use Rattle.text_scopes.specs.declared.meaning.Meaning.TheVariants.{Test, Action, Var}
 use Rattle.text_scopes.specs.ScopeParts.{ScopeParts, IsIdentifier}

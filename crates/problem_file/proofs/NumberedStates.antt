@@ -11,8 +11,8 @@ use Rattle.kat_model.specs.Problems.{IsInRange, AreInRange}
 use Rattle.kat_model.specs.Members.{Has}
 use Rattle.kat_model.proofs.Places.{slice_get_last}
 use Rattle.kat_model.proofs.Ranges.{AreInRange-append}
-use Rattle.text_grammar.specs.Actions.{context}
-use Rattle.text_grammar.specs.Phrases.{term, Leaf, Phrase}
+use Rattle.text_scopes.specs.Actions.{context}
+use Rattle.text_scopes.specs.Phrases.{term, Leaf, Phrase}
 use Rattle.text_scopes.specs.Sizes.{cond_size}
 use Rattle.text_scopes.specs.Sound.{nesting}
 use Rattle.text_scopes.specs.declared.meaning.Meaning.{Meaning}

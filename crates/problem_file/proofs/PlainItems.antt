@@ -5,14 +5,14 @@ use Rattle.std.specs.Prelude.{codes}
 use Rattle.kat_model.specs.declared.limits.TheConstants.{MAX_TESTS, MAX_ACTIONS, MAX_TERM_NODES, MAX_TEXT_NODES, MAX_HYPS, MAX_OPEN}
 use Rattle.kat_model.specs.Trees.{Term, term_size}
 use Rattle.kat_model.specs.Problems.{terms_size}
-use Rattle.text_grammar.specs.Pieces.{Piece, word, gap}
-use Rattle.text_grammar.specs.declared.terminal.Terminal.{Terminal}
-use Rattle.text_grammar.specs.declared.terminal.Terminal.TheVariants.{Name, Keyword, Separator, Zero}
-use Rattle.text_grammar.specs.declared.terminal.Keyword.TheVariants as keyword
-use Rattle.text_grammar.specs.declared.terminal.Separator.TheVariants.{Comma, Semicolon, Equals}
-use Rattle.text_grammar.specs.Lexemes.{Lexeme, lexeme}
-use Rattle.text_grammar.specs.Actions.{context}
-use Rattle.text_grammar.specs.Phrases.{star, Phrase, one_prod, one_star, yield_before, MeetsLookahead}
+use Rattle.text_scopes.specs.Pieces.{Piece, word, gap}
+use Rattle.text_scopes.specs.declared.terminal.Terminal.{Terminal}
+use Rattle.text_scopes.specs.declared.terminal.Terminal.TheVariants.{Name, Keyword, Separator, Zero}
+use Rattle.text_scopes.specs.declared.terminal.Keyword.TheVariants as keyword
+use Rattle.text_scopes.specs.declared.terminal.Separator.TheVariants.{Comma, Semicolon, Equals}
+use Rattle.text_scopes.specs.Lexemes.{Lexeme, lexeme}
+use Rattle.text_scopes.specs.Actions.{context}
+use Rattle.text_scopes.specs.Phrases.{star, Phrase, one_prod, one_star, yield_before, MeetsLookahead}
 use Rattle.text_scopes.specs.declared.meaning.Meaning.{Meaning}
 use Rattle.text_scopes.specs.declared.meaning.Meaning.TheVariants.{Test, Action}
 use Rattle.text_scopes.specs.ScopeParts.{ScopeParts}

@@ -6,7 +6,7 @@ use Rattle.std.specs.Prelude.{codes, flat_map, decimal}
 use Rattle.std.specs.List.{range_with_len}
 use Rattle.kat_model.specs.Trees.{Term}
 use Rattle.kat_model.specs.Problems.{ProblemParts, IsProblem}
-use Rattle.text_grammar.specs.Pieces.{spelled}
+use Rattle.text_scopes.specs.Pieces.{spelled}
 use Rattle.text_scopes.specs.declared.meaning.Meaning.{Meaning}
 use Rattle.text_scopes.specs.ScopeParts.{ScopeParts}
 use Rattle.text_print.specs.Printing.{name_of, term_text, term_pieces}

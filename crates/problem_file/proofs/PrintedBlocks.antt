@@ -5,16 +5,16 @@ use Rattle.std.proofs.lemmas.List.{append-nil}
 use Rattle.std.specs.Prelude.{codes}
 use Rattle.kat_model.specs.declared.limits.TheConstants.{MAX_TERM_NODES, MAX_EXPR_NODES, MAX_OPEN}
 use Rattle.kat_model.specs.Expressions.{ExprTree, CondTree}
-use Rattle.text_grammar.specs.Pieces.{Piece, word, symbol, gap}
-use Rattle.text_grammar.proofs.Printed.{printed}
-use Rattle.text_grammar.specs.declared.terminal.Terminal.{Terminal}
-use Rattle.text_grammar.specs.declared.terminal.Terminal.TheVariants.{Name, Keyword, Separator}
-use Rattle.text_grammar.specs.declared.terminal.Keyword.TheVariants as keyword
-use Rattle.text_grammar.specs.declared.terminal.Separator.TheVariants.{Semicolon, CurlyOpen, Becomes}
-use Rattle.text_grammar.specs.Lexemes.{Lexeme, lexeme}
-use Rattle.text_grammar.specs.Parsed.{◌>>=◌, before, change, place_of}
-use Rattle.text_grammar.specs.Actions.{context}
-use Rattle.text_grammar.specs.Phrases.{one_conj, one_lit, one_mul, one_fac, yield_before, MeetsLookahead}
+use Rattle.text_scopes.specs.Pieces.{Piece, word, symbol, gap}
+use Rattle.text_scopes.proofs.Printed.{printed}
+use Rattle.text_scopes.specs.declared.terminal.Terminal.{Terminal}
+use Rattle.text_scopes.specs.declared.terminal.Terminal.TheVariants.{Name, Keyword, Separator}
+use Rattle.text_scopes.specs.declared.terminal.Keyword.TheVariants as keyword
+use Rattle.text_scopes.specs.declared.terminal.Separator.TheVariants.{Semicolon, CurlyOpen, Becomes}
+use Rattle.text_scopes.specs.Lexemes.{Lexeme, lexeme}
+use Rattle.text_scopes.specs.Parsed.{◌>>=◌, before, change, place_of}
+use Rattle.text_scopes.specs.Actions.{context}
+use Rattle.text_scopes.specs.Phrases.{one_conj, one_lit, one_mul, one_fac, yield_before, MeetsLookahead}
 use Rattle.text_scopes.specs.declared.meaning.Meaning.{Meaning}
 use Rattle.text_scopes.specs.declared.meaning.Meaning.TheVariants.{Action, Var}
 use Rattle.text_scopes.specs.ScopeParts.{ScopeParts, IsNameOf}

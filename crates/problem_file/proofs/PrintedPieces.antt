@@ -3,7 +3,7 @@ use Rattle.std.proofs.Common.{◌≡◌, ℕ, List, [], ◌∷◌, ◌++◌, ref
 use Rattle.std.proofs.lemmas.List.{append-nil}
 use Rattle.std.specs.Prelude.{codes}
 use Rattle.kat_model.specs.Expressions.{ExprTree, CondTree}
-use Rattle.text_grammar.specs.Pieces.{Piece, symbol, gap, spelled}
+use Rattle.text_scopes.specs.Pieces.{Piece, symbol, gap, spelled}
 use Rattle.text_scopes.specs.declared.meaning.Meaning.{Meaning}
 use Rattle.text_scopes.specs.declared.meaning.Meaning.TheVariants.{Action, Var}
 use Rattle.text_print.specs.Printing.{expr_text, cond_text, expr_pieces, cond_pieces}

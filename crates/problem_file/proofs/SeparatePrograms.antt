@@ -1,9 +1,9 @@
 -- The pieces of a printed program are tokens that the following pieces do not extend.
 use Rattle.std.proofs.Common.{ℕ, List, [], ◌∷◌, refl}
 use Rattle.std.specs.Prelude.{codes}
-use Rattle.text_grammar.specs.declared.token.Kind.TheVariants.{Symbol}
-use Rattle.text_grammar.specs.Pieces.{Piece, symbol, gap, spelled, EndsBefore, AreSeparate}
-use Rattle.text_grammar.proofs.PrintedWords.{keyword_is_name}
+use Rattle.text_scopes.specs.declared.token.Kind.TheVariants.{Symbol}
+use Rattle.text_scopes.specs.Pieces.{Piece, symbol, gap, spelled, EndsBefore, AreSeparate}
+use Rattle.text_scopes.proofs.PrintedWords.{keyword_is_name}
 use Rattle.text_scopes.specs.declared.meaning.Meaning.{Meaning}
 use Rattle.text_scopes.specs.ScopeParts.{ScopeParts}
 use Rattle.text_print.specs.Printing.{expr_pieces, cond_pieces}

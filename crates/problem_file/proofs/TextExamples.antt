@@ -7,11 +7,11 @@ use Rattle.std.specs.Cmp.Lexicographic.{slice_cmp}
 use Rattle.std.specs.FinMap.{get-empty}
 use Rattle.kat_model.specs.Trees.{prim, meet, test, act, product, star as star_term}
 use Rattle.kat_model.specs.Expressions.{named, negation}
-use Rattle.text_grammar.specs.Pieces.{Piece, word, numeral, symbol, gap, parts_from, AreSeparate}
-use Rattle.text_grammar.proofs.PrintedWords.{word_is_name}
-use Rattle.text_grammar.proofs.Printed.{printed}
-use Rattle.text_grammar.specs.Actions.{context}
-use Rattle.text_grammar.specs.Phrases.{Leaf, Phrase, term, cond, one_prod, one_star, more_stars, bare, starred, name_unit, square_unit, one_conj, one_lit, more_lits, name_lit, not_lit}
+use Rattle.text_scopes.specs.Pieces.{Piece, word, numeral, symbol, gap, parts_from, AreSeparate}
+use Rattle.text_scopes.proofs.PrintedWords.{word_is_name}
+use Rattle.text_scopes.proofs.Printed.{printed}
+use Rattle.text_scopes.specs.Actions.{context}
+use Rattle.text_scopes.specs.Phrases.{Leaf, Phrase, term, cond, one_prod, one_star, more_stars, bare, starred, name_unit, square_unit, one_conj, one_lit, more_lits, name_lit, not_lit}
 use Rattle.text_scopes.specs.declared.meaning.Meaning.TheVariants.{Test, Action}
 use Rattle.text_scopes.specs.ScopeParts.{ScopeParts, Means, IsUndeclared, empty_scope, declared}
 use Rattle.text_scopes.specs.Sound.{IsTermName, IsCondName}

@@ -3,14 +3,14 @@ use Rattle.std.proofs.Common.{◌≡◌, ℕ, ◌+◌, ◌≤◌, ◌<◌, List,
 use Rattle.kat_model.specs.declared.limits.TheConstants.{MAX_EXPR_NODES}
 use Rattle.kat_model.specs.Expressions.{CondTree}
 use Rattle.kat_model.proofs.Places.{slice_get_last}
-use Rattle.text_grammar.specs.declared.terminal.Terminal.TheVariants.{Separator, Zero}
-use Rattle.text_grammar.specs.declared.terminal.Separator.TheVariants.{Comma, CurlyClose, Equals}
-use Rattle.text_grammar.specs.Lexemes.{Lexeme}
-use Rattle.text_grammar.specs.Parsed.{◌>>=◌}
-use Rattle.text_grammar.specs.Phrases.{term, Leaf, Phrase, cons_token, yield_before, IsWithinLimits}
-use Rattle.text_grammar.specs.Actions.{context}
-use Rattle.text_grammar.specs.Folds.{fold}
-use Rattle.text_grammar.proofs.ParserSoundness.{bind_ok}
+use Rattle.text_scopes.specs.declared.terminal.Terminal.TheVariants.{Separator, Zero}
+use Rattle.text_scopes.specs.declared.terminal.Separator.TheVariants.{Comma, CurlyClose, Equals}
+use Rattle.text_scopes.specs.Lexemes.{Lexeme}
+use Rattle.text_scopes.specs.Parsed.{◌>>=◌}
+use Rattle.text_scopes.specs.Phrases.{term, Leaf, Phrase, cons_token, yield_before, IsWithinLimits}
+use Rattle.text_scopes.specs.Actions.{context}
+use Rattle.text_scopes.specs.Folds.{fold}
+use Rattle.text_scopes.proofs.ParserSoundness.{bind_ok}
 use Rattle.text_scopes.specs.Measuring.{extents}
 use Rattle.text_scopes.specs.declared.extent.Extent.{Extent}
 use Rattle.text_scopes.specs.Sizes.{cond_size}

@@ -7,8 +7,8 @@ use Rattle.kat_model.specs.Expressions.{CondTree, test_without_comparisons}
 use Rattle.kat_model.specs.declared.expression.Width.{Width}
 use Rattle.kat_model.specs.declared.expression.Width.TheVariants.{W8, W16, W32, W64}
 use Rattle.goal_forms.specs.Sides.{failing_run}
-use Rattle.text_grammar.specs.declared.fault.TextFault.{TextFault}
-use Rattle.text_grammar.specs.declared.fault.TextFault.TheVariants.{DoubleName, TooMany, TooLarge, TwoGoals, Sort}
+use Rattle.text_scopes.specs.declared.fault.TextFault.{TextFault}
+use Rattle.text_scopes.specs.declared.fault.TextFault.TheVariants.{DoubleName, TooMany, TooLarge, TwoGoals, Sort}
 use Rattle.text_scopes.specs.declared.meaning.Meaning.TheVariants.{Test, Action, Var, Prog}
 use Rattle.text_scopes.specs.ScopeParts.{ScopeParts, meaning, empty_scope, declared, defined}
 use Rattle.while_lang.specs.Programs.{ProgTree}

@@ -1,6 +1,6 @@
 -- Printed programs: the pieces that spell them.
 use Rattle.std.specs.Prelude.{◌+◌, max, ℕ, List, ◌∷◌, codes}
-use Rattle.text_grammar.specs.Pieces.{Piece, word, symbol, gap}
+use Rattle.text_scopes.specs.Pieces.{Piece, word, symbol, gap}
 use Rattle.text_scopes.specs.declared.meaning.Meaning.{Meaning}
 use Rattle.text_scopes.specs.declared.meaning.Meaning.TheVariants.{Action, Var}
 use Rattle.text_scopes.specs.ScopeParts.{ScopeParts, IsNameOf}

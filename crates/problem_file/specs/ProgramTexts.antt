@@ -8,7 +8,7 @@ use Rattle.kat_model.specs.declared.limits.TheConstants.{MAX_EXPR_NODES, MAX_TER
 use Rattle.kat_model.specs.declared.expression.Width.{Width}
 use Rattle.kat_model.specs.declared.expression.Width.TheVariants.{W8, W16, W32, W64}
 use Rattle.kat_model.specs.Expressions.{CondTree}
-use Rattle.text_grammar.specs.Pieces.{spelled}
+use Rattle.text_scopes.specs.Pieces.{spelled}
 use Rattle.text_scopes.specs.declared.meaning.Meaning.{Meaning}
 use Rattle.text_scopes.specs.declared.meaning.Meaning.TheVariants.{Var}
 use Rattle.text_scopes.specs.ScopeParts.{IsIdentifier}

@@ -2,8 +2,8 @@
 ghost use Rattle.std.specs.Prelude.{◌≡◌, ◌+◌, min, ◌^◌, ◌-◌, ◌≤◌, length, drop, nat_lt, Ok, IfOk, None, option_map, option_and_then};
 ghost use Rattle.kat_model.specs.Stores.{modulus};
 ghost use Rattle.kat_model.specs.Trees.{kat_tree};
-ghost use Rattle.text_grammar.specs.Lexemes.{lexemes};
-ghost use Rattle.text_grammar.specs.Parsed.{Makes};
+ghost use Rattle.text_scopes.specs.Lexemes.{lexemes};
+ghost use Rattle.text_scopes.specs.Parsed.{Makes};
 ghost use Rattle.text_scopes.specs.ScopeParts.{IsIdentifier};
 ghost use Rattle.while_lang.specs.NamedProgs.{prog_parts};
 ghost use Rattle.while_lang.specs.Files.{prog_named};
@@ -28,8 +28,7 @@ use kat_model::{
     Cond, Items, Kat, MAX_HYPS, MAX_OPEN, MAX_ROUNDS, MAX_TERM_NODES, NoMemory, Width,
 };
 use std::alloc::Global;
-use text_grammar::{Terminal, TextFault, Token, terminal_at};
-use text_scopes::{Extent, build_cond, build_term, measure_cond, measure_term};
+use text_scopes::{Extent, Terminal, TextFault, Token, build_cond, build_term, measure_cond, measure_term, terminal_at};
 use while_lang::{Goal, NamedProg, Side, build_block, measure_block, prog_meant};
 
 // Checks that an item, or a part of a goal, is within the limit of nodes; `TooLarge` at `at` past it.

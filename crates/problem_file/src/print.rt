@@ -1,7 +1,7 @@
 //! Prints programs as text.
 ghost use Rattle.std.specs.Prelude.{◌≡◌, [], ◌++◌, OnOk, IfOk};
 ghost use Rattle.kat_model.specs.Expressions.{expr_tree, cond_tree};
-ghost use Rattle.text_grammar.specs.Pieces.{spelled};
+ghost use Rattle.text_scopes.specs.Pieces.{spelled};
 ghost use Rattle.text_print.specs.Printing.{name_of, expr_text, cond_text};
 ghost use Rattle.while_lang.specs.ProgramViews.{stmt_tree};
 ghost use Rattle.problem_file.specs.ProgramPrinting.{block_pieces};

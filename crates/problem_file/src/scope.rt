@@ -7,8 +7,7 @@ ghost use Rattle.problem_file.specs.Working.Scopes.{IsPlain};
 
 use kat_model::NoMemory;
 use std::alloc::Global;
-use text_scopes::{Meaning, Scope};
-use text_grammar::{Kind, TextFault, Token};
+use text_scopes::{Kind, Meaning, Scope, TextFault, Token};
 
 /// Declares a name, which must be an identifier and undeclared. The meaning must not be a term and must have no name.
 /// Fails only when out of memory.

@@ -7,8 +7,7 @@ use crate::fixtures::{cut, is_so, sample};
 use kat_model::{NoMemory, Width};
 use std::alloc::Global;
 use std::test::Fail;
-use text_scopes::Scope;
-use text_grammar::TextFault;
+use text_scopes::{Scope, TextFault};
 use while_lang::{Outcome, Prog, Store, read_block, run};
 use problem_file::print_prog;
 

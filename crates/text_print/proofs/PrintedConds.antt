@@ -5,14 +5,14 @@ use Rattle.std.specs.Prelude.{codes}
 use Rattle.kat_model.specs.declared.limits.TheConstants.{MAX_OPEN}
 use Rattle.kat_model.specs.declared.expression.Rel.{Rel}
 use Rattle.kat_model.specs.Expressions.{ExprTree, CondTree, always, never, named, compared, negation, both, either, has_comparison}
-use Rattle.text_grammar.specs.Pieces.{Piece, symbol}
-use Rattle.text_grammar.specs.declared.terminal.Terminal.{Terminal}
-use Rattle.text_grammar.specs.declared.terminal.Terminal.TheVariants.{RoundOpen, RoundClose, Bang}
-use Rattle.text_grammar.specs.declared.reading.Context.{Context}
-use Rattle.text_grammar.specs.Lexemes.{Lexeme, lexeme}
-use Rattle.text_grammar.specs.Conds.{begins_expr}
-use Rattle.text_grammar.specs.Phrases.{lit, fac, Leaf, Phrase, one_conj, more_conjs, one_lit, more_lits, true_lit, false_lit, name_lit, not_lit, round_lit, relation_lit, one_mul, one_fac, yield_before, MeetsLookahead, IsWithinLimits}
-use Rattle.text_grammar.specs.Folds.{fold}
+use Rattle.text_scopes.specs.Pieces.{Piece, symbol}
+use Rattle.text_scopes.specs.declared.terminal.Terminal.{Terminal}
+use Rattle.text_scopes.specs.declared.terminal.Terminal.TheVariants.{RoundOpen, RoundClose, Bang}
+use Rattle.text_scopes.specs.declared.reading.Context.{Context}
+use Rattle.text_scopes.specs.Lexemes.{Lexeme, lexeme}
+use Rattle.text_scopes.specs.Conds.{begins_expr}
+use Rattle.text_scopes.specs.Phrases.{lit, fac, Leaf, Phrase, one_conj, more_conjs, one_lit, more_lits, true_lit, false_lit, name_lit, not_lit, round_lit, relation_lit, one_mul, one_fac, yield_before, MeetsLookahead, IsWithinLimits}
+use Rattle.text_scopes.specs.Folds.{fold}
 use Rattle.text_scopes.specs.declared.meaning.Meaning.{Meaning}
 use Rattle.text_scopes.specs.declared.meaning.Meaning.TheVariants.{Test}
 use Rattle.text_scopes.specs.ScopeParts.{ScopeParts, IsNameOf}

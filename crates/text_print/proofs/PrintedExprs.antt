@@ -5,14 +5,14 @@ use Rattle.std.specs.Prelude.{codes}
 use Rattle.std.specs.Fmt.{decimal}
 use Rattle.kat_model.specs.declared.limits.TheConstants.{MAX_OPEN}
 use Rattle.kat_model.specs.Expressions.{ExprTree, number, variable, plus, minus, times}
-use Rattle.text_grammar.specs.Pieces.{Piece, word, numeral, symbol}
-use Rattle.text_grammar.specs.declared.terminal.Terminal.{Terminal}
-use Rattle.text_grammar.specs.declared.terminal.Terminal.TheVariants.{Zero, One, Number}
-use Rattle.text_grammar.specs.declared.reading.Context.{Context}
-use Rattle.text_grammar.specs.Terminals.{number_terminal}
-use Rattle.text_grammar.specs.Lexemes.{Lexeme, lexeme}
-use Rattle.text_grammar.specs.Phrases.{fac, Leaf, Phrase, one_mul, more_muls, one_fac, more_facs, zero_fac, one_fac_number, number_fac, name_fac, round_fac, yield_before, MeetsLookahead, IsWithinLimits}
-use Rattle.text_grammar.specs.Folds.{operator_of, fold}
+use Rattle.text_scopes.specs.Pieces.{Piece, word, numeral, symbol}
+use Rattle.text_scopes.specs.declared.terminal.Terminal.{Terminal}
+use Rattle.text_scopes.specs.declared.terminal.Terminal.TheVariants.{Zero, One, Number}
+use Rattle.text_scopes.specs.declared.reading.Context.{Context}
+use Rattle.text_scopes.specs.Terminals.{number_terminal}
+use Rattle.text_scopes.specs.Lexemes.{Lexeme, lexeme}
+use Rattle.text_scopes.specs.Phrases.{fac, Leaf, Phrase, one_mul, more_muls, one_fac, more_facs, zero_fac, one_fac_number, number_fac, name_fac, round_fac, yield_before, MeetsLookahead, IsWithinLimits}
+use Rattle.text_scopes.specs.Folds.{operator_of, fold}
 use Rattle.text_scopes.specs.declared.meaning.Meaning.{Meaning}
 use Rattle.text_scopes.specs.declared.meaning.Meaning.TheVariants.{Var}
 use Rattle.text_scopes.specs.ScopeParts.{ScopeParts, IsNameOf}

@@ -3,13 +3,13 @@ use Rattle.std.proofs.Common.{◌≡◌, ◌<◌, ◌+◌, ℕ, List, ◌∷◌,
 use Rattle.std.proofs.lemmas.Bool.{lt-ltb}
 use Rattle.std.specs.Prelude.{codes}
 use Rattle.kat_model.specs.declared.limits.TheConstants.{MAX_OPEN}
-use Rattle.text_grammar.specs.Pieces.{Piece, symbol, gap, parts_from}
-use Rattle.text_grammar.specs.declared.terminal.Terminal.TheVariants.{RoundOpen, RoundClose}
-use Rattle.text_grammar.specs.declared.reading.Context.{Context}
-use Rattle.text_grammar.specs.Terminals.{symbol_terminal}
-use Rattle.text_grammar.specs.Lexemes.{Lexeme, lexeme, lexeme_of}
-use Rattle.text_grammar.specs.Actions.{enter, enter_not}
-use Rattle.text_grammar.specs.Phrases.{Symbol, Leaf, Phrase, yield_before, MeetsLookahead}
+use Rattle.text_scopes.specs.Pieces.{Piece, symbol, gap, parts_from}
+use Rattle.text_scopes.specs.declared.terminal.Terminal.TheVariants.{RoundOpen, RoundClose}
+use Rattle.text_scopes.specs.declared.reading.Context.{Context}
+use Rattle.text_scopes.specs.Terminals.{symbol_terminal}
+use Rattle.text_scopes.specs.Lexemes.{Lexeme, lexeme, lexeme_of}
+use Rattle.text_scopes.specs.Actions.{enter, enter_not}
+use Rattle.text_scopes.specs.Phrases.{Symbol, Leaf, Phrase, yield_before, MeetsLookahead}
 use Rattle.text_scopes.specs.Sound.{inside, inside_not}
 use Rattle.text_print.specs.Printing.{spaced}
 

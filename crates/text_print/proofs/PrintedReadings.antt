@@ -4,19 +4,19 @@ use Rattle.std.proofs.lemmas.Bool.{le-ltb}
 use Rattle.kat_model.specs.declared.limits.TheConstants.{MAX_TERM_NODES, MAX_EXPR_NODES, MAX_OPEN}
 use Rattle.kat_model.specs.Trees.{Term, term_size}
 use Rattle.kat_model.specs.Expressions.{ExprTree, CondTree, has_comparison}
-use Rattle.text_grammar.specs.declared.fault.TextFault.{TextFault}
-use Rattle.text_grammar.specs.declared.lexer.TheConstants.{MAX_LEN}
-use Rattle.text_grammar.specs.Pieces.{spelled}
-use Rattle.text_grammar.proofs.Printed.{printed}
-use Rattle.text_grammar.specs.Parsed.{Parsed, before, place_of}
-use Rattle.text_grammar.specs.Actions.{context}
-use Rattle.text_grammar.specs.Exprs.{parse_expr, sums}
-use Rattle.text_grammar.specs.Conds.{parse_cond, disjunction}
-use Rattle.text_grammar.specs.Terms.{parse_term, choice}
-use Rattle.text_grammar.specs.Phrases.{term, cond, expr, Phrase, one_prod, one_star, one_conj, one_lit, one_mul, one_fac, yield_before, MeetsLookahead, IsWithinLimits}
-use Rattle.text_grammar.specs.Folds.{fold}
-use Rattle.text_grammar.proofs.ParserCompleteness.{term_parsed, cond_parsed, expr_parsed}
-use Rattle.text_grammar.proofs.Longest.{longest}
+use Rattle.text_scopes.specs.declared.fault.TextFault.{TextFault}
+use Rattle.text_scopes.specs.declared.lexer.TheConstants.{MAX_LEN}
+use Rattle.text_scopes.specs.Pieces.{spelled}
+use Rattle.text_scopes.proofs.Printed.{printed}
+use Rattle.text_scopes.specs.Parsed.{Parsed, before, place_of}
+use Rattle.text_scopes.specs.Actions.{context}
+use Rattle.text_scopes.specs.Exprs.{parse_expr, sums}
+use Rattle.text_scopes.specs.Conds.{parse_cond, disjunction}
+use Rattle.text_scopes.specs.Terms.{parse_term, choice}
+use Rattle.text_scopes.specs.Phrases.{term, cond, expr, Phrase, one_prod, one_star, one_conj, one_lit, one_mul, one_fac, yield_before, MeetsLookahead, IsWithinLimits}
+use Rattle.text_scopes.specs.Folds.{fold}
+use Rattle.text_scopes.proofs.ParserCompleteness.{term_parsed, cond_parsed, expr_parsed}
+use Rattle.text_scopes.proofs.Longest.{longest}
 use Rattle.text_scopes.specs.declared.meaning.Meaning.{Meaning}
 use Rattle.text_scopes.specs.declared.extent.Extent.{Extent}
 use Rattle.text_scopes.specs.Sizes.{expr_size, cond_size, largest_expr}

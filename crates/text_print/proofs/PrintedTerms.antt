@@ -5,13 +5,13 @@ use Rattle.std.specs.Prelude.{codes}
 use Rattle.kat_model.specs.declared.limits.TheConstants.{MAX_OPEN}
 use Rattle.kat_model.specs.Expressions.{has_comparison, test_without_comparisons}
 use Rattle.kat_model.specs.Trees.{TestTree, bottom, top, prim, complement, meet, join, Term, zero, one, test, act, sum, product, star as star_term}
-use Rattle.text_grammar.specs.Pieces.{Piece, word, numeral, symbol}
-use Rattle.text_grammar.specs.declared.terminal.Terminal.{Terminal}
-use Rattle.text_grammar.specs.declared.terminal.Terminal.TheVariants.{RoundOpen, SquareOpen, Dot}
-use Rattle.text_grammar.specs.declared.reading.Context.{Context}
-use Rattle.text_grammar.specs.Lexemes.{Lexeme, lexeme}
-use Rattle.text_grammar.specs.Phrases.{star, unit, lit, Leaf, Phrase, one_prod, more_prods, one_star, more_stars, bare, starred, zero_unit, one_unit, name_unit, square_unit, round_unit, one_conj, one_lit, yield_before, MeetsLookahead, IsWithinLimits}
-use Rattle.text_grammar.specs.Folds.{fold}
+use Rattle.text_scopes.specs.Pieces.{Piece, word, numeral, symbol}
+use Rattle.text_scopes.specs.declared.terminal.Terminal.{Terminal}
+use Rattle.text_scopes.specs.declared.terminal.Terminal.TheVariants.{RoundOpen, SquareOpen, Dot}
+use Rattle.text_scopes.specs.declared.reading.Context.{Context}
+use Rattle.text_scopes.specs.Lexemes.{Lexeme, lexeme}
+use Rattle.text_scopes.specs.Phrases.{star, unit, lit, Leaf, Phrase, one_prod, more_prods, one_star, more_stars, bare, starred, zero_unit, one_unit, name_unit, square_unit, round_unit, one_conj, one_lit, yield_before, MeetsLookahead, IsWithinLimits}
+use Rattle.text_scopes.specs.Folds.{fold}
 use Rattle.text_scopes.specs.declared.meaning.Meaning.{Meaning}
 use Rattle.text_scopes.specs.declared.meaning.Meaning.TheVariants.{Test, Action}
 use Rattle.text_scopes.specs.ScopeParts.{ScopeParts, meaning, IsNameOf}

@@ -8,12 +8,12 @@ use Rattle.kat_model.specs.declared.expression.Rel.{Rel}
 use Rattle.kat_model.specs.declared.expression.Rel.TheVariants.{Eq, Ne, Lt, Le, Gt, Ge}
 use Rattle.kat_model.specs.Trees.{TestTree, bottom, top, prim, complement, meet, join, Term, zero, one, test, act, sum, product, star}
 use Rattle.kat_model.specs.Expressions.{ExprTree, number, variable, plus, minus, times, CondTree, always, never, named, compared, negation, both, either}
-use Rattle.text_grammar.specs.declared.token.Kind.TheVariants.{Name, Number, Symbol}
-use Rattle.text_grammar.specs.Kinds.{IsToken}
-use Rattle.text_grammar.specs.Pieces.{Piece, word, symbol, gap, spelled, EndsBefore, AreSeparate}
-use Rattle.text_grammar.proofs.Beginnings.{is_mark, name_begins, begins_no_mark, char_some}
-use Rattle.text_grammar.proofs.Gaps.{char_high}
-use Rattle.text_grammar.proofs.PrintedWords.{keyword_is_name, decimal_is_number}
+use Rattle.text_scopes.specs.declared.token.Kind.TheVariants.{Name, Number, Symbol}
+use Rattle.text_scopes.specs.Kinds.{IsToken}
+use Rattle.text_scopes.specs.Pieces.{Piece, word, symbol, gap, spelled, EndsBefore, AreSeparate}
+use Rattle.text_scopes.proofs.Beginnings.{is_mark, name_begins, begins_no_mark, char_some}
+use Rattle.text_scopes.proofs.Gaps.{char_high}
+use Rattle.text_scopes.proofs.PrintedWords.{keyword_is_name, decimal_is_number}
 use Rattle.text_scopes.specs.declared.meaning.Meaning.{Meaning}
 use Rattle.text_scopes.specs.declared.meaning.Meaning.TheVariants.{Test, Action, Var}
 use Rattle.text_scopes.specs.ScopeParts.{ScopeParts, IsNameOf}

@@ -1,9 +1,9 @@
 -- The reading of a printed text.
 use Rattle.std.specs.Prelude.{◌≡◌, ℕ, List, [], map, Result, Ok}
-use Rattle.text_grammar.specs.declared.fault.TextFault.{TextFault}
-use Rattle.text_grammar.specs.Lex.{Lexes}
-use Rattle.text_grammar.specs.Pieces.{Piece, spelled, parts_from}
-use Rattle.text_grammar.specs.Lexemes.{Lexeme, lexeme_of}
+use Rattle.text_scopes.specs.declared.fault.TextFault.{TextFault}
+use Rattle.text_scopes.specs.Lex.{Lexes}
+use Rattle.text_scopes.specs.Pieces.{Piece, spelled, parts_from}
+use Rattle.text_scopes.specs.Lexemes.{Lexeme, lexeme_of}
 use Rattle.text_scopes.specs.Readings.{Phrased}
 
 -- the text of the pieces has tokens, which read as `tree` with no tokens left

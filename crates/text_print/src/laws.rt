@@ -3,8 +3,8 @@ ghost use Rattle.std.specs.Prelude.{◌≡◌, ◌≤◌, ◌+◌, ℕ, List, []
 ghost use Rattle.kat_model.specs.declared.limits.TheConstants.{MAX_TERM_NODES, MAX_EXPR_NODES, MAX_OPEN};
 ghost use Rattle.kat_model.specs.Trees.{Term, term_size};
 ghost use Rattle.kat_model.specs.Expressions.{ExprTree, CondTree, has_comparison};
-ghost use Rattle.text_grammar.specs.declared.lexer.TheConstants.{MAX_LEN};
-ghost use Rattle.text_grammar.specs.Pieces.{spelled};
+ghost use Rattle.text_scopes.specs.declared.lexer.TheConstants.{MAX_LEN};
+ghost use Rattle.text_scopes.specs.Pieces.{spelled};
 ghost use Rattle.text_scopes.specs.declared.meaning.Meaning.{Meaning};
 ghost use Rattle.text_scopes.specs.Sizes.{expr_size, cond_size, largest_expr};
 ghost use Rattle.text_scopes.specs.ScopeParts.{ScopeParts, IsNameOf};

@@ -3,7 +3,7 @@ ghost use Rattle.std.specs.Prelude.{◌≡◌, [], ◌++◌, OnOk, IfOk};
 ghost use Rattle.std.specs.Fmt.{decimal};
 ghost use Rattle.kat_model.specs.Trees.{test_tree, kat_tree};
 ghost use Rattle.kat_model.specs.Expressions.{compared, expr_tree, cond_tree};
-ghost use Rattle.text_grammar.specs.Pieces.{spelled};
+ghost use Rattle.text_scopes.specs.Pieces.{spelled};
 ghost use Rattle.text_print.specs.Printing.{name_of, relation_text, cond_of, is_star, expr_text, cond_text, test_text, term_text, expr_pieces, cond_pieces, term_pieces};
 
 use kat_model::{Cond, Expr, Kat, NoMemory, Rel, Test};

@@ -1,3 +1,34 @@
+pub mod Beginnings
+pub mod Runs
+pub mod Fronts
+pub mod NameRuns
+pub mod Gaps
+pub mod Ends
+pub mod Readings
+pub mod Slices
+pub mod Printed
+pub mod PrintedWords
+pub mod PieceExamples
+pub mod PartFaults
+mod Seen
+pub mod Symbols
+pub mod Words
+pub mod Numerals
+pub mod Parentheses
+pub mod Tokens
+pub mod TerminalEquality
+pub mod Within
+pub mod ExprSteps
+pub mod CondSteps
+pub mod TermSteps
+pub mod ParserCompleteness
+pub mod ParserSoundness
+pub mod Scanned
+pub mod Longest
+pub mod Unique
+pub mod ScanFaults
+pub mod NamedFaults
+mod GrammarExamples
 pub mod MeaningOrder
 pub mod MeaningEntries
 pub mod Inverse

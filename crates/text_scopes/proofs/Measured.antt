@@ -6,13 +6,13 @@ use Rattle.kat_model.specs.declared.expression.Rel.{Rel}
 use Rattle.kat_model.specs.Trees.{Term, zero, one, sum, product, term_size, test_size, is_test}
 use Rattle.kat_model.specs.Balanced.{balanced}
 use Rattle.kat_model.specs.Expressions.{ExprTree, number, CondTree, always, never, both, either, test_without_comparisons}
-use Rattle.text_grammar.specs.declared.fault.TextFault.{TextFault}
-use Rattle.text_grammar.specs.declared.fault.TextFault.TheVariants.{Sort, TooDeep}
-use Rattle.text_grammar.specs.declared.reading.Context.{Context}
-use Rattle.text_grammar.specs.declared.reading.Operator.{Operator}
-use Rattle.text_grammar.specs.declared.reading.Operator.TheVariants.{Add, Subtract, Multiply}
-use Rattle.text_grammar.specs.Phrases.{term, cond as cond_symbol, expr, Phrase, IsWithinLimits}
-use Rattle.text_grammar.specs.Folds.{fold}
+use Rattle.text_scopes.specs.declared.fault.TextFault.{TextFault}
+use Rattle.text_scopes.specs.declared.fault.TextFault.TheVariants.{Sort, TooDeep}
+use Rattle.text_scopes.specs.declared.reading.Context.{Context}
+use Rattle.text_scopes.specs.declared.reading.Operator.{Operator}
+use Rattle.text_scopes.specs.declared.reading.Operator.TheVariants.{Add, Subtract, Multiply}
+use Rattle.text_scopes.specs.Phrases.{term, cond as cond_symbol, expr, Phrase, IsWithinLimits}
+use Rattle.text_scopes.specs.Folds.{fold}
 use Rattle.text_scopes.specs.declared.meaning.Meaning.{Meaning}
 use Rattle.text_scopes.specs.declared.meaning.Meaning.TheVariants.{Test, Action, Var, Term as TermName, Prog}
 use Rattle.text_scopes.specs.declared.extent.Extent.{Extent}

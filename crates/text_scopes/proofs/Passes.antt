@@ -1,10 +1,10 @@
 -- A pass with any actions gives the fold of the actions over the phrase.
-use Rattle.text_grammar.specs.Actions.{Actions}
-use Rattle.text_grammar.specs.Exprs.{sums}
-use Rattle.text_grammar.specs.Conds.{disjunction}
-use Rattle.text_grammar.specs.Terms.{choice}
-use Rattle.text_grammar.proofs.ParserCompleteness.{term_parsed, cond_parsed, expr_parsed}
-use Rattle.text_grammar.proofs.ParserSoundness.{expr_found, cond_found, term_found}
+use Rattle.text_scopes.specs.Actions.{Actions}
+use Rattle.text_scopes.specs.Exprs.{sums}
+use Rattle.text_scopes.specs.Conds.{disjunction}
+use Rattle.text_scopes.specs.Terms.{choice}
+use Rattle.text_scopes.proofs.ParserCompleteness.{term_parsed, cond_parsed, expr_parsed}
+use Rattle.text_scopes.proofs.ParserSoundness.{expr_found, cond_found, term_found}
 use Rattle.text_scopes.specs.Laws.{PassesPhrases}
 
 pub phrases_passed : {E B L T M : Type 0} → (g : Actions E B L T M) → PassesPhrases g

@@ -2,15 +2,15 @@
 use Rattle.std.proofs.Common.{ℕ, List, true, false, cond, nat_lt, Result, Ok, Err}
 use Rattle.kat_model.specs.declared.limits.TheConstants.{MAX_OPEN}
 use Rattle.kat_model.specs.declared.expression.Rel.{Rel}
-use Rattle.text_grammar.specs.declared.fault.TextFault.{TextFault}
-use Rattle.text_grammar.specs.declared.fault.TextFault.TheVariants.{TooDeep}
-use Rattle.text_grammar.specs.declared.reading.Context.{Context}
-use Rattle.text_grammar.specs.declared.reading.Operator.{Operator}
-use Rattle.text_grammar.specs.declared.reading.Operator.TheVariants.{Multiply}
-use Rattle.text_grammar.specs.Parsed.{◌>>=◌}
-use Rattle.text_grammar.specs.Actions.{Actions}
-use Rattle.text_grammar.specs.Phrases.{Symbol, term, prod, star, unit, cond as cond_symbol, conj, lit, expr, mul, fac, Phrase, one_prod, more_prods, one_star, more_stars, bare, starred, zero_unit, one_unit, name_unit, not_unit, square_unit, round_unit, one_conj, more_conjs, one_lit, more_lits, true_lit, false_lit, name_lit, not_lit, round_lit, relation_lit, one_mul, more_muls, one_fac, more_facs, zero_fac, one_fac_number, number_fac, wide_fac, name_fac, round_fac}
-use Rattle.text_grammar.specs.Folds.{operator_of, Folded, fold}
+use Rattle.text_scopes.specs.declared.fault.TextFault.{TextFault}
+use Rattle.text_scopes.specs.declared.fault.TextFault.TheVariants.{TooDeep}
+use Rattle.text_scopes.specs.declared.reading.Context.{Context}
+use Rattle.text_scopes.specs.declared.reading.Operator.{Operator}
+use Rattle.text_scopes.specs.declared.reading.Operator.TheVariants.{Multiply}
+use Rattle.text_scopes.specs.Parsed.{◌>>=◌}
+use Rattle.text_scopes.specs.Actions.{Actions}
+use Rattle.text_scopes.specs.Phrases.{Symbol, term, prod, star, unit, cond as cond_symbol, conj, lit, expr, mul, fac, Phrase, one_prod, more_prods, one_star, more_stars, bare, starred, zero_unit, one_unit, name_unit, not_unit, square_unit, round_unit, one_conj, more_conjs, one_lit, more_lits, true_lit, false_lit, name_lit, not_lit, round_lit, relation_lit, one_mul, more_muls, one_fac, more_facs, zero_fac, one_fac_number, number_fac, wide_fac, name_fac, round_fac}
+use Rattle.text_scopes.specs.Folds.{operator_of, Folded, fold}
 use Rattle.text_scopes.specs.Sound.{inside, inside_not}
 
 -- if the first result is a value, so is the second, and the values are related

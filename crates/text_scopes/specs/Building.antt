@@ -4,9 +4,9 @@ use Rattle.kat_model.specs.Trees.{prim, Term, zero, one, test, act, star}
 use Rattle.kat_model.specs.Trees.{complement}
 use Rattle.kat_model.specs.Balanced.{sum_of, product_of}
 use Rattle.kat_model.specs.Expressions.{ExprTree, number, variable, plus, minus, times, CondTree, always, never, named, compared, negation, any_of, all_of, test_without_comparisons}
-use Rattle.text_grammar.specs.declared.reading.Operator.{Operator}
-use Rattle.text_grammar.specs.declared.reading.Operator.TheVariants.{Add, Subtract, Multiply}
-use Rattle.text_grammar.specs.Actions.{ExprActions, CondActions, Actions}
+use Rattle.text_scopes.specs.declared.reading.Operator.{Operator}
+use Rattle.text_scopes.specs.declared.reading.Operator.TheVariants.{Add, Subtract, Multiply}
+use Rattle.text_scopes.specs.Actions.{ExprActions, CondActions, Actions}
 use Rattle.text_scopes.specs.declared.meaning.Meaning.{Meaning}
 use Rattle.text_scopes.specs.declared.meaning.Meaning.TheVariants.{Test, Action, Var, Term as TermName}
 use Rattle.text_scopes.specs.Sizes.{as_test}

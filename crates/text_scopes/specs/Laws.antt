@@ -3,15 +3,15 @@ use Rattle.std.specs.Prelude.{◌≡◌, ℕ, List, [], ◌∷◌, min, nat_lt, 
 use Rattle.kat_model.specs.declared.limits.TheConstants.{MAX_TERM_NODES, MAX_EXPR_NODES, MAX_OPEN}
 use Rattle.kat_model.specs.Trees.{Term, test_size, term_size}
 use Rattle.kat_model.specs.Expressions.{ExprTree, CondTree, test_without_comparisons}
-use Rattle.text_grammar.specs.declared.reading.Context.{Context}
-use Rattle.text_grammar.specs.Lexemes.{Lexeme}
-use Rattle.text_grammar.specs.Parsed.{before}
-use Rattle.text_grammar.specs.Actions.{Actions}
-use Rattle.text_grammar.specs.Exprs.{parse_expr, sums}
-use Rattle.text_grammar.specs.Conds.{parse_cond, disjunction}
-use Rattle.text_grammar.specs.Terms.{parse_term, choice}
-use Rattle.text_grammar.specs.Phrases.{term, cond, expr, Phrase, yield_before, MeetsLookahead, IsLongest, IsPhrase}
-use Rattle.text_grammar.specs.Folds.{fold}
+use Rattle.text_scopes.specs.declared.reading.Context.{Context}
+use Rattle.text_scopes.specs.Lexemes.{Lexeme}
+use Rattle.text_scopes.specs.Parsed.{before}
+use Rattle.text_scopes.specs.Actions.{Actions}
+use Rattle.text_scopes.specs.Exprs.{parse_expr, sums}
+use Rattle.text_scopes.specs.Conds.{parse_cond, disjunction}
+use Rattle.text_scopes.specs.Terms.{parse_term, choice}
+use Rattle.text_scopes.specs.Phrases.{term, cond, expr, Phrase, yield_before, MeetsLookahead, IsLongest, IsPhrase}
+use Rattle.text_scopes.specs.Folds.{fold}
 use Rattle.text_scopes.specs.declared.extent.Extent.{Extent}
 use Rattle.text_scopes.specs.Sizes.{expr_size, cond_size, largest_expr, capped}
 use Rattle.text_scopes.specs.ScopeParts.{ScopeParts}

@@ -1,3 +1,22 @@
+pub mod Keywords
+pub mod Kinds
+pub mod Lex
+pub mod TokenParts
+pub mod Pieces
+pub mod Working
+pub mod Terminals
+pub mod Lexemes
+pub mod Parsed
+pub mod Actions
+pub mod Exprs
+pub mod Conds
+pub mod Terms
+pub mod Phrases
+pub mod Folds
+pub mod Scans
+pub mod Ends
+pub mod Ended
+pub mod Faults
 pub mod Sizes
 pub mod ScopeParts
 pub mod Definitions
@@ -6,4 +25,3 @@ pub mod Measuring
 pub mod Readings
 pub mod Sound
 pub mod Laws
-pub mod Working

@@ -3,14 +3,14 @@ use Rattle.std.specs.Prelude.{◌≡◌, ℕ, List, drop, Bool, true, false, if�
 use Rattle.kat_model.specs.declared.limits.TheConstants.{MAX_TERM_NODES, MAX_EXPR_NODES}
 use Rattle.kat_model.specs.Trees.{Term}
 use Rattle.kat_model.specs.Expressions.{ExprTree, CondTree}
-use Rattle.text_grammar.specs.declared.fault.TextFault.{TextFault}
-use Rattle.text_grammar.specs.declared.fault.TextFault.TheVariants.{NoMemory, TooLarge}
-use Rattle.text_grammar.specs.Lexemes.{Lexeme}
-use Rattle.text_grammar.specs.Parsed.{Parsed, ◌>>=◌, place_of}
-use Rattle.text_grammar.specs.Actions.{context}
-use Rattle.text_grammar.specs.Exprs.{parse_expr, sums}
-use Rattle.text_grammar.specs.Conds.{parse_cond, disjunction}
-use Rattle.text_grammar.specs.Terms.{parse_term, choice}
+use Rattle.text_scopes.specs.declared.fault.TextFault.{TextFault}
+use Rattle.text_scopes.specs.declared.fault.TextFault.TheVariants.{NoMemory, TooLarge}
+use Rattle.text_scopes.specs.Lexemes.{Lexeme}
+use Rattle.text_scopes.specs.Parsed.{Parsed, ◌>>=◌, place_of}
+use Rattle.text_scopes.specs.Actions.{context}
+use Rattle.text_scopes.specs.Exprs.{parse_expr, sums}
+use Rattle.text_scopes.specs.Conds.{parse_cond, disjunction}
+use Rattle.text_scopes.specs.Terms.{parse_term, choice}
 use Rattle.text_scopes.specs.declared.extent.Extent.{Extent}
 use Rattle.text_scopes.specs.ScopeParts.{ScopeParts}
 use Rattle.text_scopes.specs.Building.{expr_trees, cond_trees, trees}

@@ -5,12 +5,12 @@ use Rattle.std.specs.Cmp.Lexicographic.{slice_cmp}
 use Rattle.std.specs.FinMap.{FinMap, empty, get, insert, from_entries}
 use Rattle.std.specs.declared.alloc.Global.{Global}
 use Rattle.kat_model.specs.Trees.{Term}
-use Rattle.text_grammar.specs.declared.fault.TextFault.{TextFault}
-use Rattle.text_grammar.specs.declared.fault.TextFault.TheVariants.{NoMemory, DoubleName}
-use Rattle.text_grammar.specs.declared.token.Kind.TheVariants.{Name}
-use Rattle.text_grammar.specs.declared.token.Token.{Token}
-use Rattle.text_grammar.specs.Kinds.{IsToken}
-use Rattle.text_grammar.specs.Keywords.{is_keyword}
+use Rattle.text_scopes.specs.declared.fault.TextFault.{TextFault}
+use Rattle.text_scopes.specs.declared.fault.TextFault.TheVariants.{NoMemory, DoubleName}
+use Rattle.text_scopes.specs.declared.token.Kind.TheVariants.{Name}
+use Rattle.text_scopes.specs.declared.token.Token.{Token}
+use Rattle.text_scopes.specs.Kinds.{IsToken}
+use Rattle.text_scopes.specs.Keywords.{is_keyword}
 use Rattle.text_scopes.specs.declared.meaning.Meaning.{Meaning}
 use Rattle.text_scopes.specs.declared.meaning.Meaning.TheVariants.{Term as TermName}
 

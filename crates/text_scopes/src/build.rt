@@ -12,7 +12,8 @@ use kat_model::{
     Cond, Expr, Kat, NoMemory, Rel, Test, all_of, any_of, seq_of, sum_of, test_without_comparisons,
 };
 use std::alloc::Global;
-use text_grammar::{Context, Operator, Reading, TextFault};
+use crate::reading::{Context, Operator, Reading};
+use crate::fault::TextFault;
 
 // The actions that build the tree of a phrase. The phrase was measured before.
 #[derive(Clone, Copy)]

@@ -1,6 +1,6 @@
 //! The faults of the names of a phrase, and the size and nesting of the phrase.
 ghost use Rattle.std.specs.Prelude.{◌≡◌, slice_get};
-ghost use Rattle.text_grammar.specs.Parsed.{Makes};
+ghost use Rattle.text_scopes.specs.Parsed.{Makes};
 ghost use Rattle.text_scopes.specs.ScopeParts.{meaning};
 ghost use Rattle.text_scopes.specs.Measuring.{number_extent, variable_extent, condition_extent, defined_extent, name_extent, extents};
 
@@ -8,7 +8,8 @@ use crate::extent::{Extent, cut_extent};
 use crate::meaning::Meaning;
 use crate::scope::Scope;
 use kat_model::{MAX_OPEN, Rel};
-use text_grammar::{Context, Operator, Reading, TextFault};
+use crate::reading::{Context, Operator, Reading};
+use crate::fault::TextFault;
 
 // The actions that measure a phrase and reject what is not allowed in it.
 #[derive(Clone, Copy)]

@@ -7,7 +7,8 @@ use kat_model::NoMemory;
 use std::alloc::Global;
 use std::collections::BTreeMap;
 use std::marker::Model;
-use text_grammar::{TextFault, Token};
+use crate::fault::TextFault;
+use crate::token::Token;
 
 // A one-to-one table: each name denotes one meaning, and each meaning has at most one name.
 pub(crate) struct Names {

@@ -2,12 +2,12 @@
 ghost use Rattle.std.specs.Prelude.{◌≡◌, ◌<◌, ◌≤◌, length, drop, IfOk, IfErr, nat_lt, false, true};
 ghost use Rattle.kat_model.specs.Trees.{kat_tree};
 ghost use Rattle.kat_model.specs.Expressions.{cond_tree, expr_tree};
-ghost use Rattle.text_grammar.specs.Lexemes.{lexemes};
-ghost use Rattle.text_grammar.specs.Parsed.{Reads, Goes};
-ghost use Rattle.text_grammar.specs.Actions.{context};
-ghost use Rattle.text_grammar.specs.Exprs.{parse_expr, sums};
-ghost use Rattle.text_grammar.specs.Conds.{parse_cond, disjunction};
-ghost use Rattle.text_grammar.specs.Terms.{parse_term, choice};
+ghost use Rattle.text_scopes.specs.Lexemes.{lexemes};
+ghost use Rattle.text_scopes.specs.Parsed.{Reads, Goes};
+ghost use Rattle.text_scopes.specs.Actions.{context};
+ghost use Rattle.text_scopes.specs.Exprs.{parse_expr, sums};
+ghost use Rattle.text_scopes.specs.Conds.{parse_cond, disjunction};
+ghost use Rattle.text_scopes.specs.Terms.{parse_term, choice};
 ghost use Rattle.text_scopes.specs.Measuring.{extents, cond_extents, expr_extents};
 ghost use Rattle.text_scopes.specs.Building.{trees, cond_trees, expr_trees};
 ghost use Rattle.text_scopes.specs.Readings.{Answers, term_at, cond_at, expr_at};
@@ -18,7 +18,10 @@ use crate::measure::Measure;
 use crate::scope::Scope;
 use kat_model::{Cond, Expr, Kat, MAX_EXPR_NODES, MAX_TERM_NODES};
 use std::alloc::Global;
-use text_grammar::{Context, TextFault, Token, place_at};
+use crate::reading::Context;
+use crate::fault::TextFault;
+use crate::token::Token;
+use crate::terminal::place_at;
 
 /// Returns the size and nesting of the term that begins at `from`, with `depth` open constructs around it, and the
 /// index after the term; or the first fault in its syntax or its names in text order. Takes no memory.
@@ -31,7 +34,7 @@ pub fn measure_term(
     ensures value { Reads ⊥ (λ m. m) (lexemes toks.now) result (parse_term (extents scope.now) choice (context depth false false) (drop from (lexemes toks.now))) }
     ensures goes { Goes from (length toks.now) result }
 {
-    text_grammar::parse_term(
+    crate::term::parse_term(
         &Measure { scope },
         toks,
         from,
@@ -51,7 +54,7 @@ pub fn measure_cond(
     ensures value { Reads ⊥ (λ m. m) (lexemes toks.now) result (parse_cond (cond_extents scope.now) disjunction (context depth false compares) (drop from (lexemes toks.now))) }
     ensures goes { Goes from (length toks.now) result }
 {
-    text_grammar::parse_cond(
+    crate::cond::parse_cond(
         &Measure { scope },
         toks,
         from,
@@ -69,7 +72,7 @@ pub fn measure_expr(
     ensures value { Reads ⊥ (λ m. m) (lexemes toks.now) result (parse_expr (expr_extents scope.now) sums (context depth false true) (drop from (lexemes toks.now))) }
     ensures goes { Goes from (length toks.now) result }
 {
-    text_grammar::parse_expr(
+    crate::expr::parse_expr(
         &Measure { scope },
         toks,
         from,
@@ -89,7 +92,7 @@ pub fn build_term(
     ensures value { Reads (Unit {0}) kat_tree (lexemes toks.now) result (parse_term (trees scope.now) choice (context depth false false) (drop from (lexemes toks.now))) }
     ensures goes { Goes from (length toks.now) result }
 {
-    text_grammar::parse_term(
+    crate::term::parse_term(
         &Build { alloc, scope },
         toks,
         from,
@@ -109,7 +112,7 @@ pub fn build_cond(
     ensures value { Reads (Unit {0}) cond_tree (lexemes toks.now) result (parse_cond (cond_trees scope.now) disjunction (context depth false compares) (drop from (lexemes toks.now))) }
     ensures goes { Goes from (length toks.now) result }
 {
-    text_grammar::parse_cond(
+    crate::cond::parse_cond(
         &Build { alloc, scope },
         toks,
         from,
@@ -128,7 +131,7 @@ pub fn build_expr(
     ensures value { Reads (Unit {0}) expr_tree (lexemes toks.now) result (parse_expr (expr_trees scope.now) sums (context depth false true) (drop from (lexemes toks.now))) }
     ensures goes { Goes from (length toks.now) result }
 {
-    text_grammar::parse_expr(
+    crate::expr::parse_expr(
         &Build { alloc, scope },
         toks,
         from,

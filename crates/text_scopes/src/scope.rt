@@ -2,9 +2,9 @@
 ghost use Rattle.std.specs.Prelude.{◌≡◌, length, slice_get, false, IfSome, IfNone, OnOk, OnErr, IfErr};
 ghost use Rattle.std.specs.Option.{option_map};
 ghost use Rattle.kat_model.specs.Trees.{kat_tree};
-ghost use Rattle.text_grammar.specs.declared.token.Kind.TheVariants.{Name};
-ghost use Rattle.text_grammar.specs.Kinds.{IsToken};
-ghost use Rattle.text_grammar.specs.Keywords.{is_keyword};
+ghost use Rattle.text_scopes.specs.declared.token.Kind.TheVariants.{Name};
+ghost use Rattle.text_scopes.specs.Kinds.{IsToken};
+ghost use Rattle.text_scopes.specs.Keywords.{is_keyword};
 ghost use Rattle.text_scopes.specs.ScopeParts.{meaning, IsWellFormed, IsNameOf, IsUnnamed, IsUndeclared, empty_scope, is_term, declared, defined, IsRefusal};
 ghost use Rattle.text_scopes.specs.Definitions.{definition_of};
 
@@ -14,7 +14,8 @@ use crate::names::Names;
 use kat_model::Kat;
 use std::alloc::Global;
 use std::marker::Model;
-use text_grammar::{TextFault, Token};
+use crate::fault::TextFault;
+use crate::token::Token;
 
 /// The declared names with their meanings, and the defined terms. All kinds share one name space.
 pub struct Scope {
@@ -75,7 +76,7 @@ impl Scope {
         self.names.name(meaning)
     }
 
-    /// Declares a name. The token must be a name, as from [`text_grammar::tokens`], and not a keyword. The meaning must
+    /// Declares a name. The token must be a name, as from [`crate::lexer::tokens`], and not a keyword. The meaning must
     /// not be a term, and no name may denote it yet (see [`Scope::name`]). Fails with `DoubleName` at the token's place
     /// if and only if the name is declared, whatever it denotes. Otherwise fails only when out of memory. On failure
     /// the scope is unchanged.

@@ -3,11 +3,11 @@
 use Rattle.std.proofs.Common.{◌≡◌, ◌≤◌, ◌<◌, ◌+◌, ℕ, max, min, Bool, true, false, cond, nat_lt, slice_get, List, Option, Some, None, Result, Ok, Err, refl, arith}
 use Rattle.std.proofs.lemmas.Bool.{ltb-true, ltb-false}
 use Rattle.kat_model.specs.declared.limits.TheConstants.{MAX_OPEN}
-use Rattle.text_grammar.specs.declared.fault.TextFault.{TextFault}
-use Rattle.text_grammar.specs.declared.fault.TextFault.TheVariants.{TooDeep}
-use Rattle.text_grammar.specs.Parsed.{◌>>=◌}
-use Rattle.text_grammar.specs.Actions.{context}
-use Rattle.text_grammar.specs.Phrases.{cond as cond_symbol, Phrase, IsWithinLimits}
+use Rattle.text_scopes.specs.declared.fault.TextFault.{TextFault}
+use Rattle.text_scopes.specs.declared.fault.TextFault.TheVariants.{TooDeep}
+use Rattle.text_scopes.specs.Parsed.{◌>>=◌}
+use Rattle.text_scopes.specs.Actions.{context}
+use Rattle.text_scopes.specs.Phrases.{cond as cond_symbol, Phrase, IsWithinLimits}
 use Rattle.text_scopes.specs.declared.meaning.Meaning.{Meaning}
 use Rattle.text_scopes.specs.declared.meaning.Meaning.TheVariants.{Test, Action, Var, Term as TermName, Prog}
 use Rattle.text_scopes.specs.declared.extent.Extent.{Extent}

@@ -1,8 +1,8 @@
 -- The folds over blocks, and how the measures of a block relate to its tree.
 use Rattle.std.specs.Prelude.{◌≡◌, ◌↔◌, ◌≤◌, ◌+◌, ℕ, min, List, [], slice_get, Some, IsOk, Ok}
 use Rattle.kat_model.specs.declared.limits.TheConstants.{MAX_EXPR_NODES, MAX_OPEN}
-use Rattle.text_grammar.specs.Lexemes.{Lexeme}
-use Rattle.text_grammar.specs.Parsed.{◌>>=◌, before}
+use Rattle.text_scopes.specs.Lexemes.{Lexeme}
+use Rattle.text_scopes.specs.Parsed.{◌>>=◌, before}
 use Rattle.text_scopes.specs.declared.extent.Extent.{Extent}
 use Rattle.text_scopes.specs.ScopeParts.{ScopeParts}
 use Rattle.text_scopes.specs.Laws.{told_nodes}

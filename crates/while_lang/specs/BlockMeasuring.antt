@@ -1,8 +1,8 @@
 -- The faults of the names of a block, and the size and nesting of the block.
 use Rattle.std.specs.Prelude.{ℕ, ◌+◌, max, if◌then◌else◌, nat_lt, List, slice_get, Result, Ok, Err, Option, Some, None}
 use Rattle.kat_model.specs.declared.limits.TheConstants.{MAX_OPEN}
-use Rattle.text_grammar.specs.declared.fault.TextFault.{TextFault}
-use Rattle.text_grammar.specs.declared.fault.TextFault.TheVariants.{UnknownName, Sort, TooDeep}
+use Rattle.text_scopes.specs.declared.fault.TextFault.{TextFault}
+use Rattle.text_scopes.specs.declared.fault.TextFault.TheVariants.{UnknownName, Sort, TooDeep}
 use Rattle.text_scopes.specs.declared.meaning.Meaning.{Meaning}
 use Rattle.text_scopes.specs.declared.meaning.Meaning.TheVariants.{Action, Var, Prog}
 use Rattle.text_scopes.specs.declared.extent.Extent.{Extent}

@@ -1,9 +1,9 @@
 -- The reading of a block: its tree and its nesting, or its first fault.
 use Rattle.std.specs.Prelude.{ℕ, List, Result}
 use Rattle.kat_model.specs.declared.limits.TheConstants.{MAX_TERM_NODES}
-use Rattle.text_grammar.specs.declared.fault.TextFault.{TextFault}
-use Rattle.text_grammar.specs.Lexemes.{Lexeme}
-use Rattle.text_grammar.specs.Parsed.{Parsed, change, place_of}
+use Rattle.text_scopes.specs.declared.fault.TextFault.{TextFault}
+use Rattle.text_scopes.specs.Lexemes.{Lexeme}
+use Rattle.text_scopes.specs.Parsed.{Parsed, change, place_of}
 use Rattle.text_scopes.specs.declared.extent.Extent.{Extent}
 use Rattle.text_scopes.specs.ScopeParts.{ScopeParts}
 use Rattle.text_scopes.specs.Readings.{Phrased, within, phrased}

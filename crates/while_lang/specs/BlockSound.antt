@@ -1,7 +1,7 @@
 -- The blocks that are allowed in a scope, and their nesting with the named programs expanded.
 use Rattle.std.specs.Prelude.{◌≤◌, ◌+◌, ℕ, max, true, false, List, slice_get, Option, Some, None}
 use Rattle.kat_model.specs.declared.limits.TheConstants.{MAX_OPEN}
-use Rattle.text_grammar.specs.Actions.{context}
+use Rattle.text_scopes.specs.Actions.{context}
 use Rattle.text_scopes.specs.declared.meaning.Meaning.{Meaning}
 use Rattle.text_scopes.specs.declared.meaning.Meaning.TheVariants.{Action, Prog}
 use Rattle.text_scopes.specs.ScopeParts.{ScopeParts, meaning}

@@ -1,7 +1,7 @@
 //! Builds the tree of a block.
 ghost use Rattle.std.specs.Prelude.{◌≡◌, [], ◌∷◌, ◌++◌, map, length, drop, slice_get, Ok, IfOk, OnOk};
-ghost use Rattle.text_grammar.specs.Lexemes.{lexemes};
-ghost use Rattle.text_grammar.specs.Parsed.{Makes, Reads, Goes};
+ghost use Rattle.text_scopes.specs.Lexemes.{lexemes};
+ghost use Rattle.text_scopes.specs.Parsed.{Makes, Reads, Goes};
 ghost use Rattle.while_lang.specs.Programs.{stmts_of};
 ghost use Rattle.while_lang.specs.ProgramViews.{stmt_tree};
 ghost use Rattle.while_lang.specs.NamedProgs.{parts_of_progs};
@@ -15,8 +15,7 @@ use crate::numbered::prog_at;
 use crate::prog::{Prog, Stmt, push_stmt};
 use kat_model::{Cond, Expr, NoMemory};
 use std::alloc::Global;
-use text_scopes::{Meaning, Scope};
-use text_grammar::{TextFault, Token};
+use text_scopes::{Meaning, Scope, TextFault, Token};
 
 // The actions that build the tree of a block. The block was measured before.
 #[derive(Clone, Copy)]

@@ -1,7 +1,7 @@
 //! The faults of the names of a block, and the size and nesting of the block.
 ghost use Rattle.std.specs.Prelude.{◌≡◌, length, drop, slice_get};
-ghost use Rattle.text_grammar.specs.Lexemes.{lexemes};
-ghost use Rattle.text_grammar.specs.Parsed.{Reads, Goes};
+ghost use Rattle.text_scopes.specs.Lexemes.{lexemes};
+ghost use Rattle.text_scopes.specs.Parsed.{Reads, Goes};
 ghost use Rattle.text_scopes.specs.Measuring.{compared_nodes};
 ghost use Rattle.while_lang.specs.NamedProgs.{parts_of_progs};
 ghost use Rattle.while_lang.specs.BlockMeasuring.{extent, with_node, beside, deeper, spliced_extent, named_extent, check_target, block_extents};
@@ -12,8 +12,7 @@ use crate::blocks;
 use crate::named::NamedProg;
 use crate::numbered::prog_at;
 use kat_model::{MAX_EXPR_NODES, MAX_OPEN, MAX_TERM_NODES};
-use text_scopes::{Extent, Meaning, Scope};
-use text_grammar::{TextFault, Token};
+use text_scopes::{Extent, Meaning, Scope, TextFault, Token};
 
 // The actions that measure a block and reject what is not allowed in it.
 #[derive(Clone, Copy)]

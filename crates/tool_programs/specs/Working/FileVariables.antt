@@ -4,7 +4,7 @@ use Rattle.std.proofs.lemmas.Option.{none-some}
 use Rattle.std.specs.Ordering.{nat_cmp}
 use Rattle.std.specs.Cmp.Lexicographic.{slice_cmp}
 use Rattle.std.specs.FinMap.{get-empty}
-use Rattle.text_grammar.specs.Phrases.{Leaf}
+use Rattle.text_scopes.specs.Phrases.{Leaf}
 use Rattle.text_scopes.specs.declared.meaning.Meaning.{Meaning}
 use Rattle.text_scopes.specs.declared.meaning.Meaning.TheVariants.{Test, Action, Var, Term, Prog}
 use Rattle.text_scopes.specs.ScopeParts.{Means, IsUnnamed, declared}

@@ -13,7 +13,7 @@ use Rattle.kat_model.specs.declared.expression.Width.{Width}
 use Rattle.kat_model.specs.declared.expression.Width.TheVariants.{W8, W16, W32, W64}
 use Rattle.kat_model.specs.Expressions.{ExprTree, number, variable, plus, minus, times, CondTree, always, never, named, compared, negation, both, either}
 use Rattle.kat_model.specs.Stores.{modulus}
-use Rattle.text_grammar.specs.Pieces.{Piece, symbol, gap, spelled}
+use Rattle.text_scopes.specs.Pieces.{Piece, symbol, gap, spelled}
 use Rattle.text_scopes.specs.declared.meaning.Meaning.{Meaning}
 use Rattle.text_scopes.specs.declared.meaning.Meaning.TheVariants.{Var}
 use Rattle.text_scopes.specs.ScopeParts.{ScopeParts, IsDeclared}

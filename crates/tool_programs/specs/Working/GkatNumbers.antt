@@ -8,12 +8,12 @@ use Rattle.kat_model.specs.Trees.{TestTree, top, bottom, prim}
 use Rattle.kat_model.specs.Expressions.{test_without_comparisons}
 use Rattle.kat_model.specs.Problems.{IsTestInRange, IsInRange}
 use Rattle.kat_model.proofs.BalancedTrees.{balanced_holds}
-use Rattle.text_grammar.specs.declared.fault.TextFault.{TextFault}
-use Rattle.text_grammar.specs.declared.fault.TextFault.TheVariants.{DoubleName, TooMany, TooLarge}
-use Rattle.text_grammar.specs.Actions.{context}
-use Rattle.text_grammar.specs.Phrases.{cond, Phrase}
-use Rattle.text_grammar.specs.Folds.{fold}
-use Rattle.text_grammar.proofs.ParserSoundness.{bind_ok}
+use Rattle.text_scopes.specs.declared.fault.TextFault.{TextFault}
+use Rattle.text_scopes.specs.declared.fault.TextFault.TheVariants.{DoubleName, TooMany, TooLarge}
+use Rattle.text_scopes.specs.Actions.{context}
+use Rattle.text_scopes.specs.Phrases.{cond, Phrase}
+use Rattle.text_scopes.specs.Folds.{fold}
+use Rattle.text_scopes.proofs.ParserSoundness.{bind_ok}
 use Rattle.text_scopes.specs.declared.meaning.Meaning.{Meaning}
 use Rattle.text_scopes.specs.declared.meaning.Meaning.TheVariants.{Test, Action, Var, Term, Prog}
 use Rattle.text_scopes.specs.ScopeParts.{Definition, ScopeParts, meaning, IsUndeclared, declared}

@@ -1,4 +1,0 @@
-pub mod Fronts
-pub mod KeywordParts
-pub mod Symbols
-pub mod Words
