@@ -3,14 +3,14 @@ use Rattle.std.proofs.Common.{◌≡◌, ℕ, List, Bool, true, false, Option, N
 use Rattle.std.specs.Option.{is_some}
 use Rattle.std.specs.Str.{bytes_eq}
 use Rattle.std.specs.Prelude.{codes}
-use Rattle.text_scopes.specs.declared.fault.TextFault.{TextFault}
-use Rattle.text_scopes.specs.declared.terminal.Terminal.TheVariants.{Name, Separator, Dot}
-use Rattle.text_scopes.specs.declared.terminal.Separator.TheVariants.{Semicolon, CurlyOpen, CurlyClose, Equals}
-use Rattle.text_scopes.specs.Lexemes.{Lexeme, heads, is_terminal}
-use Rattle.text_scopes.specs.Parsed.{Parsed, ◌>>=◌, before, change, then_wants}
-use Rattle.text_scopes.specs.Phrases.{term, Leaf, Phrase, cons_token, yield_before, MeetsLookahead}
-use Rattle.text_scopes.specs.Ends.{Ends}
-use Rattle.text_scopes.proofs.ParserCompleteness.{then_rest, checked, changed, closed}
+use Rattle.text_parser.specs.declared.fault.TextFault.{TextFault}
+use Rattle.text_parser.specs.declared.terminal.Terminal.TheVariants.{Name, Separator, Dot}
+use Rattle.text_parser.specs.declared.terminal.Separator.TheVariants.{Semicolon, CurlyOpen, CurlyClose, Equals}
+use Rattle.text_parser.specs.Lexemes.{Lexeme, heads, is_terminal}
+use Rattle.text_parser.specs.Parsed.{Parsed, ◌>>=◌, before, change, then_wants}
+use Rattle.text_parser.specs.Phrases.{term, Leaf, Phrase, cons_token, yield_before, MeetsLookahead}
+use Rattle.text_parser.specs.Ends.{Ends}
+use Rattle.text_parser.proofs.ParserCompleteness.{then_rest, checked, changed, closed}
 use Rattle.while_lang.specs.Blocks.{enter}
 use Rattle.problem_file.specs.Items.{number_at}
 use Rattle.problem_file.specs.Phrases.{Numeral, zero_number, one_number, other_number, wide_number, numeral_onto}

@@ -1,11 +1,11 @@
 -- The equation of reading a chain, without the bound on steps.
 use Rattle.std.proofs.Common.{◌≡◌, ℕ, zero, suc, ◌+◌, ◌<◌, List, [], ◌∷◌, length, Bool, true, false, cond, if◌then◌else◌, None, Some, Ok, Err, refl, ap, arith, drop, length-drop}
-use Rattle.text_scopes.specs.declared.fault.TextFault.TheVariants.{Syntax}
-use Rattle.text_scopes.specs.declared.terminal.Terminal.TheVariants.{Dot, Separator}
-use Rattle.text_scopes.specs.declared.terminal.Separator.TheVariants.{Semicolon, CurlyOpen, CurlyClose, Equals}
-use Rattle.text_scopes.specs.Lexemes.{Lexeme, heads, is_terminal}
-use Rattle.text_scopes.specs.Parsed.{Parsed, ◌>>=◌, change, then_wants, place_of}
-use Rattle.text_scopes.proofs.Within.{Within, bind_within, if_within, weaken, enter_within, change_within, then_wants_within, headed, bind_same, if_same, enter_same}
+use Rattle.text_parser.specs.declared.fault.TextFault.TheVariants.{Syntax}
+use Rattle.text_parser.specs.declared.terminal.Terminal.TheVariants.{Dot, Separator}
+use Rattle.text_parser.specs.declared.terminal.Separator.TheVariants.{Semicolon, CurlyOpen, CurlyClose, Equals}
+use Rattle.text_parser.specs.Lexemes.{Lexeme, heads, is_terminal}
+use Rattle.text_parser.specs.Parsed.{Parsed, ◌>>=◌, change, then_wants, place_of}
+use Rattle.text_parser.proofs.Within.{Within, bind_within, if_within, weaken, enter_within, change_within, then_wants_within, headed, bind_same, if_same, enter_same}
 use Rattle.chain_proofs.specs.ChainActions.{ChainActions}
 use Rattle.while_lang.specs.Blocks.{enter}
 use Rattle.while_lang.proofs.BlockSteps.{wanted_within, wanted_same}

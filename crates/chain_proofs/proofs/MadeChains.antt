@@ -1,21 +1,21 @@
 -- The chain made from tokens is the chain of their phrase.
 use Rattle.std.proofs.Common.{◌≡◌, ℕ, List, [], ◌∷◌, false, Result, Ok, Err, refl}
 use Rattle.kat_model.specs.Trees.{Term}
-use Rattle.text_scopes.specs.declared.fault.TextFault.{TextFault}
-use Rattle.text_scopes.specs.declared.terminal.Terminal.TheVariants.{And, Compares, Dot, Or, Plus, Star}
-use Rattle.text_scopes.specs.Lexemes.{Lexeme}
-use Rattle.text_scopes.specs.Parsed.{◌>>=◌, before, change, place_of}
-use Rattle.text_scopes.specs.Actions.{context}
-use Rattle.text_scopes.specs.Phrases.{Symbol, term, Phrase, cons_token, sum_terminal, yield_before, MeetsLookahead}
-use Rattle.text_scopes.specs.Phrases.{one_prod, more_prods, one_star, more_stars, bare, starred, zero_unit, one_unit, name_unit, not_unit, square_unit, round_unit, one_conj, more_conjs, one_lit, more_lits, true_lit, false_lit, name_lit, not_lit, round_lit, relation_lit, one_mul, more_muls, one_fac, more_facs, zero_fac, one_fac_number, number_fac, wide_fac, name_fac, round_fac}
-use Rattle.text_scopes.specs.Folds.{fold}
-use Rattle.text_scopes.specs.Ends.{Ends}
-use Rattle.text_scopes.proofs.ParserCompleteness.{term_parsed}
-use Rattle.text_scopes.proofs.Longest.{longest}
-use Rattle.text_scopes.specs.declared.extent.Extent.{Extent}
-use Rattle.text_scopes.specs.ScopeParts.{ScopeParts}
-use Rattle.text_scopes.specs.Measuring.{extents}
-use Rattle.text_scopes.specs.Building.{trees}
+use Rattle.text_parser.specs.declared.fault.TextFault.{TextFault}
+use Rattle.text_parser.specs.declared.terminal.Terminal.TheVariants.{And, Compares, Dot, Or, Plus, Star}
+use Rattle.text_parser.specs.Lexemes.{Lexeme}
+use Rattle.text_parser.specs.Parsed.{◌>>=◌, before, change, place_of}
+use Rattle.text_parser.specs.Actions.{context}
+use Rattle.text_parser.specs.Phrases.{Symbol, term, Phrase, cons_token, sum_terminal, yield_before, MeetsLookahead}
+use Rattle.text_parser.specs.Phrases.{one_prod, more_prods, one_star, more_stars, bare, starred, zero_unit, one_unit, name_unit, not_unit, square_unit, round_unit, one_conj, more_conjs, one_lit, more_lits, true_lit, false_lit, name_lit, not_lit, round_lit, relation_lit, one_mul, more_muls, one_fac, more_facs, zero_fac, one_fac_number, number_fac, wide_fac, name_fac, round_fac}
+use Rattle.text_parser.specs.Folds.{fold}
+use Rattle.text_parser.specs.Ends.{Ends}
+use Rattle.text_parser.proofs.ParserCompleteness.{term_parsed}
+use Rattle.text_parser.proofs.Longest.{longest}
+use Rattle.text_parser.specs.declared.extent.Extent.{Extent}
+use Rattle.text_parser.specs.ScopeParts.{ScopeParts}
+use Rattle.text_parser.specs.Measuring.{extents}
+use Rattle.text_parser.specs.Building.{trees}
 use Rattle.chain_rules.specs.Chains.{ChainTree}
 use Rattle.chain_proofs.specs.ChainMaking.{total_with, sized_term, making_chain}
 use Rattle.chain_proofs.specs.ChainFolds.{sized_fold, fold_chain}

@@ -1,9 +1,9 @@
 -- Reading paths part by part.
 use Rattle.std.proofs.Common.{◌≡◌, ℕ, ◌+◌, List, [], ◌∷◌, cond, Ok, drop, refl}
 use Rattle.std.proofs.lemmas.List.{drop-drop}
-use Rattle.text_scopes.specs.declared.terminal.Terminal.TheVariants.{Dot}
-use Rattle.text_scopes.specs.Lexemes.{Lexeme, heads, is_terminal}
-use Rattle.text_scopes.specs.Parsed.{◌>>=◌}
+use Rattle.text_parser.specs.declared.terminal.Terminal.TheVariants.{Dot}
+use Rattle.text_parser.specs.Lexemes.{Lexeme, heads, is_terminal}
+use Rattle.text_parser.specs.Parsed.{◌>>=◌}
 use Rattle.chain_proofs.specs.ChainActions.{ChainActions}
 use Rattle.problem_file.specs.Items.{number_at}
 use Rattle.chain_proofs.specs.ChainWalks.{parts_by}

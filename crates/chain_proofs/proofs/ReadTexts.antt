@@ -1,13 +1,13 @@
 -- The chain that bytes spell is the result of both passes over their tokens.
 use Rattle.std.proofs.Common.{◌≡◌, ℕ, List, [], map, Result, Ok, sym, ap, ◌∙◌}
-use Rattle.text_scopes.specs.declared.fault.TextFault.{TextFault}
-use Rattle.text_scopes.specs.declared.token.Token.{Token}
-use Rattle.text_scopes.specs.TokenParts.{TokenParts, parts_of_tokens}
-use Rattle.text_scopes.specs.Lex.{Lexes}
-use Rattle.text_scopes.specs.Lexemes.{lexeme_of, lexemes}
-use Rattle.text_scopes.specs.Parsed.{◌>>=◌}
-use Rattle.text_scopes.proofs.ParserSoundness.{bind_ok}
-use Rattle.text_scopes.specs.ScopeParts.{ScopeParts}
+use Rattle.text_parser.specs.declared.fault.TextFault.{TextFault}
+use Rattle.text_parser.specs.declared.token.Token.{Token}
+use Rattle.text_parser.specs.TokenParts.{TokenParts, parts_of_tokens}
+use Rattle.text_parser.specs.Lex.{Lexes}
+use Rattle.text_parser.specs.Lexemes.{lexeme_of, lexemes}
+use Rattle.text_parser.specs.Parsed.{◌>>=◌}
+use Rattle.text_parser.proofs.ParserSoundness.{bind_ok}
+use Rattle.text_parser.specs.ScopeParts.{ScopeParts}
 use Rattle.chain_rules.specs.Chains.{ChainTree}
 use Rattle.chain_proofs.specs.ChainPhrases.{chain_onto}
 use Rattle.chain_proofs.specs.ChainScans.{scan_chain}

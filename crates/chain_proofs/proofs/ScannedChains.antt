@@ -1,17 +1,17 @@
 -- The syntax test accepts exactly the chains.
 use Rattle.std.proofs.Common.{◌≡◌, ℕ, ◌+◌, List, [], ◌∷◌, false, Option, None, Some, Ok, refl, ap, subst, ◌∙◌}
-use Rattle.text_scopes.specs.Lexemes.{Lexeme, lexeme}
-use Rattle.text_scopes.specs.Parsed.{◌>>=◌, before}
-use Rattle.text_scopes.specs.Actions.{context}
-use Rattle.text_scopes.specs.Scans.{scanning}
-use Rattle.text_scopes.specs.Terms.{parse_term, choice}
-use Rattle.text_scopes.specs.Phrases.{term, Phrase, yield_before, MeetsLookahead, IsWithinLimits, IsPhrase}
-use Rattle.text_scopes.specs.Folds.{fold}
-use Rattle.text_scopes.specs.Ends.{Ends}
-use Rattle.text_scopes.proofs.ParserSoundness.{bind_ok, changed_ok, term_found}
-use Rattle.text_scopes.proofs.ParserCompleteness.{changed, term_parsed}
-use Rattle.text_scopes.proofs.Longest.{longest}
-use Rattle.text_scopes.proofs.Scanned.{scanned}
+use Rattle.text_parser.specs.Lexemes.{Lexeme, lexeme}
+use Rattle.text_parser.specs.Parsed.{◌>>=◌, before}
+use Rattle.text_parser.specs.Actions.{context}
+use Rattle.text_parser.specs.Scans.{scanning}
+use Rattle.text_parser.specs.Terms.{parse_term, choice}
+use Rattle.text_parser.specs.Phrases.{term, Phrase, yield_before, MeetsLookahead, IsWithinLimits, IsPhrase}
+use Rattle.text_parser.specs.Folds.{fold}
+use Rattle.text_parser.specs.Ends.{Ends}
+use Rattle.text_parser.proofs.ParserSoundness.{bind_ok, changed_ok, term_found}
+use Rattle.text_parser.proofs.ParserCompleteness.{changed, term_parsed}
+use Rattle.text_parser.proofs.Longest.{longest}
+use Rattle.text_parser.proofs.Scanned.{scanned}
 use Rattle.while_lang.proofs.ScannedBlocks.{enters}
 use Rattle.problem_file.specs.Phrases.{Numeral}
 use Rattle.problem_file.proofs.ScannedFiles.{numeral_passes}

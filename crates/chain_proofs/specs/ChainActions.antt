@@ -1,8 +1,8 @@
 -- Actions on the parts of a chain, called while it is read.
 use Rattle.std.specs.Prelude.{ℕ, ◌<◌, List, length, Option, Result, Ok, Err}
-use Rattle.text_scopes.specs.declared.fault.TextFault.{TextFault}
-use Rattle.text_scopes.specs.Lexemes.{Lexeme}
-use Rattle.text_scopes.specs.Parsed.{Parsed}
+use Rattle.text_parser.specs.declared.fault.TextFault.{TextFault}
+use Rattle.text_parser.specs.Lexemes.{Lexeme}
+use Rattle.text_parser.specs.Parsed.{Parsed}
 
 -- the rest is shorter than the tokens
 abbrev pub LeavesFewer : {V : Type 0} → List Lexeme → Parsed V → Type 0

@@ -1,14 +1,14 @@
 -- The value of a chain under actions, computed from left to right, or the first fault.
 use Rattle.std.specs.Prelude.{ℕ, [], ◌∷◌, false, Option, None, Some, Result, Ok}
 use Rattle.kat_model.specs.Trees.{Term}
-use Rattle.text_scopes.specs.declared.fault.TextFault.{TextFault}
-use Rattle.text_scopes.specs.Parsed.{◌>>=◌, place_of}
-use Rattle.text_scopes.specs.Actions.{context}
-use Rattle.text_scopes.specs.Phrases.{term, Phrase, yield_before}
-use Rattle.text_scopes.specs.Folds.{fold}
-use Rattle.text_scopes.specs.ScopeParts.{ScopeParts}
-use Rattle.text_scopes.specs.Measuring.{extents}
-use Rattle.text_scopes.specs.Building.{trees}
+use Rattle.text_parser.specs.declared.fault.TextFault.{TextFault}
+use Rattle.text_parser.specs.Parsed.{◌>>=◌, place_of}
+use Rattle.text_parser.specs.Actions.{context}
+use Rattle.text_parser.specs.Phrases.{term, Phrase, yield_before}
+use Rattle.text_parser.specs.Folds.{fold}
+use Rattle.text_parser.specs.ScopeParts.{ScopeParts}
+use Rattle.text_parser.specs.Measuring.{extents}
+use Rattle.text_parser.specs.Building.{trees}
 use Rattle.while_lang.specs.Blocks.{enter}
 use Rattle.problem_file.specs.Phrases.{Numeral}
 use Rattle.problem_file.specs.Folds.{numeral_value}

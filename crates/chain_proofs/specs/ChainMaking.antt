@@ -4,18 +4,18 @@ use Rattle.std.specs.Str.{bytes_eq}
 use Rattle.std.proofs.Common.{arith}
 use Rattle.kat_model.specs.declared.limits.TheConstants.{MAX_TERM_NODES, MAX_TEXT_NODES}
 use Rattle.kat_model.specs.Trees.{Term}
-use Rattle.text_scopes.specs.declared.fault.TextFault.{TextFault}
-use Rattle.text_scopes.specs.declared.fault.TextFault.TheVariants.{UnknownName, TooLarge}
-use Rattle.text_scopes.specs.Lexemes.{Lexeme}
-use Rattle.text_scopes.specs.Parsed.{Parsed, ◌>>=◌, change, place_of}
-use Rattle.text_scopes.specs.Actions.{context}
-use Rattle.text_scopes.specs.Terms.{parse_term, choice}
-use Rattle.text_scopes.proofs.Within.{Within}
-use Rattle.text_scopes.proofs.TermSteps.{term_read_short}
-use Rattle.text_scopes.specs.declared.extent.Extent.{Extent}
-use Rattle.text_scopes.specs.ScopeParts.{ScopeParts}
-use Rattle.text_scopes.specs.Measuring.{extents}
-use Rattle.text_scopes.specs.Building.{trees}
+use Rattle.text_parser.specs.declared.fault.TextFault.{TextFault}
+use Rattle.text_parser.specs.declared.fault.TextFault.TheVariants.{UnknownName, TooLarge}
+use Rattle.text_parser.specs.Lexemes.{Lexeme}
+use Rattle.text_parser.specs.Parsed.{Parsed, ◌>>=◌, change, place_of}
+use Rattle.text_parser.specs.Actions.{context}
+use Rattle.text_parser.specs.Terms.{parse_term, choice}
+use Rattle.text_parser.proofs.Within.{Within}
+use Rattle.text_parser.proofs.TermSteps.{term_read_short}
+use Rattle.text_parser.specs.declared.extent.Extent.{Extent}
+use Rattle.text_parser.specs.ScopeParts.{ScopeParts}
+use Rattle.text_parser.specs.Measuring.{extents}
+use Rattle.text_parser.specs.Building.{trees}
 use Rattle.chain_rules.specs.declared.chain.Axiom.{Axiom}
 use Rattle.chain_rules.specs.declared.chain.Axiom.TheVariants.{Assoc, Comm, Idem, Zero, SeqAssoc, OneLeft, OneRight, ZeroLeft, ZeroRight, DistLeft, DistRight, UnfoldLeft, UnfoldRight, Bool as BoolRule, Hyp, Lfp, Rfp}
 use Rattle.chain_rules.specs.Chains.{ChainTree, alone, equal_by, equal_by_inner}

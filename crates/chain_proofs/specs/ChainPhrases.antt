@@ -3,11 +3,11 @@ use Rattle.std.specs.Prelude.{◌≡◌, ◌<◌, ◌+◌, ℕ, List, Bool, true
 use Rattle.std.specs.Option.{is_some}
 use Rattle.std.specs.Str.{bytes_eq}
 use Rattle.kat_model.specs.declared.limits.TheConstants.{MAX_OPEN}
-use Rattle.text_scopes.specs.declared.terminal.Terminal.TheVariants.{Name, Keyword, Separator, Dot}
-use Rattle.text_scopes.specs.declared.terminal.Keyword.TheVariants as word
-use Rattle.text_scopes.specs.declared.terminal.Separator.TheVariants.{Semicolon, CurlyOpen, CurlyClose, Equals}
-use Rattle.text_scopes.specs.Lexemes.{Lexeme}
-use Rattle.text_scopes.specs.Phrases.{term, Leaf, Phrase, cons_token, yield_before, MeetsLookahead, IsWithinLimits}
+use Rattle.text_parser.specs.declared.terminal.Terminal.TheVariants.{Name, Keyword, Separator, Dot}
+use Rattle.text_parser.specs.declared.terminal.Keyword.TheVariants as word
+use Rattle.text_parser.specs.declared.terminal.Separator.TheVariants.{Semicolon, CurlyOpen, CurlyClose, Equals}
+use Rattle.text_parser.specs.Lexemes.{Lexeme}
+use Rattle.text_parser.specs.Phrases.{term, Leaf, Phrase, cons_token, yield_before, MeetsLookahead, IsWithinLimits}
 use Rattle.problem_file.specs.Phrases.{Numeral, numeral_onto, NumeralFits}
 use Rattle.chain_proofs.specs.ChainWalks.{has_number, has_inner}
 

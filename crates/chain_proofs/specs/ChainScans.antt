@@ -1,15 +1,15 @@
 -- The syntax test of a whole chain.
 use Rattle.std.specs.Prelude.{ℕ, ◌+◌, List, [], ◌∷◌, length, false, Result, Ok, Err}
 use Rattle.std.proofs.Common.{arith}
-use Rattle.text_scopes.specs.declared.fault.TextFault.{TextFault}
-use Rattle.text_scopes.specs.declared.fault.TextFault.TheVariants.{Syntax}
-use Rattle.text_scopes.specs.Lexemes.{Lexeme, lexeme}
-use Rattle.text_scopes.specs.Parsed.{Parsed, ◌>>=◌, change}
-use Rattle.text_scopes.specs.Actions.{context}
-use Rattle.text_scopes.specs.Scans.{scanning}
-use Rattle.text_scopes.specs.Terms.{parse_term, choice}
-use Rattle.text_scopes.proofs.Within.{Within}
-use Rattle.text_scopes.proofs.TermSteps.{term_read_short}
+use Rattle.text_parser.specs.declared.fault.TextFault.{TextFault}
+use Rattle.text_parser.specs.declared.fault.TextFault.TheVariants.{Syntax}
+use Rattle.text_parser.specs.Lexemes.{Lexeme, lexeme}
+use Rattle.text_parser.specs.Parsed.{Parsed, ◌>>=◌, change}
+use Rattle.text_parser.specs.Actions.{context}
+use Rattle.text_parser.specs.Scans.{scanning}
+use Rattle.text_parser.specs.Terms.{parse_term, choice}
+use Rattle.text_parser.proofs.Within.{Within}
+use Rattle.text_parser.proofs.TermSteps.{term_read_short}
 use Rattle.chain_proofs.specs.ChainActions.{LeavesFewer, ChainActions}
 use Rattle.chain_proofs.specs.ChainWalks.{whole_chain, parse_chain}
 

@@ -1,13 +1,13 @@
 -- Reading chains from the start of the tokens.
 use Rattle.std.specs.Prelude.{ℕ, zero, suc, List, [], ◌∷◌, length, drop, Bool, false, ◌||◌, if◌then◌else◌, codes, Option, None, Some, Result, Ok, Err}
 use Rattle.std.specs.Str.{bytes_eq}
-use Rattle.text_scopes.specs.declared.fault.TextFault.{TextFault}
-use Rattle.text_scopes.specs.declared.fault.TextFault.TheVariants.{NoMemory, Syntax}
-use Rattle.text_scopes.specs.declared.terminal.Terminal.TheVariants.{Name, Keyword, Separator, Dot}
-use Rattle.text_scopes.specs.declared.terminal.Keyword.TheVariants as word
-use Rattle.text_scopes.specs.declared.terminal.Separator.TheVariants.{Semicolon, CurlyOpen, CurlyClose, Equals}
-use Rattle.text_scopes.specs.Lexemes.{Lexeme, lexeme, heads, is_terminal}
-use Rattle.text_scopes.specs.Parsed.{Parsed, ◌>>=◌, at_end, place_of, change, wants, then_wants}
+use Rattle.text_parser.specs.declared.fault.TextFault.{TextFault}
+use Rattle.text_parser.specs.declared.fault.TextFault.TheVariants.{NoMemory, Syntax}
+use Rattle.text_parser.specs.declared.terminal.Terminal.TheVariants.{Name, Keyword, Separator, Dot}
+use Rattle.text_parser.specs.declared.terminal.Keyword.TheVariants as word
+use Rattle.text_parser.specs.declared.terminal.Separator.TheVariants.{Semicolon, CurlyOpen, CurlyClose, Equals}
+use Rattle.text_parser.specs.Lexemes.{Lexeme, lexeme, heads, is_terminal}
+use Rattle.text_parser.specs.Parsed.{Parsed, ◌>>=◌, at_end, place_of, change, wants, then_wants}
 use Rattle.while_lang.specs.Blocks.{enter}
 use Rattle.problem_file.specs.Items.{number_at}
 use Rattle.chain_proofs.specs.ChainActions.{ChainActions}

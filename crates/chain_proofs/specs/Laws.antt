@@ -1,8 +1,8 @@
 -- The laws of proof texts. Each is the contract of a function that does nothing.
 use Rattle.std.specs.Prelude.{◌≡◌, ◌↔◌, List, [], Ok}
-use Rattle.text_scopes.specs.Lexemes.{Lexeme}
-use Rattle.text_scopes.specs.Phrases.{MeetsLookahead}
-use Rattle.text_scopes.specs.ScopeParts.{ScopeParts}
+use Rattle.text_parser.specs.Lexemes.{Lexeme}
+use Rattle.text_parser.specs.Phrases.{MeetsLookahead}
+use Rattle.text_parser.specs.ScopeParts.{ScopeParts}
 use Rattle.chain_proofs.specs.ChainScans.{scan_chain}
 use Rattle.chain_proofs.specs.ChainMaking.{make_chain}
 use Rattle.chain_proofs.specs.ChainPhrases.{ChainPhrase, lines_onto, chain_onto, LinesObey, IsChainPhrase}

@@ -1,12 +1,12 @@
 -- The answer to bytes: the chain that they spell, or their first fault.
 use Rattle.std.specs.Prelude.{◌≡◌, ◌⊎◌, ℕ, List, [], map, Result, Ok, Err}
-use Rattle.text_scopes.specs.declared.fault.TextFault.{TextFault}
-use Rattle.text_scopes.specs.declared.fault.TextFault.TheVariants.{NoMemory}
-use Rattle.text_scopes.specs.TokenParts.{TokenParts}
-use Rattle.text_scopes.specs.Lex.{Lexes}
-use Rattle.text_scopes.specs.Lexemes.{Lexeme, lexeme_of}
-use Rattle.text_scopes.specs.Parsed.{◌>>=◌}
-use Rattle.text_scopes.specs.ScopeParts.{ScopeParts}
+use Rattle.text_parser.specs.declared.fault.TextFault.{TextFault}
+use Rattle.text_parser.specs.declared.fault.TextFault.TheVariants.{NoMemory}
+use Rattle.text_parser.specs.TokenParts.{TokenParts}
+use Rattle.text_parser.specs.Lex.{Lexes}
+use Rattle.text_parser.specs.Lexemes.{Lexeme, lexeme_of}
+use Rattle.text_parser.specs.Parsed.{◌>>=◌}
+use Rattle.text_parser.specs.ScopeParts.{ScopeParts}
 use Rattle.problem_file.specs.FirstFaults.{IsFirstFault}
 use Rattle.chain_rules.specs.Chains.{ChainTree}
 use Rattle.chain_proofs.specs.ChainPhrases.{IsChainPhrase}

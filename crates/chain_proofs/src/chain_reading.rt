@@ -1,11 +1,11 @@
 //! Methods called on the parts of a chain while it is read.
 ghost use Rattle.std.specs.Prelude.{◌≡◌, length, drop, Ok};
 ghost use Rattle.std.specs.Option.{option_map};
-ghost use Rattle.text_scopes.specs.Lexemes.{lexemes};
-ghost use Rattle.text_scopes.specs.Parsed.{Makes, Reads, Goes};
+ghost use Rattle.text_parser.specs.Lexemes.{lexemes};
+ghost use Rattle.text_parser.specs.Parsed.{Makes, Reads, Goes};
 ghost use Rattle.chain_proofs.specs.ChainActions.{ChainActions};
 
-use text_scopes::{TextFault, Token};
+use text_parser::{TextFault, Token};
 
 // What to make of the parts of a chain while it is read. The methods are called for the parts in text order. A fault of
 // a method ends the reading. Places are byte offsets in the text.

@@ -2,8 +2,8 @@
 ghost use Rattle.std.specs.Prelude.{◌≡◌, IfOk, Ok};
 ghost use Rattle.std.specs.Option.{option_map};
 ghost use Rattle.kat_model.specs.Trees.{kat_tree};
-ghost use Rattle.text_scopes.specs.Lexemes.{lexemes};
-ghost use Rattle.text_scopes.specs.Parsed.{Makes};
+ghost use Rattle.text_parser.specs.Lexemes.{lexemes};
+ghost use Rattle.text_parser.specs.Parsed.{Makes};
 ghost use Rattle.chain_rules.specs.ChainViews.{unboxed};
 ghost use Rattle.chain_proofs.specs.ChainMaking.{axiom_named, known_axiom, total_with, extended, making_chain, make_chain};
 
@@ -12,7 +12,7 @@ use crate::walk::read_chain;
 use chain_rules::{Axiom, Chain, Line};
 use kat_model::{Kat, MAX_TERM_NODES, MAX_TEXT_NODES, NoMemory};
 use std::alloc::Global;
-use text_scopes::{Scope, TextFault, Token, build_term, measure_term, place_at};
+use text_parser::{Scope, TextFault, Token, build_term, measure_term, place_at};
 
 // Builds the chain, with the names of the scope.
 #[derive(Clone, Copy)]

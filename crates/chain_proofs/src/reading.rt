@@ -1,9 +1,9 @@
 //! Reads the text of a proof.
 ghost use Rattle.std.specs.Prelude.{◌≡◌, ◌≤◌, length, IfOk, IfErr};
-ghost use Rattle.text_scopes.specs.declared.fault.TextFault.TheVariants.{NoMemory as NoRoom};
-ghost use Rattle.text_scopes.specs.declared.lexer.TheConstants.{MAX_LEN as MOST};
-ghost use Rattle.text_scopes.specs.Lexemes.{lexemes};
-ghost use Rattle.text_scopes.specs.Parsed.{Makes};
+ghost use Rattle.text_parser.specs.declared.fault.TextFault.TheVariants.{NoMemory as NoRoom};
+ghost use Rattle.text_parser.specs.declared.lexer.TheConstants.{MAX_LEN as MOST};
+ghost use Rattle.text_parser.specs.Lexemes.{lexemes};
+ghost use Rattle.text_parser.specs.Parsed.{Makes};
 ghost use Rattle.chain_rules.specs.Chains.{ChainTree};
 ghost use Rattle.chain_rules.specs.Chained.{HasTermsInRange};
 ghost use Rattle.problem_file.specs.NumberedScopes.{numbered_scope};
@@ -14,7 +14,7 @@ use crate::scan::test_syntax;
 use chain_rules::Chain;
 use problem_file::{fault_in_text, numbered_scope, text_of};
 use std::alloc::Global;
-use text_scopes::{Scope, TextFault, Token, tokens};
+use text_parser::{Scope, TextFault, Token, tokens};
 
 // Returns the chain, or the first fault of the tokens.
 fn test(alloc: Global, scope: &Scope, toks: &[Token]) -> Result<Chain, TextFault>

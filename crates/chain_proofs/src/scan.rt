@@ -1,12 +1,12 @@
 //! The syntax test of chains, which allocates nothing.
 ghost use Rattle.std.specs.Prelude.{◌≡◌, Ok};
-ghost use Rattle.text_scopes.specs.Lexemes.{lexemes};
-ghost use Rattle.text_scopes.specs.Parsed.{Makes};
+ghost use Rattle.text_parser.specs.Lexemes.{lexemes};
+ghost use Rattle.text_parser.specs.Parsed.{Makes};
 ghost use Rattle.chain_proofs.specs.ChainScans.{scanning_chain, scan_chain};
 
 use crate::chain_reading::ChainReading;
 use crate::walk::read_chain;
-use text_scopes::{Context, Scan, TextFault, Token, terminal_at};
+use text_parser::{Context, Scan, TextFault, Token, terminal_at};
 
 // Makes nothing of a chain and refuses no part.
 struct ChainScan;
@@ -53,7 +53,7 @@ impl ChainReading for ChainScan {
         depth: usize,
         _: (),
     ) -> Result<(((), ()), usize), TextFault> {
-        let (_, end) = text_scopes::parse_term(
+        let (_, end) = text_parser::parse_term(
             &Scan,
             toks,
             from,

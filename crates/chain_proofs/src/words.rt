@@ -1,10 +1,10 @@
 //! Reads names and numbers of a chain.
 ghost use Rattle.std.specs.Prelude.{◌≡◌, ◌+◌, ◌<◌, length, drop, IsTrue, IfOk};
-ghost use Rattle.text_scopes.specs.Lexemes.{lexemes};
-ghost use Rattle.text_scopes.specs.Parsed.{Makes, Wants};
+ghost use Rattle.text_parser.specs.Lexemes.{lexemes};
+ghost use Rattle.text_parser.specs.Parsed.{Makes, Wants};
 ghost use Rattle.chain_proofs.specs.ChainWalks.{is_word, wants_word, rule_name, has_number, has_inner};
 
-use text_scopes::{Keyword, Terminal, TextFault, Token, syntax_fault_at, terminal_at, text_at};
+use text_parser::{Keyword, Terminal, TextFault, Token, syntax_fault_at, terminal_at, text_at};
 
 /// Whether the token at an index is this plain name.
 pub(crate) fn is_word_at(toks: &[Token], i: usize, word: &str) -> bool
@@ -18,7 +18,7 @@ pub(crate) fn is_word_at(toks: &[Token], i: usize, word: &str) -> bool
 }
 
 /// Returns the index after a token that must be this plain name.
-#[tactic(auto, using(text_scopes::proofs::Tokens::next_drop))]
+#[tactic(auto, using(text_parser::proofs::Tokens::next_drop))]
 pub(crate) fn expect_word(toks: &[Token], i: usize, word: &str) -> Result<usize, TextFault>
     ensures value { Wants (lexemes toks.now) result (wants_word word.now (drop i (lexemes toks.now))) }
     ensures goes { IfOk result (λ end. (end ≡ i + 1) × (i < length toks.now)) }

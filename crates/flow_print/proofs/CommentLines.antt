@@ -6,10 +6,10 @@ use Rattle.std.specs.Fmt.{decimal}
 use Rattle.kat_model.specs.declared.expression.Width.{Width}
 use Rattle.kat_model.specs.declared.expression.Width.TheVariants.{W8, W16, W32, W64}
 use Rattle.flow_model.specs.declared.sort.Sort.{Sort}
-use Rattle.text_scopes.specs.declared.token.Kind.TheVariants.{Name}
-use Rattle.text_scopes.specs.Kinds.{IsToken}
-use Rattle.text_scopes.specs.declared.meaning.Meaning.{Meaning}
-use Rattle.text_scopes.specs.declared.meaning.Meaning.TheVariants.{Test, Action}
+use Rattle.text_parser.specs.declared.token.Kind.TheVariants.{Name}
+use Rattle.text_parser.specs.Kinds.{IsToken}
+use Rattle.text_parser.specs.declared.meaning.Meaning.{Meaning}
+use Rattle.text_parser.specs.declared.meaning.Meaning.TheVariants.{Test, Action}
 use Rattle.problem_file.specs.Questions.{plain_name}
 use Rattle.problem_file.specs.CommentedTexts.{IsComment, AreComments, EachAreComments, AreOneLine}
 use Rattle.problem_file.specs.TextLaws.{AsksEqual}

@@ -4,8 +4,8 @@ use Rattle.std.specs.Prelude.{◌≤◌, ℕ, List, ◌∷◌, ◌++◌, length,
 use Rattle.std.specs.List.{enumerate_from}
 use Rattle.kat_model.specs.declared.limits.TheConstants.{MAX_HYPS, MAX_OPEN, MAX_TEXT_BYTES}
 use Rattle.kat_model.specs.Problems.{IsProblem}
-use Rattle.text_scopes.specs.declared.meaning.Meaning.{Meaning}
-use Rattle.text_scopes.specs.declared.meaning.Meaning.TheVariants.{Test, Action}
+use Rattle.text_parser.specs.declared.meaning.Meaning.{Meaning}
+use Rattle.text_parser.specs.declared.meaning.Meaning.TheVariants.{Test, Action}
 use Rattle.text_print.specs.Printing.{term_nesting}
 use Rattle.problem_file.specs.Questions.{plain_name}
 use Rattle.problem_file.specs.CommentedTexts.{Comments, commented_text, AreComments}

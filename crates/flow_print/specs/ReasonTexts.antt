@@ -1,7 +1,7 @@
 -- The reasons for hypotheses, as comments.
 use Rattle.std.specs.Prelude.{ℕ, ◌-◌, List, [], ◌∷◌, ◌++◌, codes, map, slice_get, Bool, true, false, ◌&&◌, not, nat_eq, if◌then◌else◌, Option, Some, None}
 use Rattle.std.specs.List.{range_with_len}
-use Rattle.text_scopes.specs.declared.meaning.Meaning.TheVariants.{Test, Action}
+use Rattle.text_parser.specs.declared.meaning.Meaning.TheVariants.{Test, Action}
 use Rattle.problem_file.specs.Questions.{plain_name}
 use Rattle.flow_problem.specs.FlowFacts.{FlowRule, by_assignment, by_order, by_equality, by_three_ways, by_intervals, by_next_number}
 

@@ -11,7 +11,7 @@ use flow_questions::FlowRule;
 use kat_model::{NoMemory, Problem};
 use problem_file::put_hyp;
 use std::alloc::Global;
-use text_scopes::Scope;
+use text_parser::Scope;
 
 fn put_two(alloc: Global, out: &mut Vec<u8>, i: usize, j: usize) -> Result<(), NoMemory>
     ensures { OnOk result (out.new.items ≡ out.old.items ++ two_tests i j) }

@@ -16,7 +16,7 @@ use flow_tables::FlowAction;
 use kat_model::{NoMemory, Problem};
 use problem_file::{plain_scope, put_actions, put_goal, put_tests};
 use std::alloc::Global;
-use text_scopes::Scope;
+use text_parser::Scope;
 
 // Returns the text of the problem, given a scope with its names.
 fn text_in(

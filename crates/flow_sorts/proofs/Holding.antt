@@ -1,7 +1,7 @@
 -- What holds of the value of a result, if it has one.
 use Rattle.std.proofs.Common.{◌≡◌, Bool, true, false, if◌then◌else◌, Result, Ok, Err, refl, subst}
-use Rattle.text_scopes.specs.declared.fault.TextFault.{TextFault}
-use Rattle.text_scopes.specs.Parsed.{◌>>=◌}
+use Rattle.text_parser.specs.declared.fault.TextFault.{TextFault}
+use Rattle.text_parser.specs.Parsed.{◌>>=◌}
 
 abbrev pub Holds : {V : Type 0} → (V → Type 0) → Result V TextFault → Type 0
 Holds P (Ok x) = P x

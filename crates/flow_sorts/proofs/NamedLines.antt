@@ -6,14 +6,14 @@ use Rattle.std.specs.Char.{is_ascii_digit}
 use Rattle.std.specs.Cmp.Derive.{both_true}
 use Rattle.std.proofs.lemmas.Bool.{and_parts}
 use Rattle.std.proofs.lemmas.Bool.Decides.{nat_tests}
-use Rattle.text_scopes.specs.declared.token.Kind.{Kind}
-use Rattle.text_scopes.specs.declared.token.Kind.TheVariants.{Name, Number, Symbol}
-use Rattle.text_scopes.specs.Kinds.{IsToken}
-use Rattle.text_scopes.specs.Lex.{IsSlice}
-use Rattle.text_scopes.specs.TokenParts.{TokenParts, kind_of, bytes_of}
-use Rattle.text_scopes.proofs.Beginnings.{is_mark, is_marks, symbol_marks, number_digits}
-use Rattle.text_scopes.proofs.Printed.{token_utf8}
-use Rattle.text_scopes.proofs.Slices.{slices_from}
+use Rattle.text_parser.specs.declared.token.Kind.{Kind}
+use Rattle.text_parser.specs.declared.token.Kind.TheVariants.{Name, Number, Symbol}
+use Rattle.text_parser.specs.Kinds.{IsToken}
+use Rattle.text_parser.specs.Lex.{IsSlice}
+use Rattle.text_parser.specs.TokenParts.{TokenParts, kind_of, bytes_of}
+use Rattle.text_parser.proofs.Beginnings.{is_mark, is_marks, symbol_marks, number_digits}
+use Rattle.text_parser.proofs.Printed.{token_utf8}
+use Rattle.text_parser.proofs.Slices.{slices_from}
 use Rattle.problem_file.specs.CommentedTexts.{IsComment}
 use Rattle.problem_file.proofs.Comments.{comment_nil, comment_name}
 use Rattle.flow_syntax.specs.Syntax.{ItemSyntax, sorts, function, variables, graph, rounds, split, equal}

@@ -4,10 +4,10 @@ use Rattle.std.specs.Ordering.{nat_cmp}
 use Rattle.std.specs.Cmp.Lexicographic.{slice_cmp}
 use Rattle.std.specs.FinMap.{FinMap, empty, get, insert, get-empty}
 use Rattle.std.specs.Str.{bytes_eq}
-use Rattle.text_scopes.specs.declared.fault.TextFault.{TextFault}
-use Rattle.text_scopes.specs.declared.fault.TextFault.TheVariants as fault
-use Rattle.text_scopes.specs.TokenParts.{TokenParts, place_of, bytes_of}
-use Rattle.text_scopes.specs.Parsed.{◌>>=◌}
+use Rattle.text_parser.specs.declared.fault.TextFault.{TextFault}
+use Rattle.text_parser.specs.declared.fault.TextFault.TheVariants as fault
+use Rattle.text_parser.specs.TokenParts.{TokenParts, place_of, bytes_of}
+use Rattle.text_parser.specs.Parsed.{◌>>=◌}
 use Rattle.flow_model.specs.declared.sort.Sort.{Sort}
 use Rattle.flow_model.specs.Graphs.{Graph}
 use Rattle.flow_ways.specs.Sorted.{IsSortedGraph}

@@ -1,6 +1,6 @@
 -- What fits the parts of a derivation, where each rule keeps it.
 use Rattle.std.proofs.Common.{◌≡◌, ℕ, List, [], ◌∷◌, ◌++◌, map, Some, slice_get}
-use Rattle.text_scopes.specs.TokenParts.{TokenParts}
+use Rattle.text_parser.specs.TokenParts.{TokenParts}
 use Rattle.flow_syntax.specs.declared.rule.TheConstants.{OPEN_ROUND}
 use Rattle.flow_syntax.specs.declared.rule.Mark.{Mark}
 use Rattle.flow_syntax.specs.declared.rule.Part.{Part}

@@ -3,7 +3,7 @@ use Rattle.std.proofs.Common.{◌≡◌, ◌<◌, ℕ, ◌+◌, List, ◌∷◌,
 use Rattle.std.specs.Prelude.{Vec}
 use Rattle.std.specs.declared.alloc.Global.{Global}
 use Rattle.std.proofs.lemmas.List.{take_more, length-map, length-reverse}
-use Rattle.text_scopes.specs.declared.token.Token.{Token}
+use Rattle.text_parser.specs.declared.token.Token.{Token}
 use Rattle.flow_syntax.specs.declared.written.Node.{Node}
 use Rattle.flow_syntax.specs.declared.written.CondNode.{CondNode}
 use Rattle.flow_syntax.specs.declared.written.Statement.{Statement}

@@ -1,7 +1,7 @@
 -- Steps lead from a state to one state, so a text has one derivation or one first fault.
 use Rattle.std.proofs.Common.{◌≡◌, ℕ, List, [], ◌∷◌, ◌++◌, refl, sym, ◌∙◌, ap, subst}
 use mathlib.Core.Path.{ap₂}
-use Rattle.text_scopes.specs.declared.fault.TextFault.{TextFault}
+use Rattle.text_parser.specs.declared.fault.TextFault.{TextFault}
 use Rattle.flow_syntax.specs.declared.rule.Mark.{Mark}
 use Rattle.flow_syntax.specs.declared.rule.Step.{Step}
 use Rattle.flow_syntax.specs.Rules.{RuleParts}

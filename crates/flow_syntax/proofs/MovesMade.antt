@@ -1,7 +1,7 @@
 -- What the functions of the reader do, as moves.
 use Rattle.std.proofs.Common.{◌≡◌, ◌<◌, ℕ, zero, suc, List, [], ◌∷◌, length, drop, Err, refl, arith}
-use Rattle.text_scopes.specs.declared.fault.TextFault.{TextFault}
-use Rattle.text_scopes.specs.declared.fault.TextFault.TheVariants.{NoMemory, Syntax}
+use Rattle.text_parser.specs.declared.fault.TextFault.{TextFault}
+use Rattle.text_parser.specs.declared.fault.TextFault.TheVariants.{NoMemory, Syntax}
 use Rattle.flow_syntax.specs.declared.rule.Mark.{Mark}
 use Rattle.flow_syntax.specs.declared.rule.Part.{Part}
 use Rattle.flow_syntax.specs.declared.rule.Step.{Step}

@@ -2,9 +2,9 @@
 use Rattle.std.proofs.Common.{ℕ, List, [], ◌∷◌, Bool, true, false, cond, Option, Some, None, Result, Ok, Err, nat_eq, nat_lt, subst}
 use Rattle.std.specs.Prelude.{◌&&◌}
 use Rattle.kat_model.specs.declared.limits.TheConstants.{MAX_OPEN}
-use Rattle.text_scopes.specs.declared.fault.TextFault.{TextFault}
-use Rattle.text_scopes.specs.declared.fault.TextFault.TheVariants.{NoMemory}
-use Rattle.text_scopes.proofs.NamedFaults.{IsNamedFault, IsNamed}
+use Rattle.text_parser.specs.declared.fault.TextFault.{TextFault}
+use Rattle.text_parser.specs.declared.fault.TextFault.TheVariants.{NoMemory}
+use Rattle.text_parser.proofs.NamedFaults.{IsNamedFault, IsNamed}
 use Rattle.flow_syntax.specs.declared.rule.TheConstants.{NUMBER, WIDE_NUMBER, OPEN_ROUND}
 use Rattle.flow_syntax.specs.declared.rule.Mark.{Mark}
 use Rattle.flow_syntax.specs.declared.rule.Part.{Part}

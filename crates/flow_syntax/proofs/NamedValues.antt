@@ -1,7 +1,7 @@
 -- The tokens by which items name variables and functions are tokens of the text, so that what holds of each token of the
 -- text holds of them.
 use Rattle.std.proofs.Common.{ℕ, zero, suc, List, [], ◌∷◌, drop, Option, Some, None, slice_get, subst}
-use Rattle.text_scopes.specs.TokenParts.{TokenParts}
+use Rattle.text_parser.specs.TokenParts.{TokenParts}
 use Rattle.flow_syntax.specs.declared.rule.Step.{Step}
 use Rattle.flow_syntax.specs.declared.rule.Step.TheVariants.{Shift, Apply, Match, Close}
 use Rattle.flow_syntax.specs.Values.{taken_by, with_leaf, step_values, values}

@@ -4,7 +4,7 @@ use Rattle.std.specs.Prelude.{Vec}
 use Rattle.std.specs.declared.alloc.Global.{Global}
 use Rattle.std.proofs.lemmas.Bool.Decides.{nat_tests}
 use Rattle.std.proofs.lemmas.List.{append-nil, nil_from_length, take_more, length-map, length-reverse}
-use Rattle.text_scopes.specs.declared.token.Token.{Token}
+use Rattle.text_parser.specs.declared.token.Token.{Token}
 use Rattle.flow_syntax.specs.declared.written.CondNode.{CondNode}
 use Rattle.flow_syntax.specs.declared.written.Node.{Node}
 use Rattle.flow_syntax.specs.declared.written.Node.TheVariants as node

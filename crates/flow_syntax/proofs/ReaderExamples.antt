@@ -1,6 +1,6 @@
 -- A worked grammar: S -> ( S ) | 1 S | nothing, with one construct for each parenthesis.
 use Rattle.std.specs.Prelude.{◌≡◌, refl, ℕ, List, [], ◌∷◌, true}
-use Rattle.text_scopes.specs.declared.fault.TextFault.TheVariants.{NumberTooWide}
+use Rattle.text_parser.specs.declared.fault.TextFault.TheVariants.{NumberTooWide}
 use Rattle.flow_syntax.specs.declared.rule.TheConstants.{NUMBER, WIDE_NUMBER, OPEN_ROUND, CLOSE_ROUND}
 use Rattle.flow_syntax.specs.declared.rule.Mark.{Mark}
 use Rattle.flow_syntax.specs.declared.rule.Part.TheVariants.{Token, Closing, Phrase}

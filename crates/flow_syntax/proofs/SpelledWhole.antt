@@ -1,6 +1,6 @@
 -- What tokens spell is whole: each production keeps it.
 use Rattle.std.proofs.Common.{◌≡◌, ◌<◌, ℕ, zero, suc, List, [], ◌∷◌, ◌++◌, length, map, nat_eq, if◌then◌else◌, Some, slice_get, subst, lit<, refl}
-use Rattle.text_scopes.specs.TokenParts.{TokenParts}
+use Rattle.text_parser.specs.TokenParts.{TokenParts}
 use Rattle.flow_syntax.specs.declared.rule.Part.{Part}
 use Rattle.flow_syntax.specs.declared.rule.Part.TheVariants.{Token, Opening, Closing, Phrase}
 use Rattle.flow_syntax.specs.declared.rule.Start.{Start}

@@ -1,8 +1,8 @@
 -- A derivation takes all tokens, and its value is what they spell.
 use Rattle.std.proofs.Common.{◌≡◌, ℕ, List, length, map, sym, ◌∙◌}
 use Rattle.std.proofs.lemmas.List.{length-map}
-use Rattle.text_scopes.specs.declared.token.Token.{Token}
-use Rattle.text_scopes.specs.TokenParts.{TokenParts, parts_of_token, parts_of_tokens}
+use Rattle.text_parser.specs.declared.token.Token.{Token}
+use Rattle.text_parser.specs.TokenParts.{TokenParts, parts_of_token, parts_of_tokens}
 use Rattle.flow_syntax.specs.declared.rule.Step.{Step}
 use Rattle.flow_syntax.specs.Derivations.{Derives}
 use Rattle.flow_syntax.specs.Values.{count_taken, values}

@@ -1,7 +1,7 @@
 -- Items that are whole: each node has its operands, each expression and each condition is exactly one, and each graph has a
 -- block.
 use Rattle.std.proofs.Common.{◌≡◌, ◌<◌, ℕ, zero, suc, ◌+◌, List, [], ◌∷◌, ◌++◌, length, subst, arith}
-use Rattle.text_scopes.specs.TokenParts.{TokenParts}
+use Rattle.text_parser.specs.TokenParts.{TokenParts}
 use Rattle.flow_syntax.specs.Syntax.{NodeSyntax, numeral, named, called, converted, operation, ExprSyntax, CondNodeSyntax, always, never, compared, compared_signed, negation, both, either, CondSyntax, StatementSyntax, assign, claim, JumpSyntax, goto, branch, return, abort, BlockSyntax, a_block, ItemSyntax, sorts, function, variables, graph, rounds, split, equal}
 use Rattle.flow_syntax.specs.Actions.{ValueSyntax, no_call, exprs_in, joined, all_nodes, call_of, linked}
 

@@ -1,7 +1,7 @@
 -- The keywords by their length: a text is no word of another length.
 use Rattle.std.proofs.Common.{◌≡◌, ◌≢◌, ℕ, List, length, refl, arith}
 use Rattle.std.specs.Prelude.{codes}
-use Rattle.text_scopes.proofs.Words.{unlike}
+use Rattle.text_parser.proofs.Words.{unlike}
 use Rattle.flow_syntax.specs.declared.terminal.TheConstants.{NAME}
 use Rattle.flow_syntax.specs.Terminals.{word_terminal}
 use Rattle.flow_syntax.specs.Working.Words.{word_of_two, word_of_three, word_of_four, word_of_five, word_of_six}

@@ -1,7 +1,7 @@
 -- What each production makes of the values of its parts, the first part first.
 use Rattle.std.specs.Prelude.{Bool, true, false, ℕ, List, [], ◌∷◌, ◌++◌, length}
-use Rattle.text_scopes.specs.declared.token.Kind.TheVariants as kind
-use Rattle.text_scopes.specs.TokenParts.{TokenParts, token_parts}
+use Rattle.text_parser.specs.declared.token.Kind.TheVariants as kind
+use Rattle.text_parser.specs.TokenParts.{TokenParts, token_parts}
 use Rattle.flow_syntax.specs.declared.action.Action.{Action}
 use Rattle.flow_syntax.specs.declared.action.Action.TheVariants.{Names, Exprs, Conds, Bodies, Items}
 use Rattle.flow_syntax.specs.declared.action.NameAction.{NameAction}

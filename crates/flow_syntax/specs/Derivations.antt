@@ -1,7 +1,7 @@
 -- Leftmost derivations by a grammar, and first faults.
 use Rattle.std.specs.Prelude.{◌≡◌, ℕ, List, [], ◌∷◌, ◌++◌, Some, slice_get}
-use Rattle.text_scopes.specs.declared.fault.TextFault.{TextFault}
-use Rattle.text_scopes.specs.declared.fault.TextFault.TheVariants.{NoMemory}
+use Rattle.text_parser.specs.declared.fault.TextFault.{TextFault}
+use Rattle.text_parser.specs.declared.fault.TextFault.TheVariants.{NoMemory}
 use Rattle.flow_syntax.specs.declared.rule.Mark.{Mark}
 use Rattle.flow_syntax.specs.declared.rule.TheConstants.{OPEN_ROUND}
 use Rattle.flow_syntax.specs.declared.rule.Part.{Part}

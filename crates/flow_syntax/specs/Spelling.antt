@@ -1,6 +1,6 @@
 -- What tokens spell.
 use Rattle.std.specs.Prelude.{◌≡◌, ℕ, List, map}
-use Rattle.text_scopes.specs.TokenParts.{TokenParts}
+use Rattle.text_parser.specs.TokenParts.{TokenParts}
 use Rattle.flow_syntax.specs.declared.rule.Step.{Step}
 use Rattle.flow_syntax.specs.Derivations.{Derives}
 use Rattle.flow_syntax.specs.Values.{values}

@@ -1,6 +1,6 @@
 -- Flow files as they are spelled, with the tokens by which they name things.
 use Rattle.std.specs.Prelude.{ℕ, Bool, List}
-use Rattle.text_scopes.specs.TokenParts.{TokenParts}
+use Rattle.text_parser.specs.TokenParts.{TokenParts}
 
 -- the first name or conversion in an expression that is in no argument and under no conversion
 pub data FirstSyntax : Type 0 where

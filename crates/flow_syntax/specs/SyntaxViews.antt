@@ -1,9 +1,9 @@
 -- The program's values as syntax: its lists are from the last member to the first.
 use Rattle.std.specs.Prelude.{List, map, reverse, Vec}
 use Rattle.std.specs.declared.alloc.Global.{Global}
-use Rattle.text_scopes.specs.TokenParts.{parts_of_token, parts_of_tokens}
-use Rattle.text_scopes.specs.declared.token.Token.{Token}
-use Rattle.text_scopes.specs.TokenParts.{TokenParts}
+use Rattle.text_parser.specs.TokenParts.{parts_of_token, parts_of_tokens}
+use Rattle.text_parser.specs.declared.token.Token.{Token}
+use Rattle.text_parser.specs.TokenParts.{TokenParts}
 use Rattle.flow_syntax.specs.declared.written.FirstName.{FirstName}
 use Rattle.flow_syntax.specs.declared.written.FirstName.TheVariants.{NoName, Name, Word}
 use Rattle.flow_syntax.specs.declared.written.Node.{Node}

@@ -1,12 +1,12 @@
 -- The terminals of tokens.
 use Rattle.std.specs.Prelude.{ℕ, List, if◌then◌else◌, codes, Option, Some, None}
 use Rattle.std.specs.Str.{bytes_eq}
-use Rattle.text_scopes.specs.declared.token.Kind.{Kind}
-use Rattle.text_scopes.specs.declared.token.Kind.TheVariants as kind
-use Rattle.text_scopes.specs.TokenParts.{TokenParts, token_parts}
-use Rattle.text_scopes.specs.declared.terminal.Terminal.{Terminal}
-use Rattle.text_scopes.specs.declared.terminal.Terminal.TheVariants.{Zero, One, Number, WideNumber}
-use Rattle.text_scopes.specs.Terminals as grammar
+use Rattle.text_parser.specs.declared.token.Kind.{Kind}
+use Rattle.text_parser.specs.declared.token.Kind.TheVariants as kind
+use Rattle.text_parser.specs.TokenParts.{TokenParts, token_parts}
+use Rattle.text_parser.specs.declared.terminal.Terminal.{Terminal}
+use Rattle.text_parser.specs.declared.terminal.Terminal.TheVariants.{Zero, One, Number, WideNumber}
+use Rattle.text_parser.specs.Terminals as grammar
 use Rattle.flow_syntax.specs.declared.rule.TheConstants.{NUMBER, WIDE_NUMBER, OPEN_ROUND, CLOSE_ROUND}
 use Rattle.flow_syntax.specs.declared.rule.Mark.{Mark}
 use Rattle.flow_syntax.specs.declared.terminal.TheConstants.{NAME, OTHER, SORT, FUN, VAR, GRAPH, BLOCK, CUT, GOTO, IF, ELSE, RETURN, ABORT, ASSERT, EQUAL, ROUNDS, SPLIT, TRUE, FALSE, U8, U16, U32, U64, S8, S16, S32, S64, SLT, SLE, SGT, SGE, COMMA, SEMICOLON, CURLY_OPEN, CURLY_CLOSE, BECOMES, EQ, NE, LT, LE, GT, GE, PLUS, MINUS, STAR, AND, OR, BANG}

@@ -1,11 +1,11 @@
 //! Values of derivations.
 ghost use Rattle.std.specs.Prelude.{◌≡◌, ◌≤◌, ◌<◌, ◌+◌, List, [], ◌∷◌, length, drop, IfOk, OnOk};
-ghost use Rattle.text_scopes.specs.TokenParts.{parts_of_token, parts_of_tokens};
+ghost use Rattle.text_parser.specs.TokenParts.{parts_of_token, parts_of_tokens};
 ghost use Rattle.flow_syntax.specs.Values.{Actions, taken_by, count_taken, with_leaf, step_values, values};
 
 use crate::rule::Step;
 use kat_model::NoMemory;
-use text_scopes::Token;
+use text_parser::Token;
 
 /// A stack of values that the actions of a grammar change. Contracts see it as a list through `stack`, the first part
 /// first, and the actions as `actions`.

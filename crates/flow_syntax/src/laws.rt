@@ -1,6 +1,6 @@
 //! Laws of the definitions. Each function does nothing: its contract is the law.
 ghost use Rattle.std.specs.Prelude.{◌≡◌, ◌⊎◌, ℕ, List, [], ◌∷◌};
-ghost use Rattle.text_scopes.specs.declared.fault.TextFault.{TextFault};
+ghost use Rattle.text_parser.specs.declared.fault.TextFault.{TextFault};
 ghost use Rattle.flow_syntax.specs.declared.rule.Mark.{Mark};
 ghost use Rattle.flow_syntax.specs.declared.rule.Step.{Step};
 ghost use Rattle.flow_syntax.specs.Rules.{RuleParts};

@@ -1,11 +1,11 @@
 //! Appends to lists, which are from the last member to the first.
 ghost use Rattle.std.specs.Prelude.{◌≡◌, ◌∷◌, OnOk};
-ghost use Rattle.text_scopes.specs.TokenParts.{parts_of_token};
+ghost use Rattle.text_parser.specs.TokenParts.{parts_of_token};
 ghost use Rattle.flow_syntax.specs.SyntaxViews.{tokens_syntax, node_syntax, expr_syntax, exprs_syntax, cond_node_syntax, cond_syntax, block_syntax, blocks_syntax};
 
 use crate::written::{Block, CondNode, Node};
 use kat_model::{NoMemory, append};
-use text_scopes::Token;
+use text_parser::Token;
 
 #[tactic(auto, using(crate::proofs::Stacked::pushes))]
 pub(crate) fn append_token<'a>(

@@ -16,7 +16,7 @@ use crate::stack::push;
 use crate::value::Value;
 use kat_model::NoMemory;
 use std::alloc::Global;
-use text_scopes::Token;
+use text_parser::Token;
 
 fn make(alloc: Global, action: Action, stack: &mut Vec<Value>) -> Result<(), NoMemory>
     ensures { OnOk result (stack_syntax stack.new.items ≡ done action (stack_syntax stack.old.items)) }

@@ -1,6 +1,6 @@
 //! What productions make of expressions.
 ghost use Rattle.std.specs.Prelude.{◌≡◌, ◌∷◌, ◌++◌, length, IfOk, OnOk};
-ghost use Rattle.text_scopes.specs.TokenParts.{parts_of_token};
+ghost use Rattle.text_parser.specs.TokenParts.{parts_of_token};
 ghost use Rattle.flow_syntax.specs.Syntax.{converted};
 ghost use Rattle.flow_syntax.specs.Actions.{exprs_done, call_node, call_of, joined, all_nodes, name_of, first_of, first_name};
 ghost use Rattle.flow_syntax.specs.SyntaxViews.{stack_syntax, tokens_syntax, node_syntax, expr_syntax, exprs_syntax, first_syntax, value_syntax};
@@ -14,7 +14,7 @@ use crate::value::Value;
 use crate::written::{FirstName, Node};
 use kat_model::NoMemory;
 use std::alloc::Global;
-use text_scopes::Token;
+use text_parser::Token;
 
 #[tactic(auto, using(crate::proofs::Stacked::pushes))]
 fn no_exprs(alloc: Global, stack: &mut Vec<Value>) -> Result<(), NoMemory>

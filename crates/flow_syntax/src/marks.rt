@@ -1,6 +1,6 @@
 //! From a text to its derivation.
 ghost use Rattle.std.specs.Prelude.{◌≡◌, ◌≤◌, length, map, IfOk, IfErr};
-ghost use Rattle.text_scopes.specs.TokenParts.{parts_of_tokens};
+ghost use Rattle.text_parser.specs.TokenParts.{parts_of_tokens};
 ghost use Rattle.flow_syntax.specs.Derivations.{Derives, IsReaderFault};
 ghost use Rattle.flow_syntax.specs.declared.phrase.TheConstants.{FILE};
 ghost use Rattle.flow_syntax.specs.Terminals.{mark_of};
@@ -13,7 +13,7 @@ use crate::rule::{Mark, Step};
 use crate::terminal::terminal_of;
 use kat_model::NoMemory;
 use std::alloc::Global;
-use text_scopes::{TextFault, Token};
+use text_parser::{TextFault, Token};
 
 fn marks(alloc: Global, toks: &[Token]) -> Result<Vec<Mark>, NoMemory>
     ensures { IfOk result (λ ms. ms.items ≡ map mark_of (parts_of_tokens toks.now)) }

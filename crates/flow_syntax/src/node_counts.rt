@@ -5,7 +5,7 @@ ghost use Rattle.flow_syntax.specs.SyntaxViews.{tokens_syntax, expr_syntax, expr
 
 use crate::written::{Block, CondNode, Jump, Node, Statement};
 use kat_model::{MAX_EXPR_NODES, MAX_TERM_NODES, MAX_TEXT_NODES};
-use text_scopes::Token;
+use text_parser::Token;
 
 #[tactic(auto, using(crate::proofs::LastMembers::lengths))]
 fn is_short(expr: &[Node]) -> bool

@@ -1,6 +1,6 @@
 //! Reads the items of a text.
 ghost use Rattle.std.specs.Prelude.{◌≡◌, map, IfOk, IfErr};
-ghost use Rattle.text_scopes.specs.TokenParts.{parts_of_tokens};
+ghost use Rattle.text_parser.specs.TokenParts.{parts_of_tokens};
 ghost use Rattle.flow_syntax.specs.Derivations.{IsReaderFault};
 ghost use Rattle.flow_syntax.specs.declared.phrase.TheConstants.{FILE};
 ghost use Rattle.flow_syntax.specs.Terminals.{mark_of};
@@ -14,7 +14,7 @@ use crate::marks::derivation;
 use crate::stack::take_items;
 use crate::written::Item;
 use std::alloc::Global;
-use text_scopes::{TextFault, Token};
+use text_parser::{TextFault, Token};
 
 /// Returns the items that the tokens of a text of `end` bytes spell, from the last to the first, or the first fault of
 /// their syntax.

@@ -13,7 +13,7 @@ use crate::rule::{
 };
 use kat_model::{MAX_OPEN, NoMemory};
 use std::alloc::Global;
-use text_scopes::TextFault;
+use text_parser::TextFault;
 
 fn mark_at(marks: &[Mark], i: usize) -> Option<Mark>
     ensures { Sees result marks.now i }

@@ -1,7 +1,7 @@
 //! The stack of values, whose last is the value of the first part. Each function takes a value off it, or one that is
 //! empty if the last value is of another kind.
 ghost use Rattle.std.specs.Prelude.{◌≡◌, ◌∷◌, IfOk, OnOk};
-ghost use Rattle.text_scopes.specs.TokenParts.{parts_of_token};
+ghost use Rattle.text_parser.specs.TokenParts.{parts_of_token};
 ghost use Rattle.flow_syntax.specs.Actions.{first, second, rest, past_two, is_no_call, token_in, tokens_in, expr_in, exprs_in, operators_in, operands_in, cond_in, statements_in, jump_in, blocks_in, items_in};
 ghost use Rattle.flow_syntax.specs.SyntaxViews.{tokens_syntax, expr_syntax, exprs_syntax, cond_syntax, statements_syntax, jump_syntax, blocks_syntax, items_syntax, value_syntax, stack_syntax};
 
@@ -10,7 +10,7 @@ use crate::value::Value;
 use crate::written::{Block, CondNode, Item, Jump, Node, Statement};
 use kat_model::{NoMemory, append};
 use std::alloc::Global;
-use text_scopes::Token;
+use text_parser::Token;
 
 #[tactic(auto, using(crate::proofs::Stacked::pushes))]
 pub(crate) fn push<'a>(stack: &mut Vec<Value<'a>>, value: Value<'a>) -> Result<(), NoMemory>

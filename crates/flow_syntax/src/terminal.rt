@@ -1,11 +1,11 @@
 //! The terminals of the format, numbered after those that the reader knows.
 ghost use Rattle.std.specs.Prelude.{◌≡◌, [], ◌∷◌};
-ghost use Rattle.text_scopes.specs.TokenParts.{parts_of_token};
+ghost use Rattle.text_parser.specs.TokenParts.{parts_of_token};
 ghost use Rattle.flow_syntax.specs.Terminals.{word_terminal, symbol_terminal, number_terminal, terminal_of, spelled_number};
 ghost use Rattle.flow_syntax.specs.Working.Words.{word_of_two, comparison_word, width_of_three, word_of_three, word_of_four, word_of_five, word_of_six};
 
 use crate::rule::{CLOSE_ROUND, NUMBER, OPEN_ROUND, WIDE_NUMBER};
-use text_scopes::{Kind, Terminal, Token};
+use text_parser::{Kind, Terminal, Token};
 
 /// A name that is not a keyword.
 pub const NAME: usize = 5;
@@ -266,7 +266,7 @@ pub(crate) fn terminal_of(token: &Token) -> usize
 {
     match token.kind {
         Kind::Name => word_terminal(token.text),
-        Kind::Number => number_terminal(text_scopes::terminal_of(token)),
+        Kind::Number => number_terminal(text_parser::terminal_of(token)),
         Kind::Symbol => symbol_terminal(token.text),
     }
 }
@@ -275,7 +275,7 @@ pub(crate) fn terminal_of(token: &Token) -> usize
 pub fn spelled_number(token: &Token) -> Option<u64>
     ensures { result ≡ spelled_number (parts_of_token token.now) }
 {
-    match text_scopes::terminal_of(token) {
+    match text_parser::terminal_of(token) {
         Terminal::Zero => Some(0),
         Terminal::One => Some(1),
         Terminal::Number(n) => Some(n),

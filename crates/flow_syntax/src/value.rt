@@ -1,12 +1,12 @@
 //! Values of the parts of productions.
 ghost use Rattle.std.specs.Prelude.{◌≡◌};
-ghost use Rattle.text_scopes.specs.TokenParts.{parts_of_token};
+ghost use Rattle.text_parser.specs.TokenParts.{parts_of_token};
 ghost use Rattle.flow_syntax.specs.Actions.{token_in, tokens_in, expr_in, exprs_in, operators_in, operands_in, cond_in, statements_in, jump_in, blocks_in, items_in};
 ghost use Rattle.flow_syntax.specs.SyntaxViews.{tokens_syntax, expr_syntax, exprs_syntax, cond_syntax, statements_syntax, jump_syntax, blocks_syntax, items_syntax, value_syntax};
 
 use crate::written::{Block, CondNode, Item, Jump, Node, Statement};
 use std::alloc::Global;
-use text_scopes::{Kind, Token};
+use text_parser::{Kind, Token};
 
 /// The value of a part. Its lists are from the last member to the first.
 pub(crate) enum Value<'a> {

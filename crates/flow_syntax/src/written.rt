@@ -1,7 +1,7 @@
 //! Flow files as they are spelled, with the tokens by which they name things. Each list is from its last member to its
 //! first, since the values of a derivation are made from its last step to its first.
 
-use text_scopes::Token;
+use text_parser::Token;
 
 /// The first name or conversion in an expression that is in no argument and under no conversion.
 #[derive(Clone, Copy)]

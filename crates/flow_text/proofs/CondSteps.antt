@@ -1,8 +1,8 @@
 -- Names of a condition resolved, with another node.
 use Rattle.std.proofs.Common.{◌≡◌, List, [], ◌∷◌, ◌++◌, Result, Ok, Err, sym, ap, ◌∙◌, map}
 use Rattle.std.proofs.lemmas.List.{map-append}
-use Rattle.text_scopes.specs.declared.fault.TextFault.{TextFault}
-use Rattle.text_scopes.specs.Parsed.{◌>>=◌}
+use Rattle.text_parser.specs.declared.fault.TextFault.{TextFault}
+use Rattle.text_parser.specs.Parsed.{◌>>=◌}
 use Rattle.flow_model.specs.declared.graph.CondNode.{CondNode as Checked}
 use Rattle.flow_model.specs.Polish.{CondPart}
 use Rattle.flow_text.specs.Trees.{cond_part}

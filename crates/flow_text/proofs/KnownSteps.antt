@@ -1,9 +1,9 @@
 -- Parameters and items checked, one more.
 use Rattle.std.proofs.Common.{◌≡◌, ℕ, List, [], ◌∷◌, ◌++◌, length, Result, Ok, Err, sym, ap, ◌∙◌}
-use Rattle.text_scopes.specs.declared.fault.TextFault.{TextFault}
-use Rattle.text_scopes.specs.declared.token.Token.{Token}
-use Rattle.text_scopes.specs.TokenParts.{parts_of_token}
-use Rattle.text_scopes.specs.Parsed.{◌>>=◌}
+use Rattle.text_parser.specs.declared.fault.TextFault.{TextFault}
+use Rattle.text_parser.specs.declared.token.Token.{Token}
+use Rattle.text_parser.specs.TokenParts.{parts_of_token}
+use Rattle.text_parser.specs.Parsed.{◌>>=◌}
 use Rattle.flow_model.specs.declared.sort.Sort.{Sort}
 use Rattle.flow_syntax.specs.declared.written.Item.{Item}
 use Rattle.flow_text.specs.Scopes.{ScopeParts, next_parameter, parameters_after}

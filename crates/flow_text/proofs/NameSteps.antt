@@ -2,8 +2,8 @@
 use Rattle.std.proofs.Common.{◌≡◌, ℕ, List, [], ◌∷◌, ◌++◌, map, sym, ap, ◌∙◌, append_assoc, String, string_bytes}
 use Rattle.std.specs.declared.alloc.Global.{Global}
 use Rattle.std.proofs.lemmas.List.{append-nil}
-use Rattle.text_scopes.specs.declared.token.Token.{Token}
-use Rattle.text_scopes.specs.TokenParts.{TokenParts, bytes_of}
+use Rattle.text_parser.specs.declared.token.Token.{Token}
+use Rattle.text_parser.specs.TokenParts.{TokenParts, bytes_of}
 use Rattle.flow_syntax.specs.declared.written.Item.{Item}
 use Rattle.flow_syntax.specs.Syntax.{ItemSyntax}
 use Rattle.flow_syntax.specs.SyntaxViews.{tokens_syntax, item_syntax, items_syntax}

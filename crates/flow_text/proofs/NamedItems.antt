@@ -6,9 +6,9 @@ use Rattle.kat_model.specs.declared.expression.Rel.{Rel}
 use Rattle.kat_model.specs.declared.expression.Rel.TheVariants.{Eq, Ne}
 use Rattle.kat_model.specs.declared.expression.Width.{Width}
 use Rattle.kat_model.specs.declared.limits.TheConstants.{MAX_ROUNDS}
-use Rattle.text_scopes.specs.declared.fault.TextFault.{TextFault}
-use Rattle.text_scopes.specs.TokenParts.{TokenParts, bytes_of}
-use Rattle.text_scopes.proofs.NamedFaults.{IsNamedFault, IsNamed, then_named}
+use Rattle.text_parser.specs.declared.fault.TextFault.{TextFault}
+use Rattle.text_parser.specs.TokenParts.{TokenParts, bytes_of}
+use Rattle.text_parser.proofs.NamedFaults.{IsNamedFault, IsNamed, then_named}
 use Rattle.flow_model.specs.declared.sort.Sort.{Sort}
 use Rattle.flow_model.specs.declared.sort.Sort.TheVariants.{Number, Opaque}
 use Rattle.flow_model.specs.declared.graph.ExprNode.{ExprNode}

@@ -1,12 +1,12 @@
 -- Bytes are the text of exactly one flow file or have exactly one first fault.
 use Rattle.std.proofs.Common.{◌≡◌, ◌⊎◌, inl, inr, ⊎_elim, ℕ, List, length, map, Result, Ok, Err, IfErr, refl, sym, ap, subst, ◌∙◌}
-use Rattle.text_scopes.specs.declared.fault.TextFault.{TextFault}
-use Rattle.text_scopes.specs.declared.fault.TextFault.TheVariants.{NoMemory, BadToken}
-use Rattle.text_scopes.specs.TokenParts.{TokenParts}
-use Rattle.text_scopes.specs.Lex.{Lexes, IsFault}
-use Rattle.text_scopes.proofs.Readings.{one_lexing}
-use Rattle.text_scopes.specs.Parsed.{Makes}
-use Rattle.text_scopes.specs.Lexemes.{Lexeme}
+use Rattle.text_parser.specs.declared.fault.TextFault.{TextFault}
+use Rattle.text_parser.specs.declared.fault.TextFault.TheVariants.{NoMemory, BadToken}
+use Rattle.text_parser.specs.TokenParts.{TokenParts}
+use Rattle.text_parser.specs.Lex.{Lexes, IsFault}
+use Rattle.text_parser.proofs.Readings.{one_lexing}
+use Rattle.text_parser.specs.Parsed.{Makes}
+use Rattle.text_parser.specs.Lexemes.{Lexeme}
 use Rattle.flow_syntax.specs.declared.rule.Step.{Step}
 use Rattle.flow_syntax.specs.Derivations.{Derives, IsFirstFault, IsReaderFault}
 use Rattle.flow_syntax.specs.Values.{values}
@@ -25,7 +25,7 @@ use Rattle.flow_syntax.specs.Spelling.{AreSpelled}
 use Rattle.flow_text.specs.Checking.{FlowFileParts, file_of}
 use Rattle.flow_text.specs.FileViews.{file_parts}
 use Rattle.flow_text.specs.Texts.{Spells, HasSyntaxFault, IsFlowText, HasItemFault, FirstFault, no_text, bad_token, wrong_syntax, wrong_item, Answers}
-use Rattle.text_scopes.proofs.NamedFaults.{IsNamed}
+use Rattle.text_parser.proofs.NamedFaults.{IsNamed}
 use Rattle.flow_syntax.proofs.GrammarExamples.{rules_light}
 use Rattle.flow_syntax.proofs.NamedSyntax.{syntax_named}
 use Rattle.flow_text.proofs.NamedItems.{file_named}

@@ -1,8 +1,8 @@
 -- Results of the program and of definitions.
 use Rattle.std.proofs.Common.{◌≡◌, Result, Ok, Err, ap}
-use Rattle.text_scopes.specs.declared.fault.TextFault.{TextFault}
-use Rattle.text_scopes.specs.declared.fault.TextFault.TheVariants.{NoMemory}
-use Rattle.text_scopes.specs.Parsed.{◌>>=◌, Makes}
+use Rattle.text_parser.specs.declared.fault.TextFault.{TextFault}
+use Rattle.text_parser.specs.declared.fault.TextFault.TheVariants.{NoMemory}
+use Rattle.text_parser.specs.Parsed.{◌>>=◌, Makes}
 use Rattle.problem_file.specs.Working.Walks.{Does}
 
 -- the same value seen in another way

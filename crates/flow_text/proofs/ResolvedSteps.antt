@@ -1,8 +1,8 @@
 -- Names of an expression resolved, with another node.
 use Rattle.std.proofs.Common.{◌≡◌, List, [], ◌∷◌, ◌++◌, length, Result, Ok, Err, refl, sym, ap, ◌∙◌}
-use Rattle.text_scopes.specs.declared.fault.TextFault.{TextFault}
-use Rattle.text_scopes.specs.declared.fault.TextFault.TheVariants.{NoMemory}
-use Rattle.text_scopes.specs.Parsed.{◌>>=◌, Makes}
+use Rattle.text_parser.specs.declared.fault.TextFault.{TextFault}
+use Rattle.text_parser.specs.declared.fault.TextFault.TheVariants.{NoMemory}
+use Rattle.text_parser.specs.Parsed.{◌>>=◌, Makes}
 use Rattle.flow_model.specs.declared.graph.ExprNode.{ExprNode}
 use Rattle.flow_syntax.specs.declared.written.Node.{Node}
 use Rattle.flow_syntax.specs.Syntax.{ExprSyntax}

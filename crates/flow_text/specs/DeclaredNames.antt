@@ -1,6 +1,6 @@
 -- The names of the variables and of the functions that items declare, in the order of their declarations.
 use Rattle.std.specs.Prelude.{ℕ, List, [], ◌∷◌, ◌++◌, map}
-use Rattle.text_scopes.specs.TokenParts.{bytes_of}
+use Rattle.text_parser.specs.TokenParts.{bytes_of}
 use Rattle.flow_syntax.specs.Syntax.{ItemSyntax, sorts, function, variables, graph, rounds, split, equal}
 
 abbrev pub variables_in : ItemSyntax → List (List ℕ)

@@ -6,10 +6,10 @@ use Rattle.std.specs.Cmp.Lexicographic.{slice_cmp}
 use Rattle.std.specs.FinMap.{FinMap, empty, get, insert}
 use Rattle.kat_model.specs.declared.expression.Width.{Width}
 use Rattle.kat_model.specs.declared.expression.Width.TheVariants.{W8, W16, W32, W64}
-use Rattle.text_scopes.specs.declared.fault.TextFault.{TextFault}
-use Rattle.text_scopes.specs.declared.fault.TextFault.TheVariants as fault
-use Rattle.text_scopes.specs.TokenParts.{TokenParts, place_of, bytes_of}
-use Rattle.text_scopes.specs.Parsed.{◌>>=◌}
+use Rattle.text_parser.specs.declared.fault.TextFault.{TextFault}
+use Rattle.text_parser.specs.declared.fault.TextFault.TheVariants as fault
+use Rattle.text_parser.specs.TokenParts.{TokenParts, place_of, bytes_of}
+use Rattle.text_parser.specs.Parsed.{◌>>=◌}
 use Rattle.flow_model.specs.declared.sort.Sort.{Sort}
 use Rattle.flow_model.specs.contracts.sort.SortPartialEq.TheImpl.{ghosts as relation}
 use Rattle.flow_model.specs.declared.sort.Sort.TheVariants.{Number, Opaque}

@@ -1,9 +1,9 @@
 -- The flow file that a text spells, or the first fault of the text.
 use Rattle.std.specs.Prelude.{◌≡◌, ◌⊎◌, ℕ, List, length, map, Result, Ok, Err}
-use Rattle.text_scopes.specs.declared.fault.TextFault.{TextFault}
-use Rattle.text_scopes.specs.declared.fault.TextFault.TheVariants.{NoMemory, BadToken}
-use Rattle.text_scopes.specs.TokenParts.{TokenParts}
-use Rattle.text_scopes.specs.Lex.{Lexes, FirstBad}
+use Rattle.text_parser.specs.declared.fault.TextFault.{TextFault}
+use Rattle.text_parser.specs.declared.fault.TextFault.TheVariants.{NoMemory, BadToken}
+use Rattle.text_parser.specs.TokenParts.{TokenParts}
+use Rattle.text_parser.specs.Lex.{Lexes, FirstBad}
 use Rattle.flow_syntax.specs.Derivations.{IsFirstFault}
 use Rattle.problem_file.specs.FirstFaults.{IsNoText}
 use Rattle.flow_syntax.specs.declared.phrase.TheConstants.{FILE}

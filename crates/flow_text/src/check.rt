@@ -1,7 +1,7 @@
 //! Statements with their names resolved and their sorts checked.
 ghost use Rattle.std.specs.Prelude.{◌≡◌, [], map, IfOk};
-ghost use Rattle.text_scopes.specs.TokenParts.{parts_of_token};
-ghost use Rattle.text_scopes.specs.Parsed.{Makes};
+ghost use Rattle.text_parser.specs.TokenParts.{parts_of_token};
+ghost use Rattle.text_parser.specs.Parsed.{Makes};
 ghost use Rattle.flow_text.specs.Trees.{statement_of, values_of};
 ghost use Rattle.flow_text.specs.Checking.{is_set, target_of, next_target, targets_after, expressions_of, firsts, seconds, assigned, statements_after};
 ghost use Rattle.flow_text.specs.Checking as checking;
@@ -17,7 +17,7 @@ use flow_model::{ExprNode, Sort};
 use flow_syntax::{CondNode, Node, Statement};
 use kat_model::{NoMemory, append};
 use std::alloc::Global;
-use text_scopes::{TextFault, Token};
+use text_parser::{TextFault, Token};
 
 fn is_set(targets: &[(usize, Sort)], k: usize) -> bool
     ensures { result ≡ is_set targets.now k }

@@ -2,8 +2,8 @@
 ghost use Rattle.std.specs.Prelude.{◌≡◌, [], Ok, Some, IfOk};
 ghost use Rattle.std.specs.BTreeMap.{get_by_text};
 ghost use Rattle.std.specs.Option.{option_map};
-ghost use Rattle.text_scopes.specs.TokenParts.{parts_of_token};
-ghost use Rattle.text_scopes.specs.Parsed.{Makes};
+ghost use Rattle.text_parser.specs.TokenParts.{parts_of_token};
+ghost use Rattle.text_parser.specs.Parsed.{Makes};
 ghost use Rattle.flow_text.specs.Trees.{jump_of, block_of, graph_of};
 ghost use Rattle.flow_text.specs.Checking.{found, block_names, block_or_fault, may_have_block, returned, gone_to, branched, next_block, blocks_after};
 ghost use Rattle.flow_text.specs.Checking as checking;
@@ -19,7 +19,7 @@ use flow_syntax::{Block, CondNode, Jump, Node};
 use kat_model::{NoMemory, append};
 use std::alloc::Global;
 use std::collections::BTreeMap;
-use text_scopes::{TextFault, Token};
+use text_parser::{TextFault, Token};
 
 // Returns the number of the first block with each name.
 fn block_names(alloc: Global, blocks: &[Block]) -> Result<BTreeMap<String, usize>, NoMemory>

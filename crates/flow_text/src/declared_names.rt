@@ -1,13 +1,13 @@
 //! The names that a file declares.
 ghost use Rattle.std.specs.Prelude.{◌≡◌, ◌∷◌, ◌++◌, [], map, IfOk, OnOk, string_bytes};
-ghost use Rattle.text_scopes.specs.TokenParts.{bytes_of};
+ghost use Rattle.text_parser.specs.TokenParts.{bytes_of};
 ghost use Rattle.flow_syntax.specs.SyntaxViews.{tokens_syntax, item_syntax, items_syntax};
 ghost use Rattle.flow_text.specs.DeclaredNames.{variables_in, functions_in, variable_names, function_names};
 
 use flow_syntax::Item;
 use kat_model::{NoMemory, append};
 use std::alloc::Global;
-use text_scopes::Token;
+use text_parser::Token;
 
 /// The names of the variables and of the functions that a file declares, in the order of their declarations.
 #[derive(Drop)]

@@ -1,7 +1,7 @@
 //! The items of a text, checked one by one.
 ghost use Rattle.std.specs.Prelude.{◌≡◌, []};
-ghost use Rattle.text_scopes.specs.TokenParts.{parts_of_token};
-ghost use Rattle.text_scopes.specs.Parsed.{Makes};
+ghost use Rattle.text_parser.specs.TokenParts.{parts_of_token};
+ghost use Rattle.text_parser.specs.Parsed.{Makes};
 ghost use Rattle.problem_file.specs.Working.Walks.{Does};
 ghost use Rattle.flow_text.specs.Scopes.{sort_meant, sort_named, next_parameter, parameters_after};
 ghost use Rattle.flow_text.specs.Checking.{nothing_known, few_rounds, graph_meant, sorts_known, function_known, variables_known, graph_known, rounds_known, split_known, goal_known, item_known, items_known};
@@ -18,7 +18,7 @@ use flow_model::Sort;
 use flow_syntax::{Block, Item, nodes_with, spelled_number};
 use kat_model::{MAX_ROUNDS, append};
 use std::alloc::Global;
-use text_scopes::{TextFault, Token};
+use text_parser::{TextFault, Token};
 
 /// A graph with the numbers of sorts, functions, variables and graphs that are declared before it.
 pub(crate) struct WrittenGraph<'a> {

@@ -1,8 +1,8 @@
 //! Reads flow files.
 ghost use Rattle.std.specs.Prelude.{◌≡◌, ◌≤◌, [], length, map, None, Some, IfOk, IfErr, string_bytes};
-ghost use Rattle.text_scopes.specs.declared.fault.TextFault.TheVariants.{NoMemory as NoRoom};
-ghost use Rattle.text_scopes.specs.declared.lexer.TheConstants.{MAX_LEN as MOST};
-ghost use Rattle.text_scopes.specs.Parsed.{Makes};
+ghost use Rattle.text_parser.specs.declared.fault.TextFault.TheVariants.{NoMemory as NoRoom};
+ghost use Rattle.text_parser.specs.declared.lexer.TheConstants.{MAX_LEN as MOST};
+ghost use Rattle.text_parser.specs.Parsed.{Makes};
 ghost use Rattle.flow_text.specs.Trees.{graph_of};
 ghost use Rattle.flow_text.specs.Checking.{FlowFileParts, shared_sorts, known_sorts, with_graph_results, sorts_returned, whole_graph, next_graph, graphs_after, with_goal, rounds_or_one, file_of};
 ghost use Rattle.flow_text.specs.ScopeViews.{scope_parts};
@@ -21,7 +21,7 @@ use flow_syntax::{Item, items};
 use kat_model::{NoMemory, append};
 use problem_file::text_of;
 use std::alloc::Global;
-use text_scopes::{TextFault, tokens};
+use text_parser::{TextFault, tokens};
 
 /// A flow file: the sorts of its variables, its graphs, which of them the goal compares, and names for comments.
 #[derive(Drop)]

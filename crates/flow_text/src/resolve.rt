@@ -1,7 +1,7 @@
 //! Expressions with their names resolved and their sorts checked.
 ghost use Rattle.std.specs.Prelude.{◌≡◌, [], ◌∷◌, ◌++◌, map, Ok, Some, IfSome, IfNone, OnOk};
-ghost use Rattle.text_scopes.specs.TokenParts.{parts_of_token};
-ghost use Rattle.text_scopes.specs.Parsed.{Makes};
+ghost use Rattle.text_parser.specs.TokenParts.{parts_of_token};
+ghost use Rattle.text_parser.specs.Parsed.{Makes};
 ghost use Rattle.flow_text.specs.Resolving.{operand, number_in, number_of_width, with_sort_wanted, application_of, function_in, variable_in, conversion_in, operator_on, operator_in, with_parameters, with_operand, node_in, sort_wanted, next_node, resolved};
 ghost use Rattle.flow_text.specs.Scopes.{meaning, width_named};
 ghost use Rattle.flow_text.specs.ScopeViews.{function_of, sight_parts};
@@ -15,7 +15,7 @@ use flow_model::{ExprNode, Sort};
 use flow_syntax::{Node, spelled_number};
 use kat_model::{NoMemory, Width, append};
 use std::alloc::Global;
-use text_scopes::{TextFault, Token};
+use text_parser::{TextFault, Token};
 
 /// What is wanted next: an operand of a sort, which is the second one of an operator, or not.
 #[derive(Clone, Copy)]

@@ -1,7 +1,7 @@
 //! Conditions with their names resolved and their sorts checked.
 ghost use Rattle.std.specs.Prelude.{◌≡◌, [], map};
-ghost use Rattle.text_scopes.specs.TokenParts.{parts_of_token};
-ghost use Rattle.text_scopes.specs.Parsed.{Makes};
+ghost use Rattle.text_parser.specs.TokenParts.{parts_of_token};
+ghost use Rattle.text_parser.specs.Parsed.{Makes};
 ghost use Rattle.flow_text.specs.Trees.{cond_part, cond_of};
 ghost use Rattle.flow_text.specs.Resolving.{rel_named, sort_of_sides, signed_rel_named, relation_on, width_of_sort, comparison_of, signed_comparison_of, part_of, parts_after, condition_of};
 ghost use Rattle.flow_text.specs.ScopeViews.{sight_parts};
@@ -13,7 +13,7 @@ use flow_model::Sort;
 use flow_syntax::{CondNode, Node};
 use kat_model::{Rel, Width, append};
 use std::alloc::Global;
-use text_scopes::{TextFault, Token};
+use text_parser::{TextFault, Token};
 
 fn rel_named(text: &str) -> Rel
     ensures { result ≡ rel_named text.now }

@@ -1,5 +1,5 @@
 //! Expressions of a sort.
-ghost use Rattle.text_scopes.specs.Parsed.{Makes};
+ghost use Rattle.text_parser.specs.Parsed.{Makes};
 ghost use Rattle.flow_text.specs.Trees.{expr_of};
 ghost use Rattle.flow_text.specs.Resolving.{expression_of};
 ghost use Rattle.flow_text.specs.ScopeViews.{sight_parts};
@@ -10,7 +10,7 @@ use crate::sight::Sight;
 use flow_model::{ExprNode, Sort};
 use flow_syntax::Node;
 use std::alloc::Global;
-use text_scopes::TextFault;
+use text_parser::TextFault;
 
 /// Returns the expression with its names resolved, where a sort is wanted, or its first fault in text order.
 pub(crate) fn resolve_expr(

@@ -1,6 +1,6 @@
 //! Scopes: what the names declared so far mean.
 ghost use Rattle.std.specs.Prelude.{◌≡◌, ◌<◌, OnOk};
-ghost use Rattle.text_scopes.specs.TokenParts.{parts_of_token};
+ghost use Rattle.text_parser.specs.TokenParts.{parts_of_token};
 ghost use Rattle.problem_file.specs.Working.Walks.{Does};
 ghost use Rattle.flow_text.specs.Scopes.{no_names, meaning, may_declare, with_sort, may_have_function, with_function, with_variable, may_have_graph, with_graph_name, sorts_declared, variables_declared};
 ghost use Rattle.flow_syntax.specs.SyntaxViews.{tokens_syntax};
@@ -12,7 +12,7 @@ use crate::names::Names;
 use flow_model::Sort;
 use kat_model::{NoMemory, append};
 use std::alloc::Global;
-use text_scopes::{TextFault, Token};
+use text_parser::{TextFault, Token};
 
 /// The sorts of the result and of the parameters of a function.
 #[derive(Drop)]

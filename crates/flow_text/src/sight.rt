@@ -1,7 +1,7 @@
 //! The names that an expression may use, and their sorts.
 ghost use Rattle.std.specs.Prelude.{◌≡◌, slice_get};
 ghost use Rattle.std.specs.Option.{option_map};
-ghost use Rattle.text_scopes.specs.TokenParts.{parts_of_token};
+ghost use Rattle.text_parser.specs.TokenParts.{parts_of_token};
 ghost use Rattle.flow_text.specs.Scopes.{is_declared, meaning_in, width_named};
 ghost use Rattle.flow_text.specs.Resolving.{sort_of_meaning, sort_of_word, sort_of_first, sort_or_u64, sort_of_sides};
 ghost use Rattle.flow_text.specs.ScopeViews.{function_of, functions_of, scope_parts, sight_parts};
@@ -12,7 +12,7 @@ use crate::scope::{Function, Scope};
 use flow_model::Sort;
 use flow_syntax::{FirstName, Node, first_name, first_of};
 use kat_model::Width;
-use text_scopes::Token;
+use text_parser::Token;
 
 /// A scope with the first of its functions and variables and numbers of its sorts and graphs, which are declared before a
 /// graph.

@@ -1,12 +1,12 @@
 -- Reading the tokens of items gives their fold.
 use Rattle.std.proofs.Common.{◌≡◌, ℕ, zero, suc, ◌<◌, ◌≤◌, List, [], ◌∷◌, length, Result, Ok, Err, refl, ap, ◌∙◌, arith}
-use Rattle.text_scopes.specs.declared.fault.TextFault.{TextFault}
-use Rattle.text_scopes.specs.declared.terminal.Terminal.TheVariants.{RoundClose, SquareClose, Plus, Dot, Separator}
-use Rattle.text_scopes.specs.declared.terminal.Separator.TheVariants.{Comma, Semicolon, Caret}
-use Rattle.text_scopes.specs.Lexemes.{Lexeme, is_terminal}
-use Rattle.text_scopes.specs.Parsed.{Parsed, ◌>>=◌, before, then_wants}
-use Rattle.text_scopes.specs.Phrases.{Leaf, cons_token}
-use Rattle.text_scopes.proofs.ParserCompleteness.{then_rest, checked, closed}
+use Rattle.text_parser.specs.declared.fault.TextFault.{TextFault}
+use Rattle.text_parser.specs.declared.terminal.Terminal.TheVariants.{RoundClose, SquareClose, Plus, Dot, Separator}
+use Rattle.text_parser.specs.declared.terminal.Separator.TheVariants.{Comma, Semicolon, Caret}
+use Rattle.text_parser.specs.Lexemes.{Lexeme, is_terminal}
+use Rattle.text_parser.specs.Parsed.{Parsed, ◌>>=◌, before, then_wants}
+use Rattle.text_parser.specs.Phrases.{Leaf, cons_token}
+use Rattle.text_parser.proofs.ParserCompleteness.{then_rest, checked, closed}
 use Rattle.problem_file.specs.Phrases.{ended}
 use Rattle.problem_file.specs.Items.{items_within}
 use Rattle.problem_file.proofs.NameWalks.{names_long, declaration_folded}

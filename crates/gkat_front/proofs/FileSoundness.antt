@@ -1,12 +1,12 @@
 -- What is read as items is a list of items.
 use Rattle.std.proofs.Common.{◌≡◌, ℕ, zero, suc, List, [], ◌∷◌, length, Ok, refl, ap, subst, ◌∙◌}
-use Rattle.text_scopes.specs.declared.terminal.Terminal.TheVariants.{Keyword, Separator}
-use Rattle.text_scopes.specs.declared.terminal.Keyword.TheVariants as word
-use Rattle.text_scopes.specs.declared.terminal.Separator.TheVariants.{Comma, Semicolon}
-use Rattle.text_scopes.specs.Lexemes.{Lexeme, lexeme, is_terminal}
-use Rattle.text_scopes.specs.Parsed.{◌>>=◌, before, then_wants}
-use Rattle.text_scopes.specs.Phrases.{cons_token}
-use Rattle.text_scopes.proofs.ParserSoundness.{leaf, bind_ok, before_ok, wanted_ok}
+use Rattle.text_parser.specs.declared.terminal.Terminal.TheVariants.{Keyword, Separator}
+use Rattle.text_parser.specs.declared.terminal.Keyword.TheVariants as word
+use Rattle.text_parser.specs.declared.terminal.Separator.TheVariants.{Comma, Semicolon}
+use Rattle.text_parser.specs.Lexemes.{Lexeme, lexeme, is_terminal}
+use Rattle.text_parser.specs.Parsed.{◌>>=◌, before, then_wants}
+use Rattle.text_parser.specs.Phrases.{cons_token}
+use Rattle.text_parser.proofs.ParserSoundness.{leaf, bind_ok, before_ok, wanted_ok}
 use Rattle.while_lang.proofs.BlockSoundness.{rest_of}
 use Rattle.problem_file.specs.Phrases.{ended}
 use Rattle.problem_file.specs.Items.{items_within}

@@ -1,13 +1,13 @@
 -- Reading the tokens of an expression gives its fold.
 use Rattle.std.proofs.Common.{◌≡◌, ℕ, List, false, Result, Ok, Err, refl, ap, ◌∙◌}
-use Rattle.text_scopes.specs.declared.fault.TextFault.{TextFault}
-use Rattle.text_scopes.specs.declared.terminal.Terminal.TheVariants.{RoundClose, SquareClose, Plus, Dot, Separator}
-use Rattle.text_scopes.specs.declared.terminal.Separator.TheVariants.{Caret}
-use Rattle.text_scopes.specs.Lexemes.{Lexeme, heads, is_terminal}
-use Rattle.text_scopes.specs.Parsed.{Parsed, ◌>>=◌, before, change, then_wants}
-use Rattle.text_scopes.specs.Phrases.{cond, Phrase, cons_token, yield_before, MeetsLookahead}
-use Rattle.text_scopes.specs.Ends.{Ends}
-use Rattle.text_scopes.proofs.ParserCompleteness.{then_rest, checked, changed, closed}
+use Rattle.text_parser.specs.declared.fault.TextFault.{TextFault}
+use Rattle.text_parser.specs.declared.terminal.Terminal.TheVariants.{RoundClose, SquareClose, Plus, Dot, Separator}
+use Rattle.text_parser.specs.declared.terminal.Separator.TheVariants.{Caret}
+use Rattle.text_parser.specs.Lexemes.{Lexeme, heads, is_terminal}
+use Rattle.text_parser.specs.Parsed.{Parsed, ◌>>=◌, before, change, then_wants}
+use Rattle.text_parser.specs.Phrases.{cond, Phrase, cons_token, yield_before, MeetsLookahead}
+use Rattle.text_parser.specs.Ends.{Ends}
+use Rattle.text_parser.proofs.ParserCompleteness.{then_rest, checked, changed, closed}
 use Rattle.while_lang.specs.Blocks.{enter}
 use Rattle.gkat_front.specs.GkatActions.{GkatActions}
 use Rattle.gkat_front.specs.GkatWalks.{whole, factors_after, GkatParser, guard_by, unit_by, loop_by, factor_by, product_by, choice_by, parse_gkat}

@@ -3,8 +3,8 @@ use Rattle.std.proofs.Common.{◌≡◌, ℕ, List, [], ◌∷◌, ◌++◌, Boo
 use Rattle.std.proofs.lemmas.List.{append-nil}
 use Rattle.std.specs.Prelude.{codes}
 use Rattle.kat_model.specs.Trees.{TestTree, bottom, top}
-use Rattle.text_scopes.specs.Pieces.{Piece, symbol, gap, spelled}
-use Rattle.text_scopes.specs.declared.meaning.Meaning.{Meaning}
+use Rattle.text_parser.specs.Pieces.{Piece, symbol, gap, spelled}
+use Rattle.text_parser.specs.declared.meaning.Meaning.{Meaning}
 use Rattle.text_print.specs.Printing.{cond_of, cond_text, in_round}
 use Rattle.text_print.proofs.PieceTexts.{cond_spells, test_spells}
 use Rattle.gkat_front.specs.Expressions.{GkatTree, test, act, product, choice, loop}

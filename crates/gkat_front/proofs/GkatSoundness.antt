@@ -1,12 +1,12 @@
 -- What is read as an expression from the start of the tokens is an expression.
 use Rattle.std.proofs.Common.{◌≡◌, ℕ, zero, suc, ◌+◌, List, [], ◌∷◌, Ok, ap, subst, ◌∙◌, drop}
-use Rattle.text_scopes.specs.declared.terminal.Terminal.TheVariants.{RoundOpen, RoundClose, SquareOpen, SquareClose, Plus, Dot, Zero, One, Name, Separator}
-use Rattle.text_scopes.specs.declared.terminal.Separator.TheVariants.{Caret}
-use Rattle.text_scopes.specs.Lexemes.{Lexeme, lexeme, heads, is_terminal}
-use Rattle.text_scopes.specs.Parsed.{◌>>=◌, change, wants, place_of}
-use Rattle.text_scopes.specs.Phrases.{cond, Leaf, cons_token, IsPhrase}
-use Rattle.text_scopes.proofs.TerminalEquality.{wants_ok}
-use Rattle.text_scopes.proofs.ParserSoundness.{leaf, bind_ok, chosen, changed_ok, before_ok, wanted_ok, terminal_headed}
+use Rattle.text_parser.specs.declared.terminal.Terminal.TheVariants.{RoundOpen, RoundClose, SquareOpen, SquareClose, Plus, Dot, Zero, One, Name, Separator}
+use Rattle.text_parser.specs.declared.terminal.Separator.TheVariants.{Caret}
+use Rattle.text_parser.specs.Lexemes.{Lexeme, lexeme, heads, is_terminal}
+use Rattle.text_parser.specs.Parsed.{◌>>=◌, change, wants, place_of}
+use Rattle.text_parser.specs.Phrases.{cond, Leaf, cons_token, IsPhrase}
+use Rattle.text_parser.proofs.TerminalEquality.{wants_ok}
+use Rattle.text_parser.proofs.ParserSoundness.{leaf, bind_ok, chosen, changed_ok, before_ok, wanted_ok, terminal_headed}
 use Rattle.while_lang.specs.Blocks.{enter}
 use Rattle.while_lang.proofs.BlockSoundness.{enter_ok, rest_of}
 use Rattle.gkat_front.specs.GkatActions.{GkatActions}

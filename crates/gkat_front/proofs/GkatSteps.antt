@@ -1,10 +1,10 @@
 -- The equation of reading an expression, without the bound on steps.
 use Rattle.std.proofs.Common.{◌≡◌, ℕ, zero, suc, ◌+◌, ◌<◌, List, [], ◌∷◌, length, if◌then◌else◌, Ok, refl, ap, arith, drop}
-use Rattle.text_scopes.specs.declared.terminal.Terminal.TheVariants.{RoundOpen, RoundClose, SquareOpen, SquareClose, Plus, Dot, Zero, One, Name, Separator}
-use Rattle.text_scopes.specs.declared.terminal.Separator.TheVariants.{Caret}
-use Rattle.text_scopes.specs.Lexemes.{Lexeme, lexeme, heads, is_terminal}
-use Rattle.text_scopes.specs.Parsed.{Parsed, ◌>>=◌, change, then_wants, place_of}
-use Rattle.text_scopes.proofs.Within.{Within, bind_within, if_within, weaken, before_within, enter_within, change_within, then_wants_within, headed, bind_same, if_same, enter_same}
+use Rattle.text_parser.specs.declared.terminal.Terminal.TheVariants.{RoundOpen, RoundClose, SquareOpen, SquareClose, Plus, Dot, Zero, One, Name, Separator}
+use Rattle.text_parser.specs.declared.terminal.Separator.TheVariants.{Caret}
+use Rattle.text_parser.specs.Lexemes.{Lexeme, lexeme, heads, is_terminal}
+use Rattle.text_parser.specs.Parsed.{Parsed, ◌>>=◌, change, then_wants, place_of}
+use Rattle.text_parser.proofs.Within.{Within, bind_within, if_within, weaken, before_within, enter_within, change_within, then_wants_within, headed, bind_same, if_same, enter_same}
 use Rattle.while_lang.specs.Blocks.{enter}
 use Rattle.while_lang.proofs.BlockSteps.{wanted_within, wanted_same}
 use Rattle.gkat_front.specs.GkatActions.{GkatActions}

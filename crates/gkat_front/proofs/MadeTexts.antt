@@ -1,19 +1,19 @@
 -- The result for the tokens of items is the result of the items.
 use Rattle.std.proofs.Common.{◌≡◌, ℕ, List, false, Result, Ok, Err, refl}
 use Rattle.kat_model.specs.Expressions.{CondTree, test_without_comparisons}
-use Rattle.text_scopes.specs.declared.fault.TextFault.{TextFault}
-use Rattle.text_scopes.specs.Lexemes.{Lexeme}
-use Rattle.text_scopes.specs.Parsed.{◌>>=◌, before, change}
-use Rattle.text_scopes.specs.Actions.{context}
-use Rattle.text_scopes.specs.Phrases.{cond, Phrase, yield_before, MeetsLookahead}
-use Rattle.text_scopes.specs.Folds.{fold}
-use Rattle.text_scopes.specs.Ends.{Ends}
-use Rattle.text_scopes.proofs.ParserCompleteness.{cond_parsed}
-use Rattle.text_scopes.proofs.Longest.{longest}
-use Rattle.text_scopes.specs.declared.extent.Extent.{Extent}
-use Rattle.text_scopes.specs.ScopeParts.{ScopeParts}
-use Rattle.text_scopes.specs.Measuring.{extents}
-use Rattle.text_scopes.specs.Building.{trees}
+use Rattle.text_parser.specs.declared.fault.TextFault.{TextFault}
+use Rattle.text_parser.specs.Lexemes.{Lexeme}
+use Rattle.text_parser.specs.Parsed.{◌>>=◌, before, change}
+use Rattle.text_parser.specs.Actions.{context}
+use Rattle.text_parser.specs.Phrases.{cond, Phrase, yield_before, MeetsLookahead}
+use Rattle.text_parser.specs.Folds.{fold}
+use Rattle.text_parser.specs.Ends.{Ends}
+use Rattle.text_parser.proofs.ParserCompleteness.{cond_parsed}
+use Rattle.text_parser.proofs.Longest.{longest}
+use Rattle.text_parser.specs.declared.extent.Extent.{Extent}
+use Rattle.text_parser.specs.ScopeParts.{ScopeParts}
+use Rattle.text_parser.specs.Measuring.{extents}
+use Rattle.text_parser.specs.Building.{trees}
 use Rattle.gkat_front.specs.GkatWalks.{whole, parse_gkat}
 use Rattle.gkat_front.specs.GkatMaking.{guard_at, making_expr}
 use Rattle.gkat_front.specs.GkatPhrases.{expr, GkatPhrase, gkat_onto, GkatObeys}

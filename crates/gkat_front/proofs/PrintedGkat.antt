@@ -5,25 +5,25 @@ use Rattle.std.specs.Prelude.{codes}
 use Rattle.kat_model.specs.declared.limits.TheConstants.{MAX_OPEN}
 use Rattle.kat_model.specs.Trees.{TestTree, bottom, top, prim, complement, meet, join}
 use Rattle.kat_model.specs.Expressions.{CondTree, has_comparison, test_without_comparisons}
-use Rattle.text_scopes.specs.declared.fault.TextFault.{TextFault}
-use Rattle.text_scopes.specs.declared.lexer.TheConstants.{MAX_LEN}
-use Rattle.text_scopes.specs.Pieces.{Piece, word, numeral, symbol, gap, spelled}
-use Rattle.text_scopes.proofs.Printed.{printed}
-use Rattle.text_scopes.specs.declared.terminal.Terminal.{Terminal}
-use Rattle.text_scopes.specs.declared.terminal.Terminal.TheVariants.{RoundOpen, SquareOpen, Plus, Dot, Separator}
-use Rattle.text_scopes.specs.declared.terminal.Separator.TheVariants.{Caret}
-use Rattle.text_scopes.specs.Lexemes.{Lexeme, lexeme}
-use Rattle.text_scopes.specs.Parsed.{◌>>=◌}
-use Rattle.text_scopes.specs.Actions.{context}
-use Rattle.text_scopes.specs.Phrases.{lit, cond as condition, Leaf, Phrase, one_conj, one_lit}
-use Rattle.text_scopes.specs.Folds.{fold}
-use Rattle.text_scopes.specs.declared.extent.Extent.{Extent}
-use Rattle.text_scopes.specs.declared.meaning.Meaning.{Meaning}
-use Rattle.text_scopes.specs.declared.meaning.Meaning.TheVariants.{Test, Action}
-use Rattle.text_scopes.specs.ScopeParts.{ScopeParts, IsNameOf}
-use Rattle.text_scopes.specs.Measuring.{extents}
-use Rattle.text_scopes.specs.Building.{trees}
-use Rattle.text_scopes.proofs.Measured.{cond_decided, ok_value}
+use Rattle.text_parser.specs.declared.fault.TextFault.{TextFault}
+use Rattle.text_parser.specs.declared.lexer.TheConstants.{MAX_LEN}
+use Rattle.text_parser.specs.Pieces.{Piece, word, numeral, symbol, gap, spelled}
+use Rattle.text_parser.proofs.Printed.{printed}
+use Rattle.text_parser.specs.declared.terminal.Terminal.{Terminal}
+use Rattle.text_parser.specs.declared.terminal.Terminal.TheVariants.{RoundOpen, SquareOpen, Plus, Dot, Separator}
+use Rattle.text_parser.specs.declared.terminal.Separator.TheVariants.{Caret}
+use Rattle.text_parser.specs.Lexemes.{Lexeme, lexeme}
+use Rattle.text_parser.specs.Parsed.{◌>>=◌}
+use Rattle.text_parser.specs.Actions.{context}
+use Rattle.text_parser.specs.Phrases.{lit, cond as condition, Leaf, Phrase, one_conj, one_lit}
+use Rattle.text_parser.specs.Folds.{fold}
+use Rattle.text_parser.specs.declared.extent.Extent.{Extent}
+use Rattle.text_parser.specs.declared.meaning.Meaning.{Meaning}
+use Rattle.text_parser.specs.declared.meaning.Meaning.TheVariants.{Test, Action}
+use Rattle.text_parser.specs.ScopeParts.{ScopeParts, IsNameOf}
+use Rattle.text_parser.specs.Measuring.{extents}
+use Rattle.text_parser.specs.Building.{trees}
+use Rattle.text_parser.proofs.Measured.{cond_decided, ok_value}
 use Rattle.text_print.specs.Printing.{cond_of, in_round, CondIsNamed, cond_nesting}
 use Rattle.text_print.proofs.WordTerminals.{name_terminal}
 use Rattle.text_print.proofs.Separate.{nothing_ends}

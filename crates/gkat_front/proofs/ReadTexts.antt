@@ -1,11 +1,11 @@
 -- The file that bytes denote is the result of both passes over their tokens.
 use Rattle.std.proofs.Common.{◌≡◌, ℕ, List, map, Result, Ok, sym, ap, ◌∙◌}
-use Rattle.text_scopes.specs.declared.fault.TextFault.{TextFault}
-use Rattle.text_scopes.specs.TokenParts.{TokenParts}
-use Rattle.text_scopes.specs.Lex.{Lexes}
-use Rattle.text_scopes.specs.Lexemes.{lexeme_of}
-use Rattle.text_scopes.specs.Parsed.{◌>>=◌}
-use Rattle.text_scopes.proofs.ParserSoundness.{bind_ok}
+use Rattle.text_parser.specs.declared.fault.TextFault.{TextFault}
+use Rattle.text_parser.specs.TokenParts.{TokenParts}
+use Rattle.text_parser.specs.Lex.{Lexes}
+use Rattle.text_parser.specs.Lexemes.{lexeme_of}
+use Rattle.text_parser.specs.Parsed.{◌>>=◌}
+use Rattle.text_parser.proofs.ParserSoundness.{bind_ok}
 use Rattle.gkat_front.specs.Files.{GkatFileParts, file_of}
 use Rattle.gkat_front.specs.FileFolds.{file_made}
 use Rattle.gkat_front.specs.Making.{scan_file, parse_items, tested}

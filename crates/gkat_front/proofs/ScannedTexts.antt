@@ -1,17 +1,17 @@
 -- The syntax test accepts exactly the items of the grammar.
 use Rattle.std.proofs.Common.{◌≡◌, ℕ, ◌+◌, List, [], ◌∷◌, true, false, Ok, refl, ap, ◌∙◌}
-use Rattle.text_scopes.specs.Lexemes.{Lexeme}
-use Rattle.text_scopes.specs.Parsed.{before}
-use Rattle.text_scopes.specs.Actions.{context}
-use Rattle.text_scopes.specs.Scans.{scanning as scanning_terms, scanning_conds}
-use Rattle.text_scopes.specs.Conds.{parse_cond, disjunction}
-use Rattle.text_scopes.specs.Phrases.{cond, Phrase, yield_before, MeetsLookahead, IsPhrase}
-use Rattle.text_scopes.specs.Folds.{fold}
-use Rattle.text_scopes.specs.Ends.{Ends}
-use Rattle.text_scopes.proofs.ParserSoundness.{cond_found}
-use Rattle.text_scopes.proofs.ParserCompleteness.{cond_parsed}
-use Rattle.text_scopes.proofs.Longest.{longest}
-use Rattle.text_scopes.proofs.Scanned.{scanned}
+use Rattle.text_parser.specs.Lexemes.{Lexeme}
+use Rattle.text_parser.specs.Parsed.{before}
+use Rattle.text_parser.specs.Actions.{context}
+use Rattle.text_parser.specs.Scans.{scanning as scanning_terms, scanning_conds}
+use Rattle.text_parser.specs.Conds.{parse_cond, disjunction}
+use Rattle.text_parser.specs.Phrases.{cond, Phrase, yield_before, MeetsLookahead, IsPhrase}
+use Rattle.text_parser.specs.Folds.{fold}
+use Rattle.text_parser.specs.Ends.{Ends}
+use Rattle.text_parser.proofs.ParserSoundness.{cond_found}
+use Rattle.text_parser.proofs.ParserCompleteness.{cond_parsed}
+use Rattle.text_parser.proofs.Longest.{longest}
+use Rattle.text_parser.proofs.Scanned.{scanned}
 use Rattle.while_lang.proofs.ScannedBlocks.{enters}
 use Rattle.problem_file.specs.Phrases.{Names, one_name, more_names}
 use Rattle.problem_file.specs.Folds.{fold_names}

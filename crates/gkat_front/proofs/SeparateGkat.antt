@@ -2,10 +2,10 @@
 use Rattle.std.proofs.Common.{List, ℕ, ◌∷◌, refl}
 use Rattle.std.specs.Prelude.{codes}
 use Rattle.kat_model.specs.Trees.{bottom, top, prim, complement, meet, join}
-use Rattle.text_scopes.specs.Pieces.{Piece, symbol, gap, spelled, AreSeparate}
-use Rattle.text_scopes.specs.declared.meaning.Meaning.{Meaning}
-use Rattle.text_scopes.specs.declared.meaning.Meaning.TheVariants.{Test, Action}
-use Rattle.text_scopes.specs.ScopeParts.{ScopeParts}
+use Rattle.text_parser.specs.Pieces.{Piece, symbol, gap, spelled, AreSeparate}
+use Rattle.text_parser.specs.declared.meaning.Meaning.{Meaning}
+use Rattle.text_parser.specs.declared.meaning.Meaning.TheVariants.{Test, Action}
+use Rattle.text_parser.specs.ScopeParts.{ScopeParts}
 use Rattle.text_print.specs.Printing.{cond_of}
 use Rattle.text_print.proofs.Separate.{EndsWords, Separate, blank_ends, round_ends, open_alone, close_alone, product_separate, rounded_separate, word_separate, bracket_separate}
 use Rattle.gkat_front.specs.Expressions.{GkatTree, test, act, product, choice, loop}

@@ -1,8 +1,8 @@
 -- Actions on the items of a text, called while it is read.
 use Rattle.std.specs.Prelude.{ℕ, List, Result}
-use Rattle.text_scopes.specs.declared.fault.TextFault.{TextFault}
-use Rattle.text_scopes.specs.Lexemes.{Lexeme}
-use Rattle.text_scopes.specs.Parsed.{Parsed}
+use Rattle.text_parser.specs.declared.fault.TextFault.{TextFault}
+use Rattle.text_parser.specs.Lexemes.{Lexeme}
+use Rattle.text_parser.specs.Parsed.{Parsed}
 
 -- S is the state after the items so far, V the value of an expression. The number is the place of the declared name,
 -- and otherwise the place of the keyword of the item.

@@ -1,7 +1,7 @@
 -- The state of actions after items, in text order, or the first fault.
 use Rattle.std.specs.Prelude.{List, [], ◌∷◌, Result, Ok}
-use Rattle.text_scopes.specs.declared.fault.TextFault.{TextFault}
-use Rattle.text_scopes.specs.Parsed.{◌>>=◌}
+use Rattle.text_parser.specs.declared.fault.TextFault.{TextFault}
+use Rattle.text_parser.specs.Parsed.{◌>>=◌}
 use Rattle.problem_file.specs.Folds.{fold_names}
 use Rattle.gkat_front.specs.GkatPhrases.{expr, GkatPhrase}
 use Rattle.gkat_front.specs.GkatFolds.{gkat_of}

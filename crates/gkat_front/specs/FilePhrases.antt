@@ -1,10 +1,10 @@
 -- The phrases of a text, item by item, and the tokens that spell them.
 use Rattle.std.specs.Prelude.{◌≡◌, List, [], ◌∷◌}
-use Rattle.text_scopes.specs.declared.terminal.Terminal.TheVariants.{Keyword, Separator}
-use Rattle.text_scopes.specs.declared.terminal.Keyword.TheVariants as word
-use Rattle.text_scopes.specs.declared.terminal.Separator.TheVariants.{Comma}
-use Rattle.text_scopes.specs.Lexemes.{Lexeme}
-use Rattle.text_scopes.specs.Phrases.{Leaf, cons_token}
+use Rattle.text_parser.specs.declared.terminal.Terminal.TheVariants.{Keyword, Separator}
+use Rattle.text_parser.specs.declared.terminal.Keyword.TheVariants as word
+use Rattle.text_parser.specs.declared.terminal.Separator.TheVariants.{Comma}
+use Rattle.text_parser.specs.Lexemes.{Lexeme}
+use Rattle.text_parser.specs.Phrases.{Leaf, cons_token}
 use Rattle.problem_file.specs.Phrases.{Names, names_onto, ended}
 use Rattle.gkat_front.specs.GkatPhrases.{expr, GkatPhrase, gkat_onto, GkatObeys, GkatFits}
 

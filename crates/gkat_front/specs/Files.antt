@@ -2,11 +2,11 @@
 use Rattle.std.specs.Prelude.{ℕ, ◌+◌, if◌then◌else◌, nat_lt, Result, Ok, Err, List, Option, Some, None, nat_le}
 use Rattle.std.specs.Option.{is_some}
 use Rattle.kat_model.specs.declared.limits.TheConstants.{MAX_TESTS, MAX_ACTIONS, MAX_TERM_NODES}
-use Rattle.text_scopes.specs.declared.fault.TextFault.{TextFault}
-use Rattle.text_scopes.specs.declared.fault.TextFault.TheVariants.{DoubleName, TooMany, TooLarge, TwoGoals, NoGoal}
-use Rattle.text_scopes.specs.Parsed.{◌>>=◌}
-use Rattle.text_scopes.specs.declared.meaning.Meaning.TheVariants.{Test, Action}
-use Rattle.text_scopes.specs.ScopeParts.{ScopeParts, meaning, empty_scope, declared}
+use Rattle.text_parser.specs.declared.fault.TextFault.{TextFault}
+use Rattle.text_parser.specs.declared.fault.TextFault.TheVariants.{DoubleName, TooMany, TooLarge, TwoGoals, NoGoal}
+use Rattle.text_parser.specs.Parsed.{◌>>=◌}
+use Rattle.text_parser.specs.declared.meaning.Meaning.TheVariants.{Test, Action}
+use Rattle.text_parser.specs.ScopeParts.{ScopeParts, meaning, empty_scope, declared}
 use Rattle.gkat_front.specs.Expressions.{GkatTree, gkat_size}
 
 -- the contents of a text: its names, the numbers of tests and actions that it declares, and two expressions

@@ -1,9 +1,9 @@
 -- Actions on the parts of an expression, called while it is read.
 use Rattle.std.specs.Prelude.{ℕ, List, length, Result}
-use Rattle.text_scopes.specs.declared.fault.TextFault.{TextFault}
-use Rattle.text_scopes.specs.Lexemes.{Lexeme}
-use Rattle.text_scopes.specs.Parsed.{Parsed}
-use Rattle.text_scopes.proofs.Within.{Within}
+use Rattle.text_parser.specs.declared.fault.TextFault.{TextFault}
+use Rattle.text_parser.specs.Lexemes.{Lexeme}
+use Rattle.text_parser.specs.Parsed.{Parsed}
+use Rattle.text_parser.proofs.Within.{Within}
 
 -- C is the value of a condition, P of a product so far, and V of an expression. `cond` takes the number of open
 -- constructs around the condition, and consumes tokens. `name` takes the place and the text of the name.

@@ -3,19 +3,19 @@ use Rattle.std.specs.Prelude.{ℕ, ◌+◌, List, [], ◌∷◌, ◌++◌, lengt
 use Rattle.std.proofs.Common.{arith}
 use Rattle.kat_model.specs.Trees.{TestTree, bottom, top, prim}
 use Rattle.kat_model.specs.Expressions.{test_without_comparisons}
-use Rattle.text_scopes.specs.declared.fault.TextFault.{TextFault}
-use Rattle.text_scopes.specs.declared.fault.TextFault.TheVariants.{UnknownName, Sort}
-use Rattle.text_scopes.specs.Lexemes.{Lexeme}
-use Rattle.text_scopes.specs.Parsed.{Parsed, ◌>>=◌, change}
-use Rattle.text_scopes.specs.Actions.{context}
-use Rattle.text_scopes.specs.Conds.{parse_cond, disjunction}
-use Rattle.text_scopes.proofs.Within.{Within, weaken, change_within}
-use Rattle.text_scopes.proofs.CondSteps.{cond_read_short}
-use Rattle.text_scopes.specs.declared.meaning.Meaning.{Meaning}
-use Rattle.text_scopes.specs.declared.meaning.Meaning.TheVariants.{Test, Action}
-use Rattle.text_scopes.specs.ScopeParts.{ScopeParts, meaning}
-use Rattle.text_scopes.specs.Measuring.{cond_extents}
-use Rattle.text_scopes.specs.Building.{cond_trees}
+use Rattle.text_parser.specs.declared.fault.TextFault.{TextFault}
+use Rattle.text_parser.specs.declared.fault.TextFault.TheVariants.{UnknownName, Sort}
+use Rattle.text_parser.specs.Lexemes.{Lexeme}
+use Rattle.text_parser.specs.Parsed.{Parsed, ◌>>=◌, change}
+use Rattle.text_parser.specs.Actions.{context}
+use Rattle.text_parser.specs.Conds.{parse_cond, disjunction}
+use Rattle.text_parser.proofs.Within.{Within, weaken, change_within}
+use Rattle.text_parser.proofs.CondSteps.{cond_read_short}
+use Rattle.text_parser.specs.declared.meaning.Meaning.{Meaning}
+use Rattle.text_parser.specs.declared.meaning.Meaning.TheVariants.{Test, Action}
+use Rattle.text_parser.specs.ScopeParts.{ScopeParts, meaning}
+use Rattle.text_parser.specs.Measuring.{cond_extents}
+use Rattle.text_parser.specs.Building.{cond_trees}
 use Rattle.gkat_front.specs.Expressions.{GkatTree, test, act, choice, loop, gkat_product}
 use Rattle.gkat_front.specs.GkatActions.{GkatActions}
 

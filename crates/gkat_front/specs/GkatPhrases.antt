@@ -1,10 +1,10 @@
 -- The phrases of expressions, case by case, and the tokens that spell them.
 use Rattle.std.specs.Prelude.{◌≡◌, ◌<◌, ◌+◌, ℕ, List}
 use Rattle.kat_model.specs.declared.limits.TheConstants.{MAX_OPEN}
-use Rattle.text_scopes.specs.declared.terminal.Terminal.TheVariants.{RoundOpen, RoundClose, SquareOpen, SquareClose, Plus, Dot, Zero, One, Name, Separator}
-use Rattle.text_scopes.specs.declared.terminal.Separator.TheVariants.{Caret}
-use Rattle.text_scopes.specs.Lexemes.{Lexeme}
-use Rattle.text_scopes.specs.Phrases.{cond, Leaf, Phrase, cons_token, yield_before, MeetsLookahead, IsWithinLimits}
+use Rattle.text_parser.specs.declared.terminal.Terminal.TheVariants.{RoundOpen, RoundClose, SquareOpen, SquareClose, Plus, Dot, Zero, One, Name, Separator}
+use Rattle.text_parser.specs.declared.terminal.Separator.TheVariants.{Caret}
+use Rattle.text_parser.specs.Lexemes.{Lexeme}
+use Rattle.text_parser.specs.Phrases.{cond, Leaf, Phrase, cons_token, yield_before, MeetsLookahead, IsWithinLimits}
 
 -- "[" cond "]"
 pub record Guard : Type 0 where

@@ -1,13 +1,13 @@
 -- The syntax test of expressions.
 use Rattle.std.specs.Prelude.{ℕ, ◌+◌, List, length, false, true, Ok}
 use Rattle.std.proofs.Common.{arith}
-use Rattle.text_scopes.specs.Lexemes.{Lexeme}
-use Rattle.text_scopes.specs.Parsed.{Parsed}
-use Rattle.text_scopes.specs.Actions.{context}
-use Rattle.text_scopes.specs.Scans.{scanning_conds}
-use Rattle.text_scopes.specs.Conds.{parse_cond, disjunction}
-use Rattle.text_scopes.proofs.Within.{Within, weaken}
-use Rattle.text_scopes.proofs.CondSteps.{cond_read_short}
+use Rattle.text_parser.specs.Lexemes.{Lexeme}
+use Rattle.text_parser.specs.Parsed.{Parsed}
+use Rattle.text_parser.specs.Actions.{context}
+use Rattle.text_parser.specs.Scans.{scanning_conds}
+use Rattle.text_parser.specs.Conds.{parse_cond, disjunction}
+use Rattle.text_parser.proofs.Within.{Within, weaken}
+use Rattle.text_parser.proofs.CondSteps.{cond_read_short}
 use Rattle.gkat_front.specs.GkatActions.{GkatActions}
 
 -- reads a condition with this number of open constructs around it, without a value

@@ -1,10 +1,10 @@
 -- Reading expressions from the start of the tokens.
 use Rattle.std.specs.Prelude.{ℕ, zero, suc, List, [], ◌∷◌, length, drop, if◌then◌else◌, Ok, Err}
-use Rattle.text_scopes.specs.declared.fault.TextFault.TheVariants.{NoMemory, Syntax}
-use Rattle.text_scopes.specs.declared.terminal.Terminal.TheVariants.{RoundOpen, RoundClose, SquareOpen, SquareClose, Plus, Dot, Zero, One, Name, Separator}
-use Rattle.text_scopes.specs.declared.terminal.Separator.TheVariants.{Caret}
-use Rattle.text_scopes.specs.Lexemes.{Lexeme, lexeme, heads, is_terminal}
-use Rattle.text_scopes.specs.Parsed.{Parsed, ◌>>=◌, at_end, place_of, before, change, wants, then_wants}
+use Rattle.text_parser.specs.declared.fault.TextFault.TheVariants.{NoMemory, Syntax}
+use Rattle.text_parser.specs.declared.terminal.Terminal.TheVariants.{RoundOpen, RoundClose, SquareOpen, SquareClose, Plus, Dot, Zero, One, Name, Separator}
+use Rattle.text_parser.specs.declared.terminal.Separator.TheVariants.{Caret}
+use Rattle.text_parser.specs.Lexemes.{Lexeme, lexeme, heads, is_terminal}
+use Rattle.text_parser.specs.Parsed.{Parsed, ◌>>=◌, at_end, place_of, before, change, wants, then_wants}
 use Rattle.while_lang.specs.Blocks.{enter}
 use Rattle.gkat_front.specs.GkatActions.{GkatActions}
 

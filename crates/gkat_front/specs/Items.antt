@@ -1,12 +1,12 @@
 -- Reading the items of a text one after the other, with any actions.
 use Rattle.std.specs.Prelude.{ℕ, List, [], ◌∷◌, Result, Ok, Err}
-use Rattle.text_scopes.specs.declared.fault.TextFault.{TextFault}
-use Rattle.text_scopes.specs.declared.fault.TextFault.TheVariants.{Syntax}
-use Rattle.text_scopes.specs.declared.terminal.Terminal.TheVariants.{Keyword, Separator}
-use Rattle.text_scopes.specs.declared.terminal.Keyword.TheVariants as word
-use Rattle.text_scopes.specs.declared.terminal.Separator.TheVariants.{Comma, Semicolon}
-use Rattle.text_scopes.specs.Lexemes.{Lexeme, lexeme, is_terminal}
-use Rattle.text_scopes.specs.Parsed.{Parsed, ◌>>=◌, at_end, before, then_wants}
+use Rattle.text_parser.specs.declared.fault.TextFault.{TextFault}
+use Rattle.text_parser.specs.declared.fault.TextFault.TheVariants.{Syntax}
+use Rattle.text_parser.specs.declared.terminal.Terminal.TheVariants.{Keyword, Separator}
+use Rattle.text_parser.specs.declared.terminal.Keyword.TheVariants as word
+use Rattle.text_parser.specs.declared.terminal.Separator.TheVariants.{Comma, Semicolon}
+use Rattle.text_parser.specs.Lexemes.{Lexeme, lexeme, is_terminal}
+use Rattle.text_parser.specs.Parsed.{Parsed, ◌>>=◌, at_end, before, then_wants}
 use Rattle.problem_file.specs.Items.{declaration_by, over_items}
 use Rattle.gkat_front.specs.FileActions.{FileActions}
 

@@ -1,12 +1,12 @@
 -- The laws of texts. Each is the contract of a function that does nothing.
 use Rattle.std.specs.Prelude.{◌≡◌, ◌↔◌, ◌≤◌, ℕ, List, [], length, map, Ok}
 use Rattle.kat_model.specs.declared.limits.TheConstants.{MAX_OPEN}
-use Rattle.text_scopes.specs.declared.lexer.TheConstants.{MAX_LEN}
-use Rattle.text_scopes.specs.Lex.{Lexes}
-use Rattle.text_scopes.specs.Pieces.{Piece, spelled as bytes_of, parts_from}
-use Rattle.text_scopes.specs.Lexemes.{Lexeme, lexeme_of}
-use Rattle.text_scopes.specs.declared.meaning.Meaning.{Meaning}
-use Rattle.text_scopes.specs.ScopeParts.{ScopeParts}
+use Rattle.text_parser.specs.declared.lexer.TheConstants.{MAX_LEN}
+use Rattle.text_parser.specs.Lex.{Lexes}
+use Rattle.text_parser.specs.Pieces.{Piece, spelled as bytes_of, parts_from}
+use Rattle.text_parser.specs.Lexemes.{Lexeme, lexeme_of}
+use Rattle.text_parser.specs.declared.meaning.Meaning.{Meaning}
+use Rattle.text_parser.specs.ScopeParts.{ScopeParts}
 use Rattle.gkat_front.specs.Expressions.{GkatTree}
 use Rattle.gkat_front.specs.GkatPhrases.{expr, IsGkatPhrase}
 use Rattle.gkat_front.specs.GkatFolds.{gkat_of}

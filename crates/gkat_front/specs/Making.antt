@@ -1,8 +1,8 @@
 -- The effect of each item of a text on the state after the items before it, and the syntax test of items.
 use Rattle.std.specs.Prelude.{List, Result, Ok}
-use Rattle.text_scopes.specs.declared.fault.TextFault.{TextFault}
-use Rattle.text_scopes.specs.Lexemes.{Lexeme}
-use Rattle.text_scopes.specs.Parsed.{◌>>=◌}
+use Rattle.text_parser.specs.declared.fault.TextFault.{TextFault}
+use Rattle.text_parser.specs.Lexemes.{Lexeme}
+use Rattle.text_parser.specs.Parsed.{◌>>=◌}
 use Rattle.gkat_front.specs.Expressions.{GkatTree}
 use Rattle.gkat_front.specs.GkatWalks.{whole, parse_gkat}
 use Rattle.gkat_front.specs.GkatScans.{scanning_expr}

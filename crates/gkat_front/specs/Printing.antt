@@ -1,10 +1,10 @@
 -- Printed expressions: their texts, and the pieces that spell the texts.
 use Rattle.std.specs.Prelude.{◌+◌, max, ℕ, List, ◌∷◌, ◌++◌, codes, Bool, true, false, if◌then◌else◌}
 use Rattle.kat_model.specs.Trees.{TestTree, bottom, top}
-use Rattle.text_scopes.specs.Pieces.{Piece, word, numeral, symbol, gap}
-use Rattle.text_scopes.specs.declared.meaning.Meaning.{Meaning}
-use Rattle.text_scopes.specs.declared.meaning.Meaning.TheVariants.{Action}
-use Rattle.text_scopes.specs.ScopeParts.{ScopeParts, IsNameOf}
+use Rattle.text_parser.specs.Pieces.{Piece, word, numeral, symbol, gap}
+use Rattle.text_parser.specs.declared.meaning.Meaning.{Meaning}
+use Rattle.text_parser.specs.declared.meaning.Meaning.TheVariants.{Action}
+use Rattle.text_parser.specs.ScopeParts.{ScopeParts, IsNameOf}
 use Rattle.text_print.specs.Printing.{cond_of, cond_text, test_text, cond_pieces, test_pieces, in_round, CondIsNamed, cond_nesting, test_nesting}
 use Rattle.gkat_front.specs.Expressions.{GkatTree, test, act, product, choice, loop}
 

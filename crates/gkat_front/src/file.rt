@@ -1,6 +1,6 @@
 //! The contents of a text of GKAT.
 use crate::gkat::Gkat;
-use text_scopes::Scope;
+use text_parser::Scope;
 
 /// The contents of a text of GKAT: its names, the numbers of tests and actions that it declares, and the two
 /// expressions to compare.

@@ -1,13 +1,13 @@
 //! Methods called on the items of a text while they are read.
 ghost use Rattle.std.specs.Prelude.{length, drop};
-ghost use Rattle.text_scopes.specs.Lexemes.{lexemes};
-ghost use Rattle.text_scopes.specs.Parsed.{Makes, Reads, Goes};
-ghost use Rattle.text_scopes.specs.ScopeParts.{IsIdentifier};
+ghost use Rattle.text_parser.specs.Lexemes.{lexemes};
+ghost use Rattle.text_parser.specs.Parsed.{Makes, Reads, Goes};
+ghost use Rattle.text_parser.specs.ScopeParts.{IsIdentifier};
 ghost use Rattle.problem_file.specs.Working.Walks.{Does};
 ghost use Rattle.gkat_front.specs.FileActions.{FileActions};
 ghost use Rattle.gkat_front.specs.Working.Declarations.{declare_by};
 
-use text_scopes::{TextFault, Token};
+use text_parser::{TextFault, Token};
 
 // The kinds of declared names.
 #[derive(Clone, Copy)]

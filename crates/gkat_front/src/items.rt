@@ -1,7 +1,7 @@
 //! One traversal of the items of a text for all readings.
 ghost use Rattle.std.specs.Prelude.{◌≡◌, ◌+◌, ◌<◌, ◌≤◌, length, drop, IfOk};
-ghost use Rattle.text_scopes.specs.Lexemes.{lexemes};
-ghost use Rattle.text_scopes.specs.Parsed.{Reads, Goes};
+ghost use Rattle.text_parser.specs.Lexemes.{lexemes};
+ghost use Rattle.text_parser.specs.Parsed.{Reads, Goes};
 ghost use Rattle.problem_file.specs.Items.{at_name, over_names, declaration_by};
 ghost use Rattle.problem_file.specs.Tokens.{AreTokens};
 ghost use Rattle.problem_file.specs.Working.Walks.{Steps, Does};
@@ -10,10 +10,10 @@ ghost use Rattle.gkat_front.specs.Working.Declarations.{declare_by};
 
 use crate::item_reading::{GkatDeclared, GkatItemReading};
 use problem_file::name_at;
-use text_scopes::{Keyword, Separator, Terminal, TextFault, Token, expect, is_at, syntax_fault_at, terminal_at};
+use text_parser::{Keyword, Separator, Terminal, TextFault, Token, expect, is_at, syntax_fault_at, terminal_at};
 
 // Declares the name at an index, and returns the index after it.
-#[tactic(auto, using(text_scopes::proofs::Tokens::next_drop))]
+#[tactic(auto, using(text_parser::proofs::Tokens::next_drop))]
 fn read_name<R: GkatItemReading>(
     reading: &mut R,
     toks: &[Token],
@@ -29,7 +29,7 @@ fn read_name<R: GkatItemReading>(
 }
 
 // Declares names separated by commas.
-#[tactic(auto, using(text_scopes::proofs::Tokens::next_drop))]
+#[tactic(auto, using(text_parser::proofs::Tokens::next_drop))]
 fn read_names<R: GkatItemReading>(
     reading: &mut R,
     toks: &[Token],
@@ -94,7 +94,7 @@ fn read_equal<R: GkatItemReading>(
     reading.ask(at, left, right).and(Ok(end))
 }
 
-#[tactic(auto, using(text_scopes::proofs::Tokens::next_drop))]
+#[tactic(auto, using(text_parser::proofs::Tokens::next_drop))]
 fn read_item<R: GkatItemReading>(
     reading: &mut R,
     toks: &[Token],

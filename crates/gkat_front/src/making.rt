@@ -1,6 +1,6 @@
 //! Builds the expressions of a text.
 ghost use Rattle.std.specs.Prelude.{◌≡◌};
-ghost use Rattle.text_scopes.specs.Parsed.{Makes};
+ghost use Rattle.text_parser.specs.Parsed.{Makes};
 ghost use Rattle.kat_model.specs.Trees.{test_tree};
 ghost use Rattle.gkat_front.specs.Expressions.{gkat_tree};
 ghost use Rattle.gkat_front.specs.GkatMaking.{named_by, making_expr};
@@ -10,7 +10,7 @@ use crate::gkat_reading::GkatReading;
 use crate::products::gkat_product;
 use kat_model::{Test, test_without_comparisons};
 use std::alloc::Global;
-use text_scopes::{Meaning, Scope, TextFault, Token, build_cond, measure_cond};
+use text_parser::{Meaning, Scope, TextFault, Token, build_cond, measure_cond};
 
 // Builds the tree of an expression, with the names of the scope.
 #[derive(Clone, Copy)]

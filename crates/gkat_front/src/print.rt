@@ -1,7 +1,7 @@
 //! Prints expressions.
 ghost use Rattle.std.specs.Prelude.{◌≡◌, [], ◌++◌, codes, OnOk, IfOk};
 ghost use Rattle.kat_model.specs.Trees.{test_tree};
-ghost use Rattle.text_scopes.specs.Pieces.{spelled};
+ghost use Rattle.text_parser.specs.Pieces.{spelled};
 ghost use Rattle.text_print.specs.Printing.{name_of};
 ghost use Rattle.gkat_front.specs.Expressions.{test, gkat_tree};
 ghost use Rattle.gkat_front.specs.Printing.{is_loop, guard_text, gkat_text, gkat_pieces};
@@ -10,7 +10,7 @@ use crate::gkat::Gkat;
 use kat_model::{NoMemory, Test};
 use std::alloc::Global;
 use text_print::{put_name, put_test};
-use text_scopes::{Meaning, Scope};
+use text_parser::{Meaning, Scope};
 
 // Appends the test in brackets.
 fn put_guard(out: &mut Vec<u8>, guard: &Test, scope: &Scope) -> Result<(), NoMemory>

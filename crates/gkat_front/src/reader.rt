@@ -8,7 +8,7 @@ use crate::making::MakeExpr;
 use crate::walk::read_expr;
 use kat_model::{MAX_ACTIONS, MAX_TERM_NODES, MAX_TESTS};
 use std::alloc::Global;
-use text_scopes::{Meaning, Scope, TextFault, Token};
+use text_parser::{Meaning, Scope, TextFault, Token};
 
 // Reads items that passed the syntax test.
 pub(crate) struct GkatReader {
@@ -35,8 +35,8 @@ impl Drop for GkatReader {
 
 impl GkatReader {
     ghost use Rattle.std.specs.Prelude.{◌≡◌};
-    ghost use Rattle.text_scopes.specs.Parsed.{Makes};
-    ghost use Rattle.text_scopes.specs.ScopeParts.{IsIdentifier};
+    ghost use Rattle.text_parser.specs.Parsed.{Makes};
+    ghost use Rattle.text_parser.specs.ScopeParts.{IsIdentifier};
     ghost use Rattle.problem_file.specs.Working.Walks.{Does};
     ghost use Rattle.gkat_front.specs.Files.{start, check_new, declare_test, declare_action, file_of};
     ghost use Rattle.gkat_front.specs.FileViews.{file_parts};

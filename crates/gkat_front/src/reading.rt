@@ -1,9 +1,9 @@
 //! Reads a text of GKAT.
 ghost use Rattle.std.specs.Prelude.{◌≡◌, ◌≤◌, length, IfErr};
-ghost use Rattle.text_scopes.specs.declared.fault.TextFault.TheVariants.{NoMemory as NoRoom};
-ghost use Rattle.text_scopes.specs.declared.lexer.TheConstants.{MAX_LEN as MOST};
-ghost use Rattle.text_scopes.specs.Lexemes.{lexemes};
-ghost use Rattle.text_scopes.specs.Parsed.{Makes};
+ghost use Rattle.text_parser.specs.declared.fault.TextFault.TheVariants.{NoMemory as NoRoom};
+ghost use Rattle.text_parser.specs.declared.lexer.TheConstants.{MAX_LEN as MOST};
+ghost use Rattle.text_parser.specs.Lexemes.{lexemes};
+ghost use Rattle.text_parser.specs.Parsed.{Makes};
 ghost use Rattle.problem_file.specs.Tokens.{AreTokens};
 ghost use Rattle.gkat_front.specs.Files.{GkatFileParts};
 ghost use Rattle.gkat_front.specs.FileViews.{file_parts};
@@ -17,7 +17,7 @@ use crate::reader::GkatReader;
 use crate::scan::test_syntax;
 use problem_file::{fault_in_text, text_of};
 use std::alloc::Global;
-use text_scopes::{TextFault, Token, tokens};
+use text_parser::{TextFault, Token, tokens};
 
 fn parse_items(alloc: Global, toks: &[Token]) -> Result<GkatReader, TextFault>
     requires tokens { AreTokens toks.now }

@@ -1,6 +1,6 @@
 //! The syntax test of texts, which allocates nothing.
 ghost use Rattle.std.specs.Prelude.{◌≡◌};
-ghost use Rattle.text_scopes.specs.Lexemes.{lexemes};
+ghost use Rattle.text_parser.specs.Lexemes.{lexemes};
 ghost use Rattle.problem_file.specs.Tokens.{AreTokens};
 ghost use Rattle.gkat_front.specs.GkatScans.{scanning_expr};
 ghost use Rattle.gkat_front.specs.Making.{scanning, scan_file};
@@ -9,7 +9,7 @@ use crate::gkat_reading::GkatReading;
 use crate::item_reading::{GkatDeclared, GkatItemReading};
 use crate::items::read_items;
 use crate::walk::read_expr;
-use text_scopes::{Context, Scan, TextFault, Token};
+use text_parser::{Context, Scan, TextFault, Token};
 
 // Makes nothing of an expression and refuses no part.
 struct ExprScan;
@@ -43,7 +43,7 @@ impl GkatReading for ExprScan {
         from: usize,
         depth: usize,
     ) -> Result<((), usize), TextFault> {
-        text_scopes::parse_cond(&Scan, toks, from, Context::outermost(depth, true))
+        text_parser::parse_cond(&Scan, toks, from, Context::outermost(depth, true))
     }
 
     fn never(&self) {}

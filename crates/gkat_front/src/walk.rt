@@ -1,11 +1,11 @@
 //! One traversal of expressions for all readings.
 ghost use Rattle.std.specs.Prelude.{◌≡◌, length, drop};
-ghost use Rattle.text_scopes.specs.Lexemes.{lexemes};
-ghost use Rattle.text_scopes.specs.Parsed.{Reads, Goes};
+ghost use Rattle.text_parser.specs.Lexemes.{lexemes};
+ghost use Rattle.text_parser.specs.Parsed.{Reads, Goes};
 ghost use Rattle.gkat_front.specs.GkatWalks.{guard_by, tested_by, round_by, unit_by, factor_by, product_by, whole, parse_gkat};
 
 use crate::gkat_reading::GkatReading;
-use text_scopes::{Separator, Terminal, TextFault, Token, expect, is_at, place_at, syntax_fault_at, terminal_at, text_at, with_end};
+use text_parser::{Separator, Terminal, TextFault, Token, expect, is_at, place_at, syntax_fault_at, terminal_at, text_at, with_end};
 use while_lang::enter;
 
 // Reads a condition in brackets.
@@ -41,7 +41,7 @@ fn tested<R: GkatReading>(
 
 // Reads an expression in parentheses.
 #[cycle(exprs)]
-#[tactic(auto, using(text_scopes::proofs::Tokens::next_drop))]
+#[tactic(auto, using(text_parser::proofs::Tokens::next_drop))]
 fn round<R: GkatReading>(
     reading: &R,
     toks: &[Token],
@@ -59,7 +59,7 @@ fn round<R: GkatReading>(
 }
 
 #[cycle(exprs)]
-#[tactic(auto, using(text_scopes::proofs::Tokens::next_drop))]
+#[tactic(auto, using(text_parser::proofs::Tokens::next_drop))]
 fn unit<R: GkatReading>(
     reading: &R,
     toks: &[Token],
@@ -84,7 +84,7 @@ fn unit<R: GkatReading>(
 
 // Reads a unit, or a loop over a unit.
 #[cycle(exprs)]
-#[tactic(auto, using(text_scopes::proofs::Tokens::next_drop))]
+#[tactic(auto, using(text_parser::proofs::Tokens::next_drop))]
 fn factor<R: GkatReading>(
     reading: &R,
     toks: &[Token],
@@ -104,7 +104,7 @@ fn factor<R: GkatReading>(
 
 // Reads factors separated by dots.
 #[cycle(exprs)]
-#[tactic(auto, using(crate::proofs::GkatSteps::gkat_step, text_scopes::proofs::Tokens::next_drop))]
+#[tactic(auto, using(crate::proofs::GkatSteps::gkat_step, text_parser::proofs::Tokens::next_drop))]
 fn product<R: GkatReading>(
     reading: &R,
     toks: &[Token],
@@ -130,7 +130,7 @@ fn product<R: GkatReading>(
 // `usize::MAX` after the last token), `TooDeep` at the token that exceeds `MAX_OPEN` open constructs, or the fault with
 // which the reading refuses a part.
 #[cycle(exprs)]
-#[tactic(auto, using(crate::proofs::GkatSteps::gkat_step, text_scopes::proofs::Tokens::next_drop))]
+#[tactic(auto, using(crate::proofs::GkatSteps::gkat_step, text_parser::proofs::Tokens::next_drop))]
 pub(crate) fn read_expr<R: GkatReading>(
     reading: &R,
     toks: &[Token],

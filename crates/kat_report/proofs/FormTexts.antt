@@ -1,7 +1,7 @@
 -- The text of a form, term by term.
 use Rattle.std.proofs.Common.{◌≡◌, ◌<◌, ◌≤◌, ◌+◌, ℕ, List, ◌∷◌, ◌++◌, length, get_or, drop, Bool, false, refl, sym, ap, ◌∙◌, append_assoc}
 use Rattle.std.proofs.lemmas.List.{drop_more, drop_all}
-use Rattle.text_scopes.specs.declared.meaning.Meaning.{Meaning}
+use Rattle.text_parser.specs.declared.meaning.Meaning.{Meaning}
 use Rattle.linear_forms.specs.Forms.{FormTree, constant, var, product, TermTree, with_term, form_of}
 use Rattle.kat_report.specs.Shows.{sum_text}
 use Rattle.kat_report.specs.Working.SumParts.{term_text, constant_text}

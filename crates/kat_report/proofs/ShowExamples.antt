@@ -5,8 +5,8 @@ use Rattle.std.specs.Fmt.{digits}
 use Rattle.kat_model.specs.Expressions.{number, variable, plus, always, compared}
 use Rattle.kat_model.specs.declared.expression.Rel.TheVariants.{Eq}
 use Rattle.kat_model.specs.declared.expression.Width.TheVariants.{W64}
-use Rattle.text_scopes.specs.declared.meaning.Meaning.TheVariants.{Var}
-use Rattle.text_scopes.specs.ScopeParts.{ScopeParts, IsNameOf}
+use Rattle.text_parser.specs.declared.meaning.Meaning.TheVariants.{Var}
+use Rattle.text_parser.specs.ScopeParts.{ScopeParts, IsNameOf}
 use Rattle.text_print.specs.Printing.{name_of}
 use Rattle.text_print.proofs.NameOf.{name_is}
 use Rattle.while_lang.specs.Programs.{empty, assign_then}

@@ -8,9 +8,9 @@ use Rattle.std.proofs.lemmas.List.{append-nil}
 use Rattle.kat_model.specs.declared.limits.TheConstants.{MAX_HYPS, MAX_OPEN, MAX_TEXT_BYTES}
 use Rattle.kat_model.specs.Trees.{Term}
 use Rattle.kat_model.specs.Problems.{IsProblem}
-use Rattle.text_scopes.specs.declared.meaning.Meaning.{Meaning}
-use Rattle.text_scopes.specs.declared.meaning.Meaning.TheVariants.{Test, Action, Var}
-use Rattle.text_scopes.specs.ScopeParts.{ScopeParts, IsWellFormed}
+use Rattle.text_parser.specs.declared.meaning.Meaning.{Meaning}
+use Rattle.text_parser.specs.declared.meaning.Meaning.TheVariants.{Test, Action, Var}
+use Rattle.text_parser.specs.ScopeParts.{ScopeParts, IsWellFormed}
 use Rattle.text_print.specs.Printing.{name_of, term_nesting}
 use Rattle.linear_forms.specs.Forms.{FormTree, constant, var_term, product_term}
 use Rattle.linear_forms.specs.Atomic.{Atomic}

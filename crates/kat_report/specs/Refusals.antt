@@ -1,8 +1,8 @@
 -- The lines with the reasons why a text or evidence is refused.
 use Rattle.std.specs.Prelude.{ℕ, List, [], ◌∷◌, ◌++◌, codes, Option, Some, None}
 use Rattle.std.specs.Fmt.{decimal}
-use Rattle.text_scopes.specs.declared.fault.TextFault.{TextFault}
-use Rattle.text_scopes.specs.declared.fault.TextFault.TheVariants.{NoMemory, TooLong, NotUtf8, BadToken, Syntax, TooDeep, NumberTooWide, UnknownName, DoubleName, Sort, TooLarge, TooMany, NoGoal, TwoGoals}
+use Rattle.text_parser.specs.declared.fault.TextFault.{TextFault}
+use Rattle.text_parser.specs.declared.fault.TextFault.TheVariants.{NoMemory, TooLong, NotUtf8, BadToken, Syntax, TooDeep, NumberTooWide, UnknownName, DoubleName, Sort, TooLarge, TooMany, NoGoal, TwoGoals}
 use Rattle.certificate.specs.declared.evidence.EvidenceFault.{EvidenceFault}
 use Rattle.certificate.specs.declared.evidence.EvidenceFault.TheVariants.{NoMemory as NoRoom, Header, Line, NodeOrder, DoubleNode, SetOrder, NumberTooWide as NumeralTooWide, Truncated, Trailing}
 

@@ -4,9 +4,9 @@ use Rattle.std.specs.Prelude.{ℕ, List, [], ◌∷◌, ◌++◌, codes, Bool, t
 use Rattle.std.specs.List.{zip, enumerate_from}
 use Rattle.std.specs.Fmt.{decimal}
 use Rattle.kat_model.specs.Trees.{Term}
-use Rattle.text_scopes.specs.declared.meaning.Meaning.{Meaning}
-use Rattle.text_scopes.specs.declared.meaning.Meaning.TheVariants.{Test, Action, Var}
-use Rattle.text_scopes.specs.ScopeParts.{ScopeParts}
+use Rattle.text_parser.specs.declared.meaning.Meaning.{Meaning}
+use Rattle.text_parser.specs.declared.meaning.Meaning.TheVariants.{Test, Action, Var}
+use Rattle.text_parser.specs.ScopeParts.{ScopeParts}
 use Rattle.text_print.specs.Printing.{name_of}
 use Rattle.linear_forms.specs.Forms.{FormTree, constant, var_term, product_term}
 use Rattle.linear_forms.specs.Atomic.{Atomic}

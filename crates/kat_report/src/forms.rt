@@ -10,7 +10,7 @@ use kat_model::NoMemory;
 use linear_forms::{Atomic, Form, Mono, Term};
 use std::alloc::Global;
 use text_print::put_name;
-use text_scopes::{Meaning, Scope};
+use text_parser::{Meaning, Scope};
 
 // Writes the text before a part of a sum, unless the part is the first.
 fn put_plus(out: &mut Vec<u8>, first: bool) -> Result<(), NoMemory>

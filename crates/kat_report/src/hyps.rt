@@ -9,7 +9,7 @@ use abstraction::Rule;
 use kat_model::{NoMemory, Problem};
 use problem_file::put_hyp;
 use std::alloc::Global;
-use text_scopes::Scope;
+use text_parser::Scope;
 
 // Writes the name of a rule over two tests, and the tests.
 fn put_fact(

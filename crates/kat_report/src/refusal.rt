@@ -5,7 +5,7 @@ ghost use Rattle.kat_report.specs.Refusals.{fault_word, fault_place, text_fault_
 use crate::writing::{put_numbered, put_word};
 use kat_model::NoMemory;
 use std::alloc::Global;
-use text_scopes::TextFault;
+use text_parser::TextFault;
 
 fn word(fault: &TextFault) -> &'static str
     ensures { result.now ≡ fault_word fault.now }

@@ -11,7 +11,7 @@ use kat_model::NoMemory;
 use problem_file::{put_action_name, put_test_name};
 use std::alloc::Global;
 use text_print::put_name;
-use text_scopes::{Meaning, Scope};
+use text_parser::{Meaning, Scope};
 
 fn put_test_comment(
     alloc: Global,

@@ -8,7 +8,7 @@ use crate::writing::{put, put_number, put_word};
 use kat_model::NoMemory;
 use std::alloc::Global;
 use text_print::name_of;
-use text_scopes::{Meaning, Scope};
+use text_parser::{Meaning, Scope};
 use while_lang::{Outcome, Store};
 
 fn put_value(alloc: Global, out: &mut Vec<u8>, name: &str, value: u64) -> Result<(), NoMemory>

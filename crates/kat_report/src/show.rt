@@ -9,7 +9,7 @@ use abstraction::Abstract;
 use kat_model::NoMemory;
 use problem_file::{plain_scope, put_actions, put_goal, put_tests};
 use std::alloc::Global;
-use text_scopes::Scope;
+use text_parser::Scope;
 use while_lang::File;
 
 // Writes the text of the problem to an empty list, given a scope with its names.

@@ -1,13 +1,13 @@
 -- The syntax check of a block finds the same end as the grammar.
 use Rattle.std.proofs.Common.{◌≡◌, ℕ, List, drop, Result, Ok, Err, ap}
-use Rattle.text_scopes.specs.declared.fault.TextFault.{TextFault}
-use Rattle.text_scopes.specs.declared.fault.TextFault.TheVariants.{NoMemory}
-use Rattle.text_scopes.specs.Lexemes.{Lexeme}
-use Rattle.text_scopes.specs.Parsed.{Parsed, ◌>>=◌, Reads, Wants}
+use Rattle.text_parser.specs.declared.fault.TextFault.{TextFault}
+use Rattle.text_parser.specs.declared.fault.TextFault.TheVariants.{NoMemory}
+use Rattle.text_parser.specs.Lexemes.{Lexeme}
+use Rattle.text_parser.specs.Parsed.{Parsed, ◌>>=◌, Reads, Wants}
 use Rattle.while_lang.specs.Blocks.{block, parse_block}
 use Rattle.while_lang.specs.BlockScans.{scanning_blocks, scan_block}
 use Rattle.while_lang.specs.BlockFaults.{IsBlockFault}
-use Rattle.text_scopes.proofs.Scanned.{ended}
+use Rattle.text_parser.proofs.Scanned.{ended}
 
 abbrev fault_of : Result (List Lexeme) TextFault → TextFault
 fault_of (Ok ts) = NoMemory

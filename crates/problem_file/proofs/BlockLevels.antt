@@ -1,11 +1,11 @@
 -- A block that is well scoped and within the depth limit is not too deep after the programs that it names are expanded.
 use Rattle.std.proofs.Common.{ℕ, ◌+◌, ◌≤◌, max, true, false, List, slice_get, Option, Some, None, arith}
 use Rattle.kat_model.specs.declared.limits.TheConstants.{MAX_OPEN}
-use Rattle.text_scopes.specs.Actions.{context}
-use Rattle.text_scopes.specs.declared.meaning.Meaning.{Meaning}
-use Rattle.text_scopes.specs.declared.meaning.Meaning.TheVariants.{Test, Action, Var, Term, Prog}
-use Rattle.text_scopes.specs.ScopeParts.{ScopeParts, meaning}
-use Rattle.text_scopes.specs.Sound.{nesting}
+use Rattle.text_parser.specs.Actions.{context}
+use Rattle.text_parser.specs.declared.meaning.Meaning.{Meaning}
+use Rattle.text_parser.specs.declared.meaning.Meaning.TheVariants.{Test, Action, Var, Term, Prog}
+use Rattle.text_parser.specs.ScopeParts.{ScopeParts, meaning}
+use Rattle.text_parser.specs.Sound.{nesting}
 use Rattle.while_lang.specs.NamedProgs.{ProgParts}
 use Rattle.while_lang.specs.BlockPhrases.{BlockSymbol, BlockPhrase, braced, no_stmts, more_stmts, skip_stmt, abort_stmt, assert_stmt, name_stmt, assign_stmt, if_stmt, while_stmt, no_else, else_block, else_if, BlockFits}
 use Rattle.while_lang.specs.BlockSound.{IsShallow, IsStmtName, BlockIsSound, prog_nesting, name_nesting, block_nesting}

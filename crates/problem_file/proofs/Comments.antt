@@ -13,15 +13,15 @@ use Rattle.std.proofs.lemmas.Str.{encode_ascii, IsUtf8-append, IsUtf8-nil, IsUtf
 use Rattle.std.proofs.lemmas.Str.Ascii.{IsAscii-cons}
 use Rattle.unicode_ident.specs.Ident.{is_xid_continue}
 use Rattle.unicode_ident.proofs.IdentLemmas.{is_xid_continue-ascii}
-use Rattle.text_scopes.specs.declared.token.Kind.TheVariants.{Name}
-use Rattle.text_scopes.specs.Kinds.{IsToken}
-use Rattle.text_scopes.proofs.Beginnings.{name_begins, begins_continues}
-use Rattle.text_scopes.proofs.Gaps.{char_high}
-use Rattle.text_scopes.proofs.Printed.{token_utf8}
-use Rattle.text_scopes.specs.declared.meaning.Meaning.{Meaning}
-use Rattle.text_scopes.specs.declared.meaning.Meaning.TheVariants.{Test, Action}
-use Rattle.text_scopes.specs.ScopeParts.{ScopeParts, meaning, Means, IsWellFormed}
-use Rattle.text_scopes.proofs.MeaningOrder.{same_meaning}
+use Rattle.text_parser.specs.declared.token.Kind.TheVariants.{Name}
+use Rattle.text_parser.specs.Kinds.{IsToken}
+use Rattle.text_parser.proofs.Beginnings.{name_begins, begins_continues}
+use Rattle.text_parser.proofs.Gaps.{char_high}
+use Rattle.text_parser.proofs.Printed.{token_utf8}
+use Rattle.text_parser.specs.declared.meaning.Meaning.{Meaning}
+use Rattle.text_parser.specs.declared.meaning.Meaning.TheVariants.{Test, Action}
+use Rattle.text_parser.specs.ScopeParts.{ScopeParts, meaning, Means, IsWellFormed}
+use Rattle.text_parser.proofs.MeaningOrder.{same_meaning}
 use Rattle.text_print.specs.Printing.{is_meant, first_name, name_of}
 use Rattle.problem_file.specs.CommentedTexts.{IsComment}
 use Rattle.problem_file.specs.Questions.{plain_name}

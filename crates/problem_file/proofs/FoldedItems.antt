@@ -1,17 +1,17 @@
 -- Reading the tokens of items with any actions gives the fold of the actions over the items.
 use Rattle.std.proofs.Common.{◌≡◌, ℕ, zero, suc, ◌≤◌, List, [], ◌∷◌, length, drop, Bool, true, false, cond as if_true, Result, Ok, Err, Option, Some, None, refl, ap, ◌∙◌, arith}
 use Rattle.std.specs.Option.{option_and_then}
-use Rattle.text_scopes.specs.declared.fault.TextFault.{TextFault}
-use Rattle.text_scopes.specs.declared.terminal.Terminal.TheVariants.{Keyword, Separator, Zero}
-use Rattle.text_scopes.specs.declared.terminal.Separator.TheVariants.{Comma, Semicolon, CurlyClose, Equals}
-use Rattle.text_scopes.specs.Lexemes.{Lexeme, is_terminal}
-use Rattle.text_scopes.specs.Parsed.{Parsed, ◌>>=◌, before, change, then_wants}
-use Rattle.text_scopes.specs.Actions.{context}
-use Rattle.text_scopes.specs.Phrases.{term, cond, Leaf, Phrase, cons_token, yield_before, MeetsLookahead}
-use Rattle.text_scopes.specs.Ends.{Ends}
-use Rattle.text_scopes.specs.Folds.{fold}
-use Rattle.text_scopes.proofs.ParserCompleteness.{then_rest, checked, changed, closed, term_parsed, cond_parsed}
-use Rattle.text_scopes.proofs.Longest.{longest}
+use Rattle.text_parser.specs.declared.fault.TextFault.{TextFault}
+use Rattle.text_parser.specs.declared.terminal.Terminal.TheVariants.{Keyword, Separator, Zero}
+use Rattle.text_parser.specs.declared.terminal.Separator.TheVariants.{Comma, Semicolon, CurlyClose, Equals}
+use Rattle.text_parser.specs.Lexemes.{Lexeme, is_terminal}
+use Rattle.text_parser.specs.Parsed.{Parsed, ◌>>=◌, before, change, then_wants}
+use Rattle.text_parser.specs.Actions.{context}
+use Rattle.text_parser.specs.Phrases.{term, cond, Leaf, Phrase, cons_token, yield_before, MeetsLookahead}
+use Rattle.text_parser.specs.Ends.{Ends}
+use Rattle.text_parser.specs.Folds.{fold}
+use Rattle.text_parser.proofs.ParserCompleteness.{then_rest, checked, changed, closed, term_parsed, cond_parsed}
+use Rattle.text_parser.proofs.Longest.{longest}
 use Rattle.while_lang.specs.BlockPhrases.{block, BlockPhrase, block_before, BlockObeys}
 use Rattle.while_lang.specs.BlockFolds.{fold_block}
 use Rattle.while_lang.proofs.BlockCompleteness.{parsed as block_parsed}

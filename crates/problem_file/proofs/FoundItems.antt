@@ -2,20 +2,20 @@
 -- deep or too wide.
 use Rattle.std.proofs.Common.{◌≡◌, ℕ, zero, suc, List, [], ◌∷◌, length, drop, Bool, true, false, cond as if_true, Result, Ok, Err, Option, Some, None, refl, ap, subst, ◌∙◌}
 use Rattle.std.specs.Option.{option_and_then}
-use Rattle.text_scopes.specs.declared.fault.TextFault.{TextFault}
-use Rattle.text_scopes.specs.declared.terminal.Terminal.TheVariants.{Name, Keyword, Separator, Zero, One, Number}
-use Rattle.text_scopes.specs.declared.terminal.Keyword.TheVariants as word
-use Rattle.text_scopes.specs.declared.terminal.Separator.TheVariants.{Comma, Semicolon, CurlyOpen, CurlyClose, Equals}
-use Rattle.text_scopes.specs.Lexemes.{Lexeme, lexeme, heads, is_terminal}
-use Rattle.text_scopes.specs.Parsed.{Parsed, ◌>>=◌, before, wants, then_wants}
-use Rattle.text_scopes.specs.Actions.{context}
-use Rattle.text_scopes.specs.Conds.{parse_cond, disjunction}
-use Rattle.text_scopes.specs.Terms.{parse_term, choice}
-use Rattle.text_scopes.specs.Ends.{goes_on}
-use Rattle.text_scopes.specs.Phrases.{term, cond, Leaf, Phrase, one_prod, one_star, bare, name_unit, cons_token, IsWithinLimits, IsPhrase}
-use Rattle.text_scopes.proofs.Longest.{longest}
-use Rattle.text_scopes.proofs.TerminalEquality.{wants_ok}
-use Rattle.text_scopes.proofs.ParserSoundness.{leaf, bind_ok, chosen, changed_ok, before_ok, wanted_ok, terminal_headed, cond_found as conds_found, term_found as terms_found}
+use Rattle.text_parser.specs.declared.fault.TextFault.{TextFault}
+use Rattle.text_parser.specs.declared.terminal.Terminal.TheVariants.{Name, Keyword, Separator, Zero, One, Number}
+use Rattle.text_parser.specs.declared.terminal.Keyword.TheVariants as word
+use Rattle.text_parser.specs.declared.terminal.Separator.TheVariants.{Comma, Semicolon, CurlyOpen, CurlyClose, Equals}
+use Rattle.text_parser.specs.Lexemes.{Lexeme, lexeme, heads, is_terminal}
+use Rattle.text_parser.specs.Parsed.{Parsed, ◌>>=◌, before, wants, then_wants}
+use Rattle.text_parser.specs.Actions.{context}
+use Rattle.text_parser.specs.Conds.{parse_cond, disjunction}
+use Rattle.text_parser.specs.Terms.{parse_term, choice}
+use Rattle.text_parser.specs.Ends.{goes_on}
+use Rattle.text_parser.specs.Phrases.{term, cond, Leaf, Phrase, one_prod, one_star, bare, name_unit, cons_token, IsWithinLimits, IsPhrase}
+use Rattle.text_parser.proofs.Longest.{longest}
+use Rattle.text_parser.proofs.TerminalEquality.{wants_ok}
+use Rattle.text_parser.proofs.ParserSoundness.{leaf, bind_ok, chosen, changed_ok, before_ok, wanted_ok, terminal_headed, cond_found as conds_found, term_found as terms_found}
 use Rattle.while_lang.specs.Blocks.{block as block_aim, parse_block}
 use Rattle.while_lang.specs.BlockPhrases.{block, IsBlockPhrase}
 use Rattle.while_lang.proofs.BlockSoundness.{block_found as blocks_found}

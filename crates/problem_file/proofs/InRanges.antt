@@ -6,18 +6,18 @@ use Rattle.kat_model.specs.Expressions.{ExprTree, CondTree, always, never, named
 use Rattle.kat_model.specs.Problems.{IsTestInRange, IsInRange, AreInRange}
 use Rattle.kat_model.proofs.BalancedTrees.{balanced_holds}
 use Rattle.kat_model.proofs.Ranges.{AreInRange-append, AreInRange-append_left, AreInRange-append_right}
-use Rattle.text_scopes.specs.declared.fault.TextFault.{TextFault}
-use Rattle.text_scopes.specs.declared.reading.Context.{Context}
-use Rattle.text_scopes.specs.declared.reading.Operator.{Operator}
-use Rattle.text_scopes.specs.declared.reading.Operator.TheVariants.{Add, Subtract, Multiply}
-use Rattle.text_scopes.specs.Phrases.{term, cond, expr, Phrase}
-use Rattle.text_scopes.specs.Folds.{fold}
-use Rattle.text_scopes.specs.declared.meaning.Meaning.{Meaning}
-use Rattle.text_scopes.specs.declared.meaning.Meaning.TheVariants.{Test, Action, Var, Term as TermName, Prog}
-use Rattle.text_scopes.specs.Sizes.{as_test}
-use Rattle.text_scopes.specs.ScopeParts.{Definition, ScopeParts, meaning}
-use Rattle.text_scopes.specs.Building.{joined, variable_tree, condition_tree, defined_tree, name_tree, trees}
-use Rattle.text_scopes.proofs.Related.{Both, AreRelated, related}
+use Rattle.text_parser.specs.declared.fault.TextFault.{TextFault}
+use Rattle.text_parser.specs.declared.reading.Context.{Context}
+use Rattle.text_parser.specs.declared.reading.Operator.{Operator}
+use Rattle.text_parser.specs.declared.reading.Operator.TheVariants.{Add, Subtract, Multiply}
+use Rattle.text_parser.specs.Phrases.{term, cond, expr, Phrase}
+use Rattle.text_parser.specs.Folds.{fold}
+use Rattle.text_parser.specs.declared.meaning.Meaning.{Meaning}
+use Rattle.text_parser.specs.declared.meaning.Meaning.TheVariants.{Test, Action, Var, Term as TermName, Prog}
+use Rattle.text_parser.specs.Sizes.{as_test}
+use Rattle.text_parser.specs.ScopeParts.{Definition, ScopeParts, meaning}
+use Rattle.text_parser.specs.Building.{joined, variable_tree, condition_tree, defined_tree, name_tree, trees}
+use Rattle.text_parser.proofs.Related.{Both, AreRelated, related}
 use Rattle.problem_file.specs.Working.Numbers.{AreNumbered}
 use Rattle.while_lang.specs.Ranges.{IsExprInRange, IsCondInRange}
 

@@ -1,14 +1,14 @@
 -- The results of items by the results of their parts.
 use Rattle.std.proofs.Common.{◌≡◌, ℕ, List, ◌∷◌, drop, Result, Ok, Err, refl}
-use Rattle.text_scopes.specs.declared.fault.TextFault.{TextFault}
-use Rattle.text_scopes.specs.declared.terminal.Terminal.{Terminal}
-use Rattle.text_scopes.specs.declared.terminal.Terminal.TheVariants.{Keyword, Separator, Zero}
-use Rattle.text_scopes.specs.declared.terminal.Keyword.{Keyword as KeywordOf}
-use Rattle.text_scopes.specs.declared.terminal.Keyword.TheVariants as word
-use Rattle.text_scopes.specs.declared.terminal.Separator.TheVariants.{Semicolon, Equals}
-use Rattle.text_scopes.specs.Lexemes.{Lexeme, lexeme, is_terminal}
-use Rattle.text_scopes.specs.Parsed.{Parsed, before, wants}
-use Rattle.text_scopes.specs.Phrases.{Leaf}
+use Rattle.text_parser.specs.declared.fault.TextFault.{TextFault}
+use Rattle.text_parser.specs.declared.terminal.Terminal.{Terminal}
+use Rattle.text_parser.specs.declared.terminal.Terminal.TheVariants.{Keyword, Separator, Zero}
+use Rattle.text_parser.specs.declared.terminal.Keyword.{Keyword as KeywordOf}
+use Rattle.text_parser.specs.declared.terminal.Keyword.TheVariants as word
+use Rattle.text_parser.specs.declared.terminal.Separator.TheVariants.{Semicolon, Equals}
+use Rattle.text_parser.specs.Lexemes.{Lexeme, lexeme, is_terminal}
+use Rattle.text_parser.specs.Parsed.{Parsed, before, wants}
+use Rattle.text_parser.specs.Phrases.{Leaf}
 use Rattle.problem_file.specs.declared.item_reading.Declared.TheVariants as what
 use Rattle.problem_file.specs.declared.item_reading.Setting.TheVariants as setting
 use Rattle.problem_file.specs.Numbers.{until}

@@ -6,13 +6,13 @@ use Rattle.std.proofs.lemmas.Str.{IsUtf8-append, IsUtf8-nil, IsUtf8-from_ascii}
 use Rattle.std.proofs.lemmas.Str.Ascii.{IsAscii-cons}
 use Rattle.std.specs.List.{list_all}
 use Rattle.std.specs.Str.{IsUtf8}
-use Rattle.text_scopes.specs.declared.lexer.TheConstants.{MAX_LEN}
-use Rattle.text_scopes.specs.declared.token.Kind.{Kind}
-use Rattle.text_scopes.specs.declared.token.Kind.TheVariants.{Name, Number, Symbol}
-use Rattle.text_scopes.specs.TokenParts.{TokenParts, token_parts}
-use Rattle.text_scopes.specs.Lex.{gap_len, gap_end, IsLongest, LexesFrom, Lexes}
-use Rattle.text_scopes.specs.Pieces.{Piece, lexeme, gap, spelled, parts_from, EndsBefore, AreSeparate}
-use Rattle.text_scopes.proofs.Printed.{piece_longest, token_no_gap, separator_len, spelled_utf8}
+use Rattle.text_parser.specs.declared.lexer.TheConstants.{MAX_LEN}
+use Rattle.text_parser.specs.declared.token.Kind.{Kind}
+use Rattle.text_parser.specs.declared.token.Kind.TheVariants.{Name, Number, Symbol}
+use Rattle.text_parser.specs.TokenParts.{TokenParts, token_parts}
+use Rattle.text_parser.specs.Lex.{gap_len, gap_end, IsLongest, LexesFrom, Lexes}
+use Rattle.text_parser.specs.Pieces.{Piece, lexeme, gap, spelled, parts_from, EndsBefore, AreSeparate}
+use Rattle.text_parser.proofs.Printed.{piece_longest, token_no_gap, separator_len, spelled_utf8}
 use Rattle.problem_file.specs.CommentedTexts.{IsComment, comment_text}
 
 -- ---- lines as pieces

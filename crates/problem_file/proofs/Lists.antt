@@ -1,14 +1,14 @@
 -- Lists of names and of items. The rest of a list has fewer tokens, so fewer steps suffice for it.
 use Rattle.std.proofs.Common.{◌≡◌, ℕ, zero, suc, ◌<◌, ◌≤◌, List, [], ◌∷◌, length, true, Result, Ok, Err, refl, ap, sym, ◌∙◌, arith, drop, length-drop}
-use Rattle.text_scopes.specs.declared.fault.TextFault.{TextFault}
-use Rattle.text_scopes.specs.declared.fault.TextFault.TheVariants.{NoMemory}
-use Rattle.text_scopes.specs.declared.token.Token.{Token}
-use Rattle.text_scopes.specs.declared.terminal.Terminal.TheVariants.{Separator}
-use Rattle.text_scopes.specs.declared.terminal.Separator.TheVariants.{Comma}
-use Rattle.text_scopes.specs.Lexemes.{Lexeme, lexemes, heads, is_terminal}
-use Rattle.text_scopes.specs.Parsed.{Parsed}
-use Rattle.text_scopes.proofs.Within.{Within}
-use Rattle.text_scopes.proofs.NamedFaults.{IsNamed, bind_named}
+use Rattle.text_parser.specs.declared.fault.TextFault.{TextFault}
+use Rattle.text_parser.specs.declared.fault.TextFault.TheVariants.{NoMemory}
+use Rattle.text_parser.specs.declared.token.Token.{Token}
+use Rattle.text_parser.specs.declared.terminal.Terminal.TheVariants.{Separator}
+use Rattle.text_parser.specs.declared.terminal.Separator.TheVariants.{Comma}
+use Rattle.text_parser.specs.Lexemes.{Lexeme, lexemes, heads, is_terminal}
+use Rattle.text_parser.specs.Parsed.{Parsed}
+use Rattle.text_parser.proofs.Within.{Within}
+use Rattle.text_parser.proofs.NamedFaults.{IsNamed, bind_named}
 use Rattle.problem_file.specs.Items.{at_name, names_within, items_within, over_items}
 use Rattle.problem_file.specs.Working.Walks.{Steps, Does}
 

@@ -4,23 +4,23 @@ use Rattle.std.proofs.lemmas.Bool.{ltb-true, ltb-false}
 use Rattle.kat_model.specs.declared.limits.TheConstants.{MAX_TERM_NODES, MAX_EXPR_NODES}
 use Rattle.kat_model.specs.Trees.{Term, test_size, term_size}
 use Rattle.kat_model.specs.Expressions.{CondTree, test_without_comparisons}
-use Rattle.text_scopes.specs.declared.fault.TextFault.{TextFault}
-use Rattle.text_scopes.specs.Lexemes.{Lexeme}
-use Rattle.text_scopes.specs.Parsed.{◌>>=◌, before}
-use Rattle.text_scopes.specs.Actions.{context}
-use Rattle.text_scopes.specs.Phrases.{term, cond, Phrase, yield_before, MeetsLookahead, IsWithinLimits}
-use Rattle.text_scopes.specs.Ends.{Ends}
-use Rattle.text_scopes.specs.Folds.{fold}
-use Rattle.text_scopes.proofs.ParserCompleteness.{term_parsed, cond_parsed}
-use Rattle.text_scopes.proofs.Longest.{longest}
-use Rattle.text_scopes.specs.declared.extent.Extent.{Extent}
-use Rattle.text_scopes.specs.Sizes.{cond_size, largest_expr, capped}
-use Rattle.text_scopes.specs.ScopeParts.{ScopeParts}
-use Rattle.text_scopes.specs.Building.{trees}
-use Rattle.text_scopes.specs.Measuring.{extents}
-use Rattle.text_scopes.specs.Sound.{IsSound, nesting}
-use Rattle.text_scopes.specs.Laws.{told_nodes}
-use Rattle.text_scopes.proofs.Measured.{term_decided, cond_decided, term_measured, cond_measured}
+use Rattle.text_parser.specs.declared.fault.TextFault.{TextFault}
+use Rattle.text_parser.specs.Lexemes.{Lexeme}
+use Rattle.text_parser.specs.Parsed.{◌>>=◌, before}
+use Rattle.text_parser.specs.Actions.{context}
+use Rattle.text_parser.specs.Phrases.{term, cond, Phrase, yield_before, MeetsLookahead, IsWithinLimits}
+use Rattle.text_parser.specs.Ends.{Ends}
+use Rattle.text_parser.specs.Folds.{fold}
+use Rattle.text_parser.proofs.ParserCompleteness.{term_parsed, cond_parsed}
+use Rattle.text_parser.proofs.Longest.{longest}
+use Rattle.text_parser.specs.declared.extent.Extent.{Extent}
+use Rattle.text_parser.specs.Sizes.{cond_size, largest_expr, capped}
+use Rattle.text_parser.specs.ScopeParts.{ScopeParts}
+use Rattle.text_parser.specs.Building.{trees}
+use Rattle.text_parser.specs.Measuring.{extents}
+use Rattle.text_parser.specs.Sound.{IsSound, nesting}
+use Rattle.text_parser.specs.Laws.{told_nodes}
+use Rattle.text_parser.proofs.Measured.{term_decided, cond_decided, term_measured, cond_measured}
 use Rattle.problem_file.specs.Files.{State}
 use Rattle.problem_file.specs.ItemActions.{Measurement}
 use Rattle.problem_file.specs.Making.{built_term, built_cond, making}

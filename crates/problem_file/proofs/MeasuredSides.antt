@@ -3,20 +3,20 @@ use Rattle.std.proofs.Common.{◌≡◌, ℕ, ◌≤◌, List, [], false, Result
 use Rattle.std.specs.Option.{option_map, option_and_then}
 use Rattle.kat_model.specs.declared.limits.TheConstants.{MAX_TERM_NODES, MAX_EXPR_NODES}
 use Rattle.kat_model.specs.Trees.{Term}
-use Rattle.text_scopes.specs.declared.fault.TextFault.{TextFault}
-use Rattle.text_scopes.specs.Lexemes.{Lexeme}
-use Rattle.text_scopes.specs.Parsed.{◌>>=◌, before, change}
-use Rattle.text_scopes.specs.Actions.{context}
-use Rattle.text_scopes.specs.Phrases.{term, prod, star, unit, Leaf, Phrase, one_prod, more_prods, one_star, more_stars, bare, starred, zero_unit, one_unit, name_unit, not_unit, square_unit, round_unit, yield_before, MeetsLookahead, IsWithinLimits}
-use Rattle.text_scopes.specs.Ends.{Ends}
-use Rattle.text_scopes.specs.Folds.{fold}
-use Rattle.text_scopes.proofs.ParserSoundness.{bind_ok}
-use Rattle.text_scopes.specs.declared.extent.Extent.{Extent}
-use Rattle.text_scopes.specs.declared.meaning.Meaning.{Meaning}
-use Rattle.text_scopes.specs.declared.meaning.Meaning.TheVariants.{Test, Action, Var, Term as TermName, Prog}
-use Rattle.text_scopes.specs.ScopeParts.{ScopeParts, meaning}
-use Rattle.text_scopes.specs.Measuring.{extents}
-use Rattle.text_scopes.specs.Sound.{IsTermName, IsSound}
+use Rattle.text_parser.specs.declared.fault.TextFault.{TextFault}
+use Rattle.text_parser.specs.Lexemes.{Lexeme}
+use Rattle.text_parser.specs.Parsed.{◌>>=◌, before, change}
+use Rattle.text_parser.specs.Actions.{context}
+use Rattle.text_parser.specs.Phrases.{term, prod, star, unit, Leaf, Phrase, one_prod, more_prods, one_star, more_stars, bare, starred, zero_unit, one_unit, name_unit, not_unit, square_unit, round_unit, yield_before, MeetsLookahead, IsWithinLimits}
+use Rattle.text_parser.specs.Ends.{Ends}
+use Rattle.text_parser.specs.Folds.{fold}
+use Rattle.text_parser.proofs.ParserSoundness.{bind_ok}
+use Rattle.text_parser.specs.declared.extent.Extent.{Extent}
+use Rattle.text_parser.specs.declared.meaning.Meaning.{Meaning}
+use Rattle.text_parser.specs.declared.meaning.Meaning.TheVariants.{Test, Action, Var, Term as TermName, Prog}
+use Rattle.text_parser.specs.ScopeParts.{ScopeParts, meaning}
+use Rattle.text_parser.specs.Measuring.{extents}
+use Rattle.text_parser.specs.Sound.{IsTermName, IsSound}
 use Rattle.while_lang.specs.Programs.{ProgTree, StmtTree, prog_of as prog_with}
 use Rattle.while_lang.specs.ProgramSizes.{prog_size, largest_in}
 use Rattle.while_lang.specs.NamedProgs.{ProgParts}

@@ -1,20 +1,20 @@
 -- The tokens that are names in the grammar.
 use Rattle.std.proofs.Common.{◌≡◌, ◌<◌, ◌+◌, ℕ, zero, suc, List, [], ◌∷◌, length, drop, get_or, Option, Some, None, Bool, true, false, cond, not, Ok, Err, refl, sym, ap, ◌∙◌, subst, arith}
 use Rattle.std.specs.Prelude.{codes, bytes_eq}
-use Rattle.text_scopes.specs.declared.fault.TextFault.TheVariants.{Syntax}
-use Rattle.text_scopes.specs.declared.token.Kind.{Kind}
-use Rattle.text_scopes.specs.declared.token.Kind.TheVariants as kind
-use Rattle.text_scopes.specs.declared.token.Token.{Token}
-use Rattle.text_scopes.specs.Kinds.{IsToken}
-use Rattle.text_scopes.specs.Keywords.{is_keyword}
+use Rattle.text_parser.specs.declared.fault.TextFault.TheVariants.{Syntax}
+use Rattle.text_parser.specs.declared.token.Kind.{Kind}
+use Rattle.text_parser.specs.declared.token.Kind.TheVariants as kind
+use Rattle.text_parser.specs.declared.token.Token.{Token}
+use Rattle.text_parser.specs.Kinds.{IsToken}
+use Rattle.text_parser.specs.Keywords.{is_keyword}
 use Rattle.kat_model.specs.declared.expression.Rel.TheVariants.{Eq, Ne, Lt, Le, Gt, Ge}
-use Rattle.text_scopes.specs.declared.terminal.Keyword.TheVariants as word
-use Rattle.text_scopes.specs.declared.terminal.Separator.TheVariants.{Comma, Semicolon, CurlyOpen, CurlyClose, Equals, Becomes, Caret}
-use Rattle.text_scopes.specs.declared.terminal.Terminal.{Terminal}
-use Rattle.text_scopes.specs.declared.terminal.Terminal.TheVariants.{RoundOpen, RoundClose, SquareOpen, SquareClose, Bang, Star, Plus, Minus, Dot, And, Or, Compares, Zero, One, True, False, Name, Keyword, Separator, Other}
-use Rattle.text_scopes.specs.Terminals.{terminal_of, symbol_terminal, keyword_terminal, number_terminal, numbered, small_number, is_digits}
-use Rattle.text_scopes.specs.Lexemes.{Lexeme, lexeme, lexemes}
-use Rattle.text_scopes.specs.ScopeParts.{IsIdentifier}
+use Rattle.text_parser.specs.declared.terminal.Keyword.TheVariants as word
+use Rattle.text_parser.specs.declared.terminal.Separator.TheVariants.{Comma, Semicolon, CurlyOpen, CurlyClose, Equals, Becomes, Caret}
+use Rattle.text_parser.specs.declared.terminal.Terminal.{Terminal}
+use Rattle.text_parser.specs.declared.terminal.Terminal.TheVariants.{RoundOpen, RoundClose, SquareOpen, SquareClose, Bang, Star, Plus, Minus, Dot, And, Or, Compares, Zero, One, True, False, Name, Keyword, Separator, Other}
+use Rattle.text_parser.specs.Terminals.{terminal_of, symbol_terminal, keyword_terminal, number_terminal, numbered, small_number, is_digits}
+use Rattle.text_parser.specs.Lexemes.{Lexeme, lexeme, lexemes}
+use Rattle.text_parser.specs.ScopeParts.{IsIdentifier}
 use Rattle.problem_file.specs.Items.{name_at}
 
 -- whether a terminal is `Name`

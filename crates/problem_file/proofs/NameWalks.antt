@@ -1,16 +1,16 @@
 -- Names separated by commas: the tokens read are names, reading them gives the fold over the names, fewer tokens
 -- remain, and no fault is `NoMemory` if the action at a name gives no such fault.
 use Rattle.std.proofs.Common.{◌≡◌, ℕ, zero, suc, ◌<◌, ◌≤◌, List, [], ◌∷◌, length, length-drop, drop, false, cond as if_true, Result, Ok, Err, refl, ap, ◌∙◌, arith}
-use Rattle.text_scopes.specs.declared.fault.TextFault.{TextFault}
-use Rattle.text_scopes.specs.declared.terminal.Terminal.TheVariants.{Name, Separator}
-use Rattle.text_scopes.specs.declared.terminal.Separator.TheVariants.{Comma, Semicolon}
-use Rattle.text_scopes.specs.Lexemes.{Lexeme, lexeme, heads, is_terminal}
-use Rattle.text_scopes.specs.Parsed.{Parsed, ◌>>=◌, before, then_wants}
-use Rattle.text_scopes.specs.Phrases.{Leaf, cons_token}
-use Rattle.text_scopes.proofs.Within.{Within, bind_within, if_within, weaken, before_within, then_wants_within}
-use Rattle.text_scopes.proofs.NamedFaults.{IsNamed, then_named, bind_named, if_named, before_named, then_wants_named}
-use Rattle.text_scopes.proofs.ParserSoundness.{leaf, bind_ok, chosen, before_ok, wanted_ok, terminal_headed}
-use Rattle.text_scopes.proofs.ParserCompleteness.{then_rest, closed}
+use Rattle.text_parser.specs.declared.fault.TextFault.{TextFault}
+use Rattle.text_parser.specs.declared.terminal.Terminal.TheVariants.{Name, Separator}
+use Rattle.text_parser.specs.declared.terminal.Separator.TheVariants.{Comma, Semicolon}
+use Rattle.text_parser.specs.Lexemes.{Lexeme, lexeme, heads, is_terminal}
+use Rattle.text_parser.specs.Parsed.{Parsed, ◌>>=◌, before, then_wants}
+use Rattle.text_parser.specs.Phrases.{Leaf, cons_token}
+use Rattle.text_parser.proofs.Within.{Within, bind_within, if_within, weaken, before_within, then_wants_within}
+use Rattle.text_parser.proofs.NamedFaults.{IsNamed, then_named, bind_named, if_named, before_named, then_wants_named}
+use Rattle.text_parser.proofs.ParserSoundness.{leaf, bind_ok, chosen, before_ok, wanted_ok, terminal_headed}
+use Rattle.text_parser.proofs.ParserCompleteness.{then_rest, closed}
 use Rattle.while_lang.proofs.BlockSoundness.{rest_of}
 use Rattle.problem_file.specs.Items.{name_at, at_name, names_within, over_names, declaration_by}
 use Rattle.problem_file.specs.Phrases.{Names, one_name, more_names, names_onto, ended}

@@ -1,16 +1,16 @@
 -- A fault of a block is never `NoMemory` if its actions give no such fault, because the steps suffice.
 use Rattle.std.proofs.Common.{ℕ, zero, suc, ◌+◌, ◌*◌, ◌<◌, List, [], ◌∷◌, length, Bool, true, false, cond as if_true, Ok, Err, arith, drop, length-drop}
-use Rattle.text_scopes.specs.declared.fault.TextFault.TheVariants.{Syntax}
-use Rattle.text_scopes.specs.declared.terminal.Terminal.{Terminal}
-use Rattle.text_scopes.specs.declared.terminal.Terminal.TheVariants.{Name, Keyword, Separator}
-use Rattle.text_scopes.specs.declared.terminal.Keyword.TheVariants as word
-use Rattle.text_scopes.specs.declared.terminal.Separator.TheVariants.{Semicolon, CurlyOpen, CurlyClose, Becomes}
-use Rattle.text_scopes.specs.Lexemes.{Lexeme, lexeme, heads, is_terminal}
-use Rattle.text_scopes.specs.Parsed.{Parsed, ◌>>=◌, before, change, wants, place_of}
-use Rattle.text_scopes.specs.Actions.{context}
-use Rattle.text_scopes.specs.Exprs.{sums}
-use Rattle.text_scopes.specs.Conds.{disjunction}
-use Rattle.text_scopes.proofs.NamedFaults.{IsNamed, then_named, bind_named, if_named, before_named, change_named, then_wants_named, NameTerms, cond_named, expr_named}
+use Rattle.text_parser.specs.declared.fault.TextFault.TheVariants.{Syntax}
+use Rattle.text_parser.specs.declared.terminal.Terminal.{Terminal}
+use Rattle.text_parser.specs.declared.terminal.Terminal.TheVariants.{Name, Keyword, Separator}
+use Rattle.text_parser.specs.declared.terminal.Keyword.TheVariants as word
+use Rattle.text_parser.specs.declared.terminal.Separator.TheVariants.{Semicolon, CurlyOpen, CurlyClose, Becomes}
+use Rattle.text_parser.specs.Lexemes.{Lexeme, lexeme, heads, is_terminal}
+use Rattle.text_parser.specs.Parsed.{Parsed, ◌>>=◌, before, change, wants, place_of}
+use Rattle.text_parser.specs.Actions.{context}
+use Rattle.text_parser.specs.Exprs.{sums}
+use Rattle.text_parser.specs.Conds.{disjunction}
+use Rattle.text_parser.proofs.NamedFaults.{IsNamed, then_named, bind_named, if_named, before_named, change_named, then_wants_named, NameTerms, cond_named, expr_named}
 use Rattle.while_lang.specs.BlockActions.{BlockActions}
 use Rattle.while_lang.specs.Blocks.{enter, BlockAim, block, stmts_after, stmt_after, branch_after, BlockParser, cond_by, expr_by, then_semicolon, block_by, stmts_by, assign_by, named_by, loop_by, stmt_by, else_by, branch_by}
 use Rattle.while_lang.specs.Blocks.{blocks_by, steps, block_within, parse_block}

@@ -1,20 +1,20 @@
 -- Reading items never fails with `NoMemory` if its actions never do.
 use Rattle.std.proofs.Common.{ℕ, suc, ◌+◌, ◌<◌, List, [], ◌∷◌, length, Bool, true, false, cond, Result, Ok, Err, Option, Some, None, arith, drop, length-drop}
-use Rattle.text_scopes.specs.declared.fault.TextFault.{TextFault}
-use Rattle.text_scopes.specs.declared.fault.TextFault.TheVariants.{Syntax}
-use Rattle.text_scopes.specs.declared.terminal.Terminal.{Terminal}
-use Rattle.text_scopes.specs.declared.terminal.Terminal.TheVariants.{Keyword, Separator, Zero, One, Number, WideNumber}
-use Rattle.text_scopes.specs.declared.terminal.Keyword.TheVariants as word
-use Rattle.text_scopes.specs.declared.terminal.Separator.TheVariants.{Comma, Semicolon, CurlyOpen, CurlyClose, Equals}
-use Rattle.text_scopes.specs.Lexemes.{Lexeme, lexeme, heads, is_terminal}
-use Rattle.text_scopes.specs.Parsed.{Parsed, ◌>>=◌, before, wants, then_wants, place_of}
-use Rattle.text_scopes.specs.Actions.{context}
-use Rattle.text_scopes.specs.Conds.{parse_cond, disjunction}
-use Rattle.text_scopes.specs.Terms.{parse_term, choice}
-use Rattle.text_scopes.proofs.Within.{Within, bind_within, if_within, weaken, before_within, enter_within, change_within, then_wants_within}
-use Rattle.text_scopes.proofs.CondSteps.{cond_read_short}
-use Rattle.text_scopes.proofs.TermSteps.{term_read_short}
-use Rattle.text_scopes.proofs.NamedFaults.{IsNamed, then_named, if_named, before_named, change_named, wants_named, then_wants_named, NameTerms, cond_named, term_named}
+use Rattle.text_parser.specs.declared.fault.TextFault.{TextFault}
+use Rattle.text_parser.specs.declared.fault.TextFault.TheVariants.{Syntax}
+use Rattle.text_parser.specs.declared.terminal.Terminal.{Terminal}
+use Rattle.text_parser.specs.declared.terminal.Terminal.TheVariants.{Keyword, Separator, Zero, One, Number, WideNumber}
+use Rattle.text_parser.specs.declared.terminal.Keyword.TheVariants as word
+use Rattle.text_parser.specs.declared.terminal.Separator.TheVariants.{Comma, Semicolon, CurlyOpen, CurlyClose, Equals}
+use Rattle.text_parser.specs.Lexemes.{Lexeme, lexeme, heads, is_terminal}
+use Rattle.text_parser.specs.Parsed.{Parsed, ◌>>=◌, before, wants, then_wants, place_of}
+use Rattle.text_parser.specs.Actions.{context}
+use Rattle.text_parser.specs.Conds.{parse_cond, disjunction}
+use Rattle.text_parser.specs.Terms.{parse_term, choice}
+use Rattle.text_parser.proofs.Within.{Within, bind_within, if_within, weaken, before_within, enter_within, change_within, then_wants_within}
+use Rattle.text_parser.proofs.CondSteps.{cond_read_short}
+use Rattle.text_parser.proofs.TermSteps.{term_read_short}
+use Rattle.text_parser.proofs.NamedFaults.{IsNamed, then_named, if_named, before_named, change_named, wants_named, then_wants_named, NameTerms, cond_named, term_named}
 use Rattle.while_lang.specs.Blocks.{block, parse_block}
 use Rattle.while_lang.proofs.BlockSteps.{block_read_short}
 use Rattle.problem_file.specs.Numbers.{until}

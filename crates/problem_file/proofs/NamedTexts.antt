@@ -2,22 +2,22 @@
 use Rattle.std.proofs.Common.{ℕ, ◌+◌, List, length, nat_lt, Bool, true, false, Ok, Err, Option, Some, None, is_some, slice_get, ◌∷◌, [], nat_le}
 use Rattle.std.specs.Option.{option_and_then}
 use Rattle.kat_model.specs.declared.limits.TheConstants.{MAX_TESTS, MAX_ACTIONS, MAX_VARS, MAX_ROUNDS, MAX_TERM_NODES, MAX_TEXT_NODES, MAX_HYPS, MAX_OPEN}
-use Rattle.text_scopes.specs.declared.fault.TextFault.TheVariants.{Sort, TooDeep, DoubleName, TooMany, TooLarge, NumberTooWide}
-use Rattle.text_scopes.specs.declared.reading.Context.{Context}
-use Rattle.text_scopes.specs.declared.terminal.Terminal.TheVariants.{Number, WideNumber}
-use Rattle.text_scopes.specs.Lexemes.{Lexeme, lexeme}
-use Rattle.text_scopes.specs.Parsed.{Parsed}
-use Rattle.text_scopes.specs.Actions.{context}
-use Rattle.text_scopes.specs.Conds.{disjunction}
-use Rattle.text_scopes.specs.Terms.{choice}
-use Rattle.text_scopes.specs.Scans.{scanning}
-use Rattle.text_scopes.proofs.NamedFaults.{IsNamedFault, IsNamed, then_named, if_named, NameTerms, cond_named, term_named, change_named}
-use Rattle.text_scopes.specs.declared.meaning.Meaning.{Meaning}
-use Rattle.text_scopes.specs.declared.meaning.Meaning.TheVariants.{Test, Action, Var, Term as TermName, Prog}
-use Rattle.text_scopes.specs.declared.extent.Extent.{Extent}
-use Rattle.text_scopes.specs.ScopeParts.{Definition, ScopeParts, meaning}
-use Rattle.text_scopes.specs.Building.{cond_trees, trees}
-use Rattle.text_scopes.specs.Measuring.{number_extent, variable_extent, condition_extent, defined_extent, name_extent, extents}
+use Rattle.text_parser.specs.declared.fault.TextFault.TheVariants.{Sort, TooDeep, DoubleName, TooMany, TooLarge, NumberTooWide}
+use Rattle.text_parser.specs.declared.reading.Context.{Context}
+use Rattle.text_parser.specs.declared.terminal.Terminal.TheVariants.{Number, WideNumber}
+use Rattle.text_parser.specs.Lexemes.{Lexeme, lexeme}
+use Rattle.text_parser.specs.Parsed.{Parsed}
+use Rattle.text_parser.specs.Actions.{context}
+use Rattle.text_parser.specs.Conds.{disjunction}
+use Rattle.text_parser.specs.Terms.{choice}
+use Rattle.text_parser.specs.Scans.{scanning}
+use Rattle.text_parser.proofs.NamedFaults.{IsNamedFault, IsNamed, then_named, if_named, NameTerms, cond_named, term_named, change_named}
+use Rattle.text_parser.specs.declared.meaning.Meaning.{Meaning}
+use Rattle.text_parser.specs.declared.meaning.Meaning.TheVariants.{Test, Action, Var, Term as TermName, Prog}
+use Rattle.text_parser.specs.declared.extent.Extent.{Extent}
+use Rattle.text_parser.specs.ScopeParts.{Definition, ScopeParts, meaning}
+use Rattle.text_parser.specs.Building.{cond_trees, trees}
+use Rattle.text_parser.specs.Measuring.{number_extent, variable_extent, condition_extent, defined_extent, name_extent, extents}
 use Rattle.kat_model.specs.Trees.{Term, is_test}
 use Rattle.kat_model.specs.Stores.{modulus}
 use Rattle.kat_model.specs.declared.expression.Width.{Width}

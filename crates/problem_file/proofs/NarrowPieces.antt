@@ -7,14 +7,14 @@ use Rattle.kat_model.specs.declared.expression.Rel.{Rel}
 use Rattle.kat_model.specs.declared.expression.Width.{Width}
 use Rattle.kat_model.specs.Stores.{modulus}
 use Rattle.kat_model.specs.Expressions.{ExprTree, number, variable, plus, minus, times, CondTree, always, never, named, compared, negation, both, either}
-use Rattle.text_scopes.specs.Pieces.{Piece, symbol, gap}
-use Rattle.text_scopes.specs.declared.terminal.Terminal.{Terminal}
-use Rattle.text_scopes.specs.declared.terminal.Terminal.TheVariants.{Zero, One, Number}
-use Rattle.text_scopes.specs.Terminals.{symbol_terminal, keyword_terminal, number_terminal}
-use Rattle.text_scopes.specs.Lexemes.{Lexeme, lexeme}
-use Rattle.text_scopes.specs.declared.meaning.Meaning.{Meaning}
-use Rattle.text_scopes.specs.declared.meaning.Meaning.TheVariants.{Test, Action, Var}
-use Rattle.text_scopes.specs.ScopeParts.{ScopeParts, IsIdentifier}
+use Rattle.text_parser.specs.Pieces.{Piece, symbol, gap}
+use Rattle.text_parser.specs.declared.terminal.Terminal.{Terminal}
+use Rattle.text_parser.specs.declared.terminal.Terminal.TheVariants.{Zero, One, Number}
+use Rattle.text_parser.specs.Terminals.{symbol_terminal, keyword_terminal, number_terminal}
+use Rattle.text_parser.specs.Lexemes.{Lexeme, lexeme}
+use Rattle.text_parser.specs.declared.meaning.Meaning.{Meaning}
+use Rattle.text_parser.specs.declared.meaning.Meaning.TheVariants.{Test, Action, Var}
+use Rattle.text_parser.specs.ScopeParts.{ScopeParts, IsIdentifier}
 use Rattle.text_print.specs.Printing.{relation_text, spaced, expr_pieces, cond_pieces, ExprIsNamed, CondIsNamed}
 use Rattle.text_print.proofs.WordTerminals.{relation_terminal, name_terminal, zero_written, one_written, number_is}
 use Rattle.text_print.proofs.PrintedPhrases.{lexemes_from}

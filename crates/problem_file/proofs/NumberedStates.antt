@@ -11,14 +11,14 @@ use Rattle.kat_model.specs.Problems.{IsInRange, AreInRange}
 use Rattle.kat_model.specs.Members.{Has}
 use Rattle.kat_model.proofs.Places.{slice_get_last}
 use Rattle.kat_model.proofs.Ranges.{AreInRange-append}
-use Rattle.text_scopes.specs.Actions.{context}
-use Rattle.text_scopes.specs.Phrases.{term, Leaf, Phrase}
-use Rattle.text_scopes.specs.Sizes.{cond_size}
-use Rattle.text_scopes.specs.Sound.{nesting}
-use Rattle.text_scopes.specs.declared.meaning.Meaning.{Meaning}
-use Rattle.text_scopes.specs.declared.meaning.Meaning.TheVariants.{Test, Action, Var, Term as TermName, Prog}
-use Rattle.text_scopes.specs.ScopeParts.{Definition, ScopeParts, Means, IsUndeclared, declared, defined}
-use Rattle.text_scopes.proofs.Inverse.{insert_extends}
+use Rattle.text_parser.specs.Actions.{context}
+use Rattle.text_parser.specs.Phrases.{term, Leaf, Phrase}
+use Rattle.text_parser.specs.Sizes.{cond_size}
+use Rattle.text_parser.specs.Sound.{nesting}
+use Rattle.text_parser.specs.declared.meaning.Meaning.{Meaning}
+use Rattle.text_parser.specs.declared.meaning.Meaning.TheVariants.{Test, Action, Var, Term as TermName, Prog}
+use Rattle.text_parser.specs.ScopeParts.{Definition, ScopeParts, Means, IsUndeclared, declared, defined}
+use Rattle.text_parser.proofs.Inverse.{insert_extends}
 use Rattle.while_lang.specs.Programs.{ProgTree, empty, skip_then, abort_then, assert_then, act_then, assign_then, branch_then, loop_then}
 use Rattle.while_lang.specs.ProgramSizes.{prog_size}
 use Rattle.while_lang.specs.NamedProgs.{ProgParts}

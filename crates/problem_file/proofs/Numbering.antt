@@ -4,10 +4,10 @@ use Rattle.std.specs.Ordering.{nat_cmp}
 use Rattle.std.specs.Cmp.Lexicographic.{slice_cmp}
 use Rattle.std.specs.FinMap.{get, insert, get-empty}
 use Rattle.std.proofs.lemmas.Option.{none-some, same_Some}
-use Rattle.text_scopes.specs.declared.meaning.Meaning.{Meaning}
-use Rattle.text_scopes.specs.declared.meaning.Meaning.TheVariants.{Test, Action, Var, Term, Prog}
-use Rattle.text_scopes.specs.ScopeParts.{Definition, ScopeParts, Means, empty_scope, declared, defined}
-use Rattle.text_scopes.proofs.Inverse.{insert_extends}
+use Rattle.text_parser.specs.declared.meaning.Meaning.{Meaning}
+use Rattle.text_parser.specs.declared.meaning.Meaning.TheVariants.{Test, Action, Var, Term, Prog}
+use Rattle.text_parser.specs.ScopeParts.{Definition, ScopeParts, Means, empty_scope, declared, defined}
+use Rattle.text_parser.proofs.Inverse.{insert_extends}
 use Rattle.problem_file.specs.Working.Numbers.{AreNumbered}
 
 -- ---- bounds

@@ -1,11 +1,11 @@
 -- Bytes denote exactly one file or have exactly one first fault, and never both.
 use Rattle.std.proofs.Common.{◌≡◌, ℕ, List, [], map, drop, Ok, Option, Some, None, slice_get, arith, refl, sym, ap, ap₂, ◌∙◌}
 use Rattle.std.proofs.lemmas.Option.{slice_get_past, none-some}
-use Rattle.text_scopes.specs.TokenParts.{TokenParts}
-use Rattle.text_scopes.specs.Lex.{Lexes}
-use Rattle.text_scopes.specs.Lexemes.{lexeme_of}
-use Rattle.text_scopes.specs.Parsed.{◌>>=◌}
-use Rattle.text_scopes.proofs.ParserSoundness.{bind_ok}
+use Rattle.text_parser.specs.TokenParts.{TokenParts}
+use Rattle.text_parser.specs.Lex.{Lexes}
+use Rattle.text_parser.specs.Lexemes.{lexeme_of}
+use Rattle.text_parser.specs.Parsed.{◌>>=◌}
+use Rattle.text_parser.proofs.ParserSoundness.{bind_ok}
 use Rattle.while_lang.specs.NamedProgs.{ProgParts}
 use Rattle.while_lang.specs.BlockLaws.{AreLimited}
 use Rattle.problem_file.specs.declared.goal_limit.GoalLimit.{GoalLimit}

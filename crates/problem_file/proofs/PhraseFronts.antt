@@ -1,12 +1,12 @@
 -- The tokens of a phrase: there is at least one, and the first is not a keyword. A block has at least two.
 use Rattle.std.proofs.Common.{◌≡◌, ◌≤◌, ◌<◌, List, [], ◌∷◌, length, drop, ℕ, true, false, Option, Some, None, refl, arith}
 use Rattle.std.specs.Option.{option_map}
-use Rattle.text_scopes.specs.declared.terminal.Terminal.TheVariants.{Keyword, Separator, Zero, Dot, Plus, Star, Or, And, Compares, RoundClose, SquareClose}
-use Rattle.text_scopes.specs.declared.terminal.Keyword.TheVariants as word
-use Rattle.text_scopes.specs.declared.terminal.Separator.TheVariants.{Comma, Semicolon, CurlyClose, Equals}
-use Rattle.text_scopes.specs.Lexemes.{Lexeme, heads, is_terminal}
-use Rattle.text_scopes.specs.Phrases.{term, prod, star, unit, Leaf, Phrase, one_prod, more_prods, one_star, more_stars, bare, starred, zero_unit, one_unit, name_unit, not_unit, square_unit, round_unit, one_conj, more_conjs, one_lit, more_lits, true_lit, false_lit, name_lit, not_lit, round_lit, relation_lit, one_mul, more_muls, one_fac, more_facs, zero_fac, one_fac_number, number_fac, wide_fac, name_fac, round_fac, Symbol, cons_token, sum_terminal, yield_before}
-use Rattle.text_scopes.specs.Ends.{goes_on, Ends}
+use Rattle.text_parser.specs.declared.terminal.Terminal.TheVariants.{Keyword, Separator, Zero, Dot, Plus, Star, Or, And, Compares, RoundClose, SquareClose}
+use Rattle.text_parser.specs.declared.terminal.Keyword.TheVariants as word
+use Rattle.text_parser.specs.declared.terminal.Separator.TheVariants.{Comma, Semicolon, CurlyClose, Equals}
+use Rattle.text_parser.specs.Lexemes.{Lexeme, heads, is_terminal}
+use Rattle.text_parser.specs.Phrases.{term, prod, star, unit, Leaf, Phrase, one_prod, more_prods, one_star, more_stars, bare, starred, zero_unit, one_unit, name_unit, not_unit, square_unit, round_unit, one_conj, more_conjs, one_lit, more_lits, true_lit, false_lit, name_lit, not_lit, round_lit, relation_lit, one_mul, more_muls, one_fac, more_facs, zero_fac, one_fac_number, number_fac, wide_fac, name_fac, round_fac, Symbol, cons_token, sum_terminal, yield_before}
+use Rattle.text_parser.specs.Ends.{goes_on, Ends}
 use Rattle.while_lang.specs.BlockPhrases.{BlockSymbol, BlockPhrase, braced, no_stmts, more_stmts, skip_stmt, abort_stmt, assert_stmt, name_stmt, assign_stmt, if_stmt, while_stmt}
 use Rattle.while_lang.specs.BlockPhrases.{no_else, else_block, else_if, block_before}
 use Rattle.problem_file.specs.Items.{lone_name}

@@ -5,17 +5,17 @@ use Rattle.std.specs.Prelude.{codes}
 use Rattle.kat_model.specs.declared.limits.TheConstants.{MAX_TESTS, MAX_ACTIONS, MAX_TERM_NODES, MAX_TEXT_NODES, MAX_HYPS, MAX_OPEN}
 use Rattle.kat_model.specs.Trees.{Term, term_size}
 use Rattle.kat_model.specs.Problems.{terms_size}
-use Rattle.text_scopes.specs.Pieces.{Piece, word, gap}
-use Rattle.text_scopes.specs.declared.terminal.Terminal.{Terminal}
-use Rattle.text_scopes.specs.declared.terminal.Terminal.TheVariants.{Name, Keyword, Separator, Zero}
-use Rattle.text_scopes.specs.declared.terminal.Keyword.TheVariants as keyword
-use Rattle.text_scopes.specs.declared.terminal.Separator.TheVariants.{Comma, Semicolon, Equals}
-use Rattle.text_scopes.specs.Lexemes.{Lexeme, lexeme}
-use Rattle.text_scopes.specs.Actions.{context}
-use Rattle.text_scopes.specs.Phrases.{star, Phrase, one_prod, one_star, yield_before, MeetsLookahead}
-use Rattle.text_scopes.specs.declared.meaning.Meaning.{Meaning}
-use Rattle.text_scopes.specs.declared.meaning.Meaning.TheVariants.{Test, Action}
-use Rattle.text_scopes.specs.ScopeParts.{ScopeParts}
+use Rattle.text_parser.specs.Pieces.{Piece, word, gap}
+use Rattle.text_parser.specs.declared.terminal.Terminal.{Terminal}
+use Rattle.text_parser.specs.declared.terminal.Terminal.TheVariants.{Name, Keyword, Separator, Zero}
+use Rattle.text_parser.specs.declared.terminal.Keyword.TheVariants as keyword
+use Rattle.text_parser.specs.declared.terminal.Separator.TheVariants.{Comma, Semicolon, Equals}
+use Rattle.text_parser.specs.Lexemes.{Lexeme, lexeme}
+use Rattle.text_parser.specs.Actions.{context}
+use Rattle.text_parser.specs.Phrases.{star, Phrase, one_prod, one_star, yield_before, MeetsLookahead}
+use Rattle.text_parser.specs.declared.meaning.Meaning.{Meaning}
+use Rattle.text_parser.specs.declared.meaning.Meaning.TheVariants.{Test, Action}
+use Rattle.text_parser.specs.ScopeParts.{ScopeParts}
 use Rattle.text_print.specs.Printing.{TermIsNamed, term_nesting}
 use Rattle.text_print.proofs.WordTerminals.{name_terminal}
 use Rattle.text_print.proofs.PrintedPhrases.{lexemes_from, leaf}

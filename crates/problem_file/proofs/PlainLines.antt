@@ -3,11 +3,11 @@ use Rattle.std.proofs.Common.{◌≡◌, ℕ, List, [], ◌∷◌, ◌++◌, Boo
 use Rattle.std.specs.Prelude.{codes}
 use Rattle.kat_model.specs.Trees.{TestTree, bottom, top, prim, complement, meet, join, Term, zero, one, test, act, sum, product, star}
 use Rattle.kat_model.specs.Problems.{ProblemParts}
-use Rattle.text_scopes.specs.declared.token.Kind.TheVariants.{Name}
-use Rattle.text_scopes.specs.Kinds.{IsToken}
-use Rattle.text_scopes.specs.Pieces.{Piece, word, numeral, symbol, gap, AreSeparate}
-use Rattle.text_scopes.specs.declared.meaning.Meaning.{Meaning}
-use Rattle.text_scopes.specs.ScopeParts.{ScopeParts}
+use Rattle.text_parser.specs.declared.token.Kind.TheVariants.{Name}
+use Rattle.text_parser.specs.Kinds.{IsToken}
+use Rattle.text_parser.specs.Pieces.{Piece, word, numeral, symbol, gap, AreSeparate}
+use Rattle.text_parser.specs.declared.meaning.Meaning.{Meaning}
+use Rattle.text_parser.specs.ScopeParts.{ScopeParts}
 use Rattle.text_print.specs.Printing.{cond_of, is_star, in_round, spaced, cond_pieces, test_pieces, term_pieces, TermIsNamed}
 use Rattle.problem_file.specs.CommentedTexts.{Comments, first_comments, later_comments, AreComments, EachAreComments}
 use Rattle.problem_file.proofs.Lines.{Line, code, remark, comment_pieces, lines_pieces, AreLines}

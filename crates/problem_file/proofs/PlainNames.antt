@@ -7,12 +7,12 @@ use Rattle.std.specs.Cmp.Derive.{both_true}
 use Rattle.std.specs.Fmt.{decimal}
 use Rattle.std.specs.List.{list_all}
 use Rattle.std.specs.Char.{is_ascii_digit}
-use Rattle.text_scopes.specs.Keywords.{is_keyword}
-use Rattle.text_scopes.proofs.Beginnings.{number_digits}
-use Rattle.text_scopes.proofs.PrintedWords.{begins_word, continues_word, word_is_name, decimal_is_number}
-use Rattle.text_scopes.specs.declared.meaning.Meaning.{Meaning}
-use Rattle.text_scopes.specs.declared.meaning.Meaning.TheVariants.{Test, Action, Var, Term, Prog}
-use Rattle.text_scopes.specs.ScopeParts.{IsIdentifier}
+use Rattle.text_parser.specs.Keywords.{is_keyword}
+use Rattle.text_parser.proofs.Beginnings.{number_digits}
+use Rattle.text_parser.proofs.PrintedWords.{begins_word, continues_word, word_is_name, decimal_is_number}
+use Rattle.text_parser.specs.declared.meaning.Meaning.{Meaning}
+use Rattle.text_parser.specs.declared.meaning.Meaning.TheVariants.{Test, Action, Var, Term, Prog}
+use Rattle.text_parser.specs.ScopeParts.{IsIdentifier}
 use Rattle.problem_file.specs.Questions.{plain_name}
 use Rattle.problem_file.specs.NamedTexts.{IsOneOf, AreNames}
 use Rattle.problem_file.specs.ProgramTexts.{var_name}

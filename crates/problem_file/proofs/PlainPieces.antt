@@ -5,13 +5,13 @@ use Rattle.std.specs.Prelude.{codes, flat_map}
 use Rattle.std.specs.List.{range_with_len}
 use Rattle.kat_model.specs.Trees.{Term}
 use Rattle.kat_model.specs.Problems.{ProblemParts}
-use Rattle.text_scopes.specs.Pieces.{Piece, word, numeral, symbol, gap, spelled, AreSeparate}
-use Rattle.text_scopes.specs.declared.token.Kind.TheVariants.{Name}
-use Rattle.text_scopes.specs.Kinds.{IsToken}
-use Rattle.text_scopes.proofs.PrintedWords.{keyword_is_name}
-use Rattle.text_scopes.specs.declared.meaning.Meaning.{Meaning}
-use Rattle.text_scopes.specs.declared.meaning.Meaning.TheVariants.{Test, Action}
-use Rattle.text_scopes.specs.ScopeParts.{ScopeParts, IsIdentifier}
+use Rattle.text_parser.specs.Pieces.{Piece, word, numeral, symbol, gap, spelled, AreSeparate}
+use Rattle.text_parser.specs.declared.token.Kind.TheVariants.{Name}
+use Rattle.text_parser.specs.Kinds.{IsToken}
+use Rattle.text_parser.proofs.PrintedWords.{keyword_is_name}
+use Rattle.text_parser.specs.declared.meaning.Meaning.{Meaning}
+use Rattle.text_parser.specs.declared.meaning.Meaning.TheVariants.{Test, Action}
+use Rattle.text_parser.specs.ScopeParts.{ScopeParts, IsIdentifier}
 use Rattle.text_print.specs.Printing.{term_text, term_pieces, TermIsNamed}
 use Rattle.text_print.proofs.PieceTexts.{term_spells}
 use Rattle.text_print.proofs.Separate.{EndsWords, term_separate}

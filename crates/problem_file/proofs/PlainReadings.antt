@@ -5,12 +5,12 @@ use Rattle.std.specs.Prelude.{codes, All}
 use Rattle.kat_model.specs.declared.limits.TheConstants.{MAX_TERM_NODES, MAX_OPEN, MAX_TEXT_BYTES}
 use Rattle.kat_model.specs.Trees.{Term, term_size}
 use Rattle.kat_model.specs.Problems.{ProblemParts, IsInRange, AreInRange, terms_size}
-use Rattle.text_scopes.specs.declared.lexer.TheConstants.{MAX_LEN}
-use Rattle.text_scopes.specs.Lex.{Lexes}
-use Rattle.text_scopes.specs.Pieces.{Piece, spelled, parts_from}
-use Rattle.text_scopes.proofs.PrintedWords.{keyword_is_name}
-use Rattle.text_scopes.specs.declared.meaning.Meaning.{Meaning}
-use Rattle.text_scopes.specs.ScopeParts.{ScopeParts}
+use Rattle.text_parser.specs.declared.lexer.TheConstants.{MAX_LEN}
+use Rattle.text_parser.specs.Lex.{Lexes}
+use Rattle.text_parser.specs.Pieces.{Piece, spelled, parts_from}
+use Rattle.text_parser.proofs.PrintedWords.{keyword_is_name}
+use Rattle.text_parser.specs.declared.meaning.Meaning.{Meaning}
+use Rattle.text_parser.specs.ScopeParts.{ScopeParts}
 use Rattle.text_print.specs.Printing.{term_nesting}
 use Rattle.while_lang.specs.Files.{term_side, GoalTree, equal}
 use Rattle.problem_file.specs.Files.{State, file_of}

@@ -9,10 +9,10 @@ use Rattle.std.specs.FinMap.{get-empty}
 use Rattle.kat_model.specs.declared.limits.TheConstants.{MAX_TESTS, MAX_ACTIONS}
 use Rattle.kat_model.specs.Trees.{TestTree, bottom, top, prim, complement, meet, join, Term, zero, one, test, act, sum, product, star}
 use Rattle.kat_model.specs.Problems.{IsTestInRange, IsInRange, AreInRange}
-use Rattle.text_scopes.specs.declared.meaning.Meaning.{Meaning}
-use Rattle.text_scopes.specs.declared.meaning.Meaning.TheVariants.{Test, Action, Var, Term as TermName, Prog}
-use Rattle.text_scopes.specs.ScopeParts.{ScopeParts, meaning, Means, IsUndeclared, IsNameOf, empty_scope, declared}
-use Rattle.text_scopes.proofs.Inverse.{insert_extends}
+use Rattle.text_parser.specs.declared.meaning.Meaning.{Meaning}
+use Rattle.text_parser.specs.declared.meaning.Meaning.TheVariants.{Test, Action, Var, Term as TermName, Prog}
+use Rattle.text_parser.specs.ScopeParts.{ScopeParts, meaning, Means, IsUndeclared, IsNameOf, empty_scope, declared}
+use Rattle.text_parser.proofs.Inverse.{insert_extends}
 use Rattle.text_print.specs.Printing.{name_of, cond_of, is_star, cond_text, test_text, term_text, CondIsNamed, TermIsNamed}
 use Rattle.text_print.proofs.NameOf.{name_is}
 use Rattle.problem_file.specs.Questions.{plain_name, hyp_text, goal_text}

@@ -6,9 +6,9 @@ use Rattle.std.specs.Prelude.{codes, flat_map, decimal}
 use Rattle.std.specs.List.{range_with_len}
 use Rattle.kat_model.specs.Trees.{Term}
 use Rattle.kat_model.specs.Problems.{ProblemParts, IsProblem}
-use Rattle.text_scopes.specs.Pieces.{spelled}
-use Rattle.text_scopes.specs.declared.meaning.Meaning.{Meaning}
-use Rattle.text_scopes.specs.ScopeParts.{ScopeParts}
+use Rattle.text_parser.specs.Pieces.{spelled}
+use Rattle.text_parser.specs.declared.meaning.Meaning.{Meaning}
+use Rattle.text_parser.specs.ScopeParts.{ScopeParts}
 use Rattle.text_print.specs.Printing.{name_of, term_text, term_pieces}
 use Rattle.text_print.proofs.PieceTexts.{term_spells}
 use Rattle.problem_file.specs.Questions.{declaration_text, hyp_text, goal_text, question_text}

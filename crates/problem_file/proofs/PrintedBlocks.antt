@@ -5,22 +5,22 @@ use Rattle.std.proofs.lemmas.List.{append-nil}
 use Rattle.std.specs.Prelude.{codes}
 use Rattle.kat_model.specs.declared.limits.TheConstants.{MAX_TERM_NODES, MAX_EXPR_NODES, MAX_OPEN}
 use Rattle.kat_model.specs.Expressions.{ExprTree, CondTree}
-use Rattle.text_scopes.specs.Pieces.{Piece, word, symbol, gap}
-use Rattle.text_scopes.proofs.Printed.{printed}
-use Rattle.text_scopes.specs.declared.terminal.Terminal.{Terminal}
-use Rattle.text_scopes.specs.declared.terminal.Terminal.TheVariants.{Name, Keyword, Separator}
-use Rattle.text_scopes.specs.declared.terminal.Keyword.TheVariants as keyword
-use Rattle.text_scopes.specs.declared.terminal.Separator.TheVariants.{Semicolon, CurlyOpen, Becomes}
-use Rattle.text_scopes.specs.Lexemes.{Lexeme, lexeme}
-use Rattle.text_scopes.specs.Parsed.{◌>>=◌, before, change, place_of}
-use Rattle.text_scopes.specs.Actions.{context}
-use Rattle.text_scopes.specs.Phrases.{one_conj, one_lit, one_mul, one_fac, yield_before, MeetsLookahead}
-use Rattle.text_scopes.specs.declared.meaning.Meaning.{Meaning}
-use Rattle.text_scopes.specs.declared.meaning.Meaning.TheVariants.{Action, Var}
-use Rattle.text_scopes.specs.ScopeParts.{ScopeParts, IsNameOf}
-use Rattle.text_scopes.specs.Laws.{told_nodes}
-use Rattle.text_scopes.specs.Sound.{IsExprName}
-use Rattle.text_scopes.proofs.Measured.{ok_value}
+use Rattle.text_parser.specs.Pieces.{Piece, word, symbol, gap}
+use Rattle.text_parser.proofs.Printed.{printed}
+use Rattle.text_parser.specs.declared.terminal.Terminal.{Terminal}
+use Rattle.text_parser.specs.declared.terminal.Terminal.TheVariants.{Name, Keyword, Separator}
+use Rattle.text_parser.specs.declared.terminal.Keyword.TheVariants as keyword
+use Rattle.text_parser.specs.declared.terminal.Separator.TheVariants.{Semicolon, CurlyOpen, Becomes}
+use Rattle.text_parser.specs.Lexemes.{Lexeme, lexeme}
+use Rattle.text_parser.specs.Parsed.{◌>>=◌, before, change, place_of}
+use Rattle.text_parser.specs.Actions.{context}
+use Rattle.text_parser.specs.Phrases.{one_conj, one_lit, one_mul, one_fac, yield_before, MeetsLookahead}
+use Rattle.text_parser.specs.declared.meaning.Meaning.{Meaning}
+use Rattle.text_parser.specs.declared.meaning.Meaning.TheVariants.{Action, Var}
+use Rattle.text_parser.specs.ScopeParts.{ScopeParts, IsNameOf}
+use Rattle.text_parser.specs.Laws.{told_nodes}
+use Rattle.text_parser.specs.Sound.{IsExprName}
+use Rattle.text_parser.proofs.Measured.{ok_value}
 use Rattle.text_print.specs.Printing.{expr_pieces, cond_pieces, CondIsNamed, ExprIsNamed, expr_nesting, cond_nesting}
 use Rattle.text_print.proofs.WordTerminals.{name_terminal}
 use Rattle.text_print.proofs.PrintedPhrases.{lexemes_from, leaf}

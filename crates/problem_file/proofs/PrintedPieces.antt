@@ -3,9 +3,9 @@ use Rattle.std.proofs.Common.{◌≡◌, ℕ, List, [], ◌∷◌, ◌++◌, ref
 use Rattle.std.proofs.lemmas.List.{append-nil}
 use Rattle.std.specs.Prelude.{codes}
 use Rattle.kat_model.specs.Expressions.{ExprTree, CondTree}
-use Rattle.text_scopes.specs.Pieces.{Piece, symbol, gap, spelled}
-use Rattle.text_scopes.specs.declared.meaning.Meaning.{Meaning}
-use Rattle.text_scopes.specs.declared.meaning.Meaning.TheVariants.{Action, Var}
+use Rattle.text_parser.specs.Pieces.{Piece, symbol, gap, spelled}
+use Rattle.text_parser.specs.declared.meaning.Meaning.{Meaning}
+use Rattle.text_parser.specs.declared.meaning.Meaning.TheVariants.{Action, Var}
 use Rattle.text_print.specs.Printing.{expr_text, cond_text, expr_pieces, cond_pieces}
 use Rattle.text_print.proofs.PieceTexts.{expr_spells, cond_spells}
 use Rattle.while_lang.specs.Programs.{ProgTree, empty, skip_then, abort_then, assert_then, act_then, assign_then, branch_then, loop_then}

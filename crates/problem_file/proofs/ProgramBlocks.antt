@@ -4,14 +4,14 @@ use Rattle.std.specs.Prelude.{codes}
 use Rattle.kat_model.specs.declared.limits.TheConstants.{MAX_OPEN}
 use Rattle.kat_model.specs.Expressions.{CondTree}
 use Rattle.kat_model.specs.declared.expression.Width.{Width}
-use Rattle.text_scopes.specs.Pieces.{Piece, symbol, gap}
-use Rattle.text_scopes.specs.declared.terminal.Terminal.TheVariants.{Separator}
-use Rattle.text_scopes.specs.declared.terminal.Separator.TheVariants.{CurlyOpen}
-use Rattle.text_scopes.specs.Lexemes.{Lexeme, lexeme}
-use Rattle.text_scopes.specs.Actions.{context}
-use Rattle.text_scopes.specs.Phrases.{cond, Phrase, one_conj, one_lit, yield_before, MeetsLookahead, IsWithinLimits}
-use Rattle.text_scopes.specs.declared.meaning.Meaning.{Meaning}
-use Rattle.text_scopes.specs.ScopeParts.{ScopeParts}
+use Rattle.text_parser.specs.Pieces.{Piece, symbol, gap}
+use Rattle.text_parser.specs.declared.terminal.Terminal.TheVariants.{Separator}
+use Rattle.text_parser.specs.declared.terminal.Separator.TheVariants.{CurlyOpen}
+use Rattle.text_parser.specs.Lexemes.{Lexeme, lexeme}
+use Rattle.text_parser.specs.Actions.{context}
+use Rattle.text_parser.specs.Phrases.{cond, Phrase, one_conj, one_lit, yield_before, MeetsLookahead, IsWithinLimits}
+use Rattle.text_parser.specs.declared.meaning.Meaning.{Meaning}
+use Rattle.text_parser.specs.ScopeParts.{ScopeParts}
 use Rattle.text_print.specs.Printing.{cond_pieces, CondIsNamed}
 use Rattle.text_print.proofs.PrintedPhrases.{lexemes_from, leaf}
 use Rattle.text_print.proofs.PrintedConds.{EndsCond, cond_back}

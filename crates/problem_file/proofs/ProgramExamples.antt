@@ -5,10 +5,10 @@ use Rattle.kat_model.specs.declared.limits.TheConstants.{MAX_TEXT_BYTES}
 use Rattle.kat_model.specs.declared.expression.Width.TheVariants.{W8, W64}
 use Rattle.kat_model.specs.declared.expression.Rel.TheVariants.{Lt, Eq, Ne}
 use Rattle.kat_model.specs.Expressions.{CondTree, number, variable, plus, always, compared}
-use Rattle.text_scopes.proofs.PrintedWords.{word_is_name}
-use Rattle.text_scopes.specs.declared.meaning.Meaning.{Meaning}
-use Rattle.text_scopes.specs.declared.meaning.Meaning.TheVariants.{Var}
-use Rattle.text_scopes.specs.ScopeParts.{IsIdentifier}
+use Rattle.text_parser.proofs.PrintedWords.{word_is_name}
+use Rattle.text_parser.specs.declared.meaning.Meaning.{Meaning}
+use Rattle.text_parser.specs.declared.meaning.Meaning.TheVariants.{Var}
+use Rattle.text_parser.specs.ScopeParts.{IsIdentifier}
 use Rattle.text_print.proofs.WordTerminals.{zero_written, one_written}
 use Rattle.while_lang.specs.Programs.{ProgTree, empty, skip_then, assign_then, loop_then}
 use Rattle.while_lang.specs.Files.{GoalTree, prog_side, equal, triple}

@@ -5,18 +5,18 @@ use Rattle.kat_model.specs.declared.limits.TheConstants.{MAX_VARS, MAX_TERM_NODE
 use Rattle.kat_model.specs.Expressions.{CondTree}
 use Rattle.kat_model.specs.declared.expression.Width.{Width}
 use Rattle.kat_model.specs.declared.expression.Width.TheVariants.{W8, W16, W32, W64}
-use Rattle.text_scopes.specs.Pieces.{Piece, word, numeral, symbol, gap}
-use Rattle.text_scopes.specs.declared.terminal.Terminal.{Terminal}
-use Rattle.text_scopes.specs.declared.terminal.Terminal.TheVariants.{Name, Number, Keyword, Separator}
-use Rattle.text_scopes.specs.declared.terminal.Keyword.TheVariants as keyword
-use Rattle.text_scopes.specs.declared.terminal.Separator.TheVariants.{Comma, Semicolon, CurlyOpen, CurlyClose}
-use Rattle.text_scopes.specs.Terminals.{number_terminal}
-use Rattle.text_scopes.specs.Lexemes.{Lexeme, lexeme}
-use Rattle.text_scopes.specs.Phrases.{term, Phrase, one_prod, one_star, bare, name_unit, yield_before, MeetsLookahead}
-use Rattle.text_scopes.specs.declared.meaning.Meaning.{Meaning}
-use Rattle.text_scopes.specs.declared.meaning.Meaning.TheVariants.{Var, Prog}
-use Rattle.text_scopes.specs.Sizes.{cond_size}
-use Rattle.text_scopes.specs.ScopeParts.{ScopeParts, IsIdentifier, IsUndeclared, Means}
+use Rattle.text_parser.specs.Pieces.{Piece, word, numeral, symbol, gap}
+use Rattle.text_parser.specs.declared.terminal.Terminal.{Terminal}
+use Rattle.text_parser.specs.declared.terminal.Terminal.TheVariants.{Name, Number, Keyword, Separator}
+use Rattle.text_parser.specs.declared.terminal.Keyword.TheVariants as keyword
+use Rattle.text_parser.specs.declared.terminal.Separator.TheVariants.{Comma, Semicolon, CurlyOpen, CurlyClose}
+use Rattle.text_parser.specs.Terminals.{number_terminal}
+use Rattle.text_parser.specs.Lexemes.{Lexeme, lexeme}
+use Rattle.text_parser.specs.Phrases.{term, Phrase, one_prod, one_star, bare, name_unit, yield_before, MeetsLookahead}
+use Rattle.text_parser.specs.declared.meaning.Meaning.{Meaning}
+use Rattle.text_parser.specs.declared.meaning.Meaning.TheVariants.{Var, Prog}
+use Rattle.text_parser.specs.Sizes.{cond_size}
+use Rattle.text_parser.specs.ScopeParts.{ScopeParts, IsIdentifier, IsUndeclared, Means}
 use Rattle.text_print.specs.Printing.{CondIsNamed}
 use Rattle.text_print.proofs.WordTerminals.{name_terminal}
 use Rattle.text_print.proofs.PrintedPhrases.{lexemes_from, leaf}

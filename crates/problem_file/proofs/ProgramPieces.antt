@@ -5,11 +5,11 @@ use Rattle.std.specs.List.{range_with_len}
 use Rattle.kat_model.specs.declared.expression.Width.{Width}
 use Rattle.kat_model.specs.declared.expression.Width.TheVariants.{W8, W16, W32, W64}
 use Rattle.kat_model.specs.Expressions.{CondTree}
-use Rattle.text_scopes.specs.Pieces.{Piece, word, numeral, symbol, gap, spelled, AreSeparate}
-use Rattle.text_scopes.proofs.PrintedWords.{word_is_name, keyword_is_name}
-use Rattle.text_scopes.specs.declared.meaning.Meaning.{Meaning}
-use Rattle.text_scopes.specs.declared.meaning.Meaning.TheVariants.{Var}
-use Rattle.text_scopes.specs.ScopeParts.{ScopeParts, IsIdentifier}
+use Rattle.text_parser.specs.Pieces.{Piece, word, numeral, symbol, gap, spelled, AreSeparate}
+use Rattle.text_parser.proofs.PrintedWords.{word_is_name, keyword_is_name}
+use Rattle.text_parser.specs.declared.meaning.Meaning.{Meaning}
+use Rattle.text_parser.specs.declared.meaning.Meaning.TheVariants.{Var}
+use Rattle.text_parser.specs.ScopeParts.{ScopeParts, IsIdentifier}
 use Rattle.text_print.specs.Printing.{cond_text, cond_pieces, CondIsNamed}
 use Rattle.text_print.proofs.PieceTexts.{cond_spells}
 use Rattle.text_print.proofs.Separate.{EndsWords, cond_separate}

@@ -5,13 +5,13 @@ use Rattle.std.specs.Option.{option_map}
 use Rattle.kat_model.specs.declared.limits.TheConstants.{MAX_VARS, MAX_TERM_NODES}
 use Rattle.kat_model.specs.Expressions.{CondTree}
 use Rattle.kat_model.specs.declared.expression.Width.{Width}
-use Rattle.text_scopes.specs.declared.lexer.TheConstants.{MAX_LEN}
-use Rattle.text_scopes.specs.Lex.{Lexes}
-use Rattle.text_scopes.specs.Pieces.{Piece, spelled, AreSeparate, parts_from}
-use Rattle.text_scopes.proofs.Printed.{printed}
-use Rattle.text_scopes.specs.declared.meaning.Meaning.{Meaning}
-use Rattle.text_scopes.specs.declared.meaning.Meaning.TheVariants.{Prog}
-use Rattle.text_scopes.specs.ScopeParts.{ScopeParts, IsUndeclared, declared}
+use Rattle.text_parser.specs.declared.lexer.TheConstants.{MAX_LEN}
+use Rattle.text_parser.specs.Lex.{Lexes}
+use Rattle.text_parser.specs.Pieces.{Piece, spelled, AreSeparate, parts_from}
+use Rattle.text_parser.proofs.Printed.{printed}
+use Rattle.text_parser.specs.declared.meaning.Meaning.{Meaning}
+use Rattle.text_parser.specs.declared.meaning.Meaning.TheVariants.{Prog}
+use Rattle.text_parser.specs.ScopeParts.{ScopeParts, IsUndeclared, declared}
 use Rattle.text_print.specs.Printing.{CondIsNamed}
 use Rattle.while_lang.specs.Programs.{ProgTree}
 use Rattle.while_lang.specs.ProgramSizes.{prog_size}

@@ -10,10 +10,10 @@ use Rattle.kat_model.specs.declared.expression.Width.{Width}
 use Rattle.kat_model.specs.declared.expression.Width.TheVariants.{W8, W16, W32, W64}
 use Rattle.kat_model.specs.Stores.{modulus}
 use Rattle.kat_model.specs.Expressions.{ExprTree, number, variable, plus, minus, times, CondTree, always, never, named, compared, negation, both, either}
-use Rattle.text_scopes.specs.declared.meaning.Meaning.{Meaning}
-use Rattle.text_scopes.specs.declared.meaning.Meaning.TheVariants.{Var, Prog}
-use Rattle.text_scopes.specs.ScopeParts.{ScopeParts, meaning, Means, IsUndeclared, IsNameOf, empty_scope, declared}
-use Rattle.text_scopes.proofs.Inverse.{insert_extends}
+use Rattle.text_parser.specs.declared.meaning.Meaning.{Meaning}
+use Rattle.text_parser.specs.declared.meaning.Meaning.TheVariants.{Var, Prog}
+use Rattle.text_parser.specs.ScopeParts.{ScopeParts, meaning, Means, IsUndeclared, IsNameOf, empty_scope, declared}
+use Rattle.text_parser.proofs.Inverse.{insert_extends}
 use Rattle.text_print.specs.Printing.{ExprIsNamed, CondIsNamed}
 use Rattle.while_lang.specs.Programs.{ProgTree, empty, skip_then, abort_then, assert_then, act_then, assign_then, branch_then, loop_then}
 use Rattle.problem_file.specs.ProgramPrinting.{ProgIsNamed}

@@ -2,12 +2,12 @@
 use Rattle.std.proofs.Common.{◌≡◌, ℕ, List, drop, Bool, Result, Ok, Err, refl, sym, subst}
 use Rattle.std.specs.Prelude.{IfOk}
 use Rattle.std.specs.Result.{IsErrAnd, result_and}
-use Rattle.text_scopes.specs.declared.fault.TextFault.{TextFault}
-use Rattle.text_scopes.specs.declared.fault.TextFault.TheVariants.{NoMemory}
-use Rattle.text_scopes.specs.declared.terminal.Terminal.{Terminal}
-use Rattle.text_scopes.specs.Lexemes.{Lexeme}
-use Rattle.text_scopes.specs.Parsed.{Parsed, ◌>>=◌, before, Makes, Reads, Wants, wants}
-use Rattle.text_scopes.proofs.NamedFaults.{IsNamedFault, IsNamed, wants_named}
+use Rattle.text_parser.specs.declared.fault.TextFault.{TextFault}
+use Rattle.text_parser.specs.declared.fault.TextFault.TheVariants.{NoMemory}
+use Rattle.text_parser.specs.declared.terminal.Terminal.{Terminal}
+use Rattle.text_parser.specs.Lexemes.{Lexeme}
+use Rattle.text_parser.specs.Parsed.{Parsed, ◌>>=◌, before, Makes, Reads, Wants, wants}
+use Rattle.text_parser.proofs.NamedFaults.{IsNamedFault, IsNamed, wants_named}
 use Rattle.while_lang.proofs.BlockFaults.{returned}
 use Rattle.problem_file.specs.Working.Walks.{StepEnds, Does}
 

@@ -2,15 +2,15 @@
 use Rattle.std.proofs.Common.{◌≡◌, ◌⊎◌, ℕ, List, map, length, slice_get, get_or, Some, Result, Ok, Err, IfErr, MatchResult, Vec, ap, subst, ◌∙◌}
 use Rattle.std.specs.Option.{option_map}
 use Rattle.std.proofs.lemmas.Option.{slice_get-map, slice_get_within, get_or_from_slice_get}
-use Rattle.text_scopes.specs.declared.token.Token.{Token}
+use Rattle.text_parser.specs.declared.token.Token.{Token}
 use Rattle.std.specs.declared.alloc.Global.{Global}
-use Rattle.text_scopes.specs.declared.fault.TextFault.{TextFault}
-use Rattle.text_scopes.specs.declared.fault.TextFault.TheVariants.{NoMemory}
-use Rattle.text_scopes.specs.TokenParts.{parts_of_tokens, parts_of_token}
-use Rattle.text_scopes.specs.Lex.{Lexes, IsSlice}
-use Rattle.text_scopes.proofs.Slices.{slices_from}
-use Rattle.text_scopes.specs.Lexemes.{lexemes}
-use Rattle.text_scopes.specs.Parsed.{Makes}
+use Rattle.text_parser.specs.declared.fault.TextFault.{TextFault}
+use Rattle.text_parser.specs.declared.fault.TextFault.TheVariants.{NoMemory}
+use Rattle.text_parser.specs.TokenParts.{parts_of_tokens, parts_of_token}
+use Rattle.text_parser.specs.Lex.{Lexes, IsSlice}
+use Rattle.text_parser.proofs.Slices.{slices_from}
+use Rattle.text_parser.specs.Lexemes.{lexemes}
+use Rattle.text_parser.specs.Parsed.{Makes}
 use Rattle.problem_file.specs.Tokens.{AreTokens}
 use Rattle.while_lang.specs.declared.file.Goal.{Goal}
 use Rattle.problem_file.specs.declared.goal_limit.GoalLimit.{GoalLimit}

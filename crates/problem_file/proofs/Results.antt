@@ -1,7 +1,7 @@
 -- Consequences of a known result.
 use Rattle.std.proofs.Common.{◌≡◌, Bool, true, false, cond as if_true, Result, Ok, Err, refl, ap, subst}
-use Rattle.text_scopes.specs.declared.fault.TextFault.{TextFault}
-use Rattle.text_scopes.specs.Parsed.{◌>>=◌}
+use Rattle.text_parser.specs.declared.fault.TextFault.{TextFault}
+use Rattle.text_parser.specs.Parsed.{◌>>=◌}
 
 abbrev pub ok_of : {A : Type 0} → A → Result A TextFault
 ok_of x = Ok x

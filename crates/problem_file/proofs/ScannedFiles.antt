@@ -1,14 +1,14 @@
 -- The syntax check accepts exactly the files of the grammar in which nothing is too deep or too wide.
 use Rattle.std.proofs.Common.{◌≡◌, ℕ, List, [], ◌∷◌, Bool, true, false, Result, Ok, Err, Option, Some, None, refl, ap, sym, ◌∙◌}
 use Rattle.std.specs.Option.{option_and_then}
-use Rattle.text_scopes.specs.declared.fault.TextFault.{TextFault}
-use Rattle.text_scopes.specs.Lexemes.{Lexeme}
-use Rattle.text_scopes.specs.Actions.{context}
-use Rattle.text_scopes.specs.Parsed.{◌>>=◌, before}
-use Rattle.text_scopes.specs.Phrases.{term, cond, Leaf, Phrase, IsWithinLimits}
-use Rattle.text_scopes.specs.Folds.{fold}
-use Rattle.text_scopes.specs.Scans.{scanning}
-use Rattle.text_scopes.proofs.Scanned.{scanned}
+use Rattle.text_parser.specs.declared.fault.TextFault.{TextFault}
+use Rattle.text_parser.specs.Lexemes.{Lexeme}
+use Rattle.text_parser.specs.Actions.{context}
+use Rattle.text_parser.specs.Parsed.{◌>>=◌, before}
+use Rattle.text_parser.specs.Phrases.{term, cond, Leaf, Phrase, IsWithinLimits}
+use Rattle.text_parser.specs.Folds.{fold}
+use Rattle.text_parser.specs.Scans.{scanning}
+use Rattle.text_parser.proofs.Scanned.{scanned}
 use Rattle.while_lang.specs.BlockPhrases.{block, BlockPhrase, block_before, BlockObeys, BlockFits}
 use Rattle.while_lang.specs.BlockFolds.{fold_block}
 use Rattle.while_lang.specs.BlockScans.{scanning_blocks, scan_block}

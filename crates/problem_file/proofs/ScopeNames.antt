@@ -1,8 +1,8 @@
 -- The scopes of plain names are plain, and each adds one name to the previous one.
 use Rattle.std.proofs.Common.{◌≡◌, ◌<◌, ◌≤◌, ◌+◌, ◌^◌, ℕ, zero, suc, Result, Ok, Err, IfOk, refl, sym, ap, subst, arith}
 use Rattle.kat_model.specs.declared.limits.TheConstants.{MAX_TESTS, MAX_ACTIONS}
-use Rattle.text_scopes.specs.declared.meaning.Meaning.TheVariants.{Test, Action}
-use Rattle.text_scopes.specs.ScopeParts.{ScopeParts, declared}
+use Rattle.text_parser.specs.declared.meaning.Meaning.TheVariants.{Test, Action}
+use Rattle.text_parser.specs.ScopeParts.{ScopeParts, declared}
 use Rattle.problem_file.specs.Questions.{plain_name}
 use Rattle.problem_file.specs.Working.Scopes.{IsPlain}
 use Rattle.problem_file.specs.NumberedScopes.{tests_scope, numbered_scope}

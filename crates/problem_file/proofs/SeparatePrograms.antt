@@ -1,11 +1,11 @@
 -- The pieces of a printed program are tokens that the following pieces do not extend.
 use Rattle.std.proofs.Common.{ℕ, List, [], ◌∷◌, refl}
 use Rattle.std.specs.Prelude.{codes}
-use Rattle.text_scopes.specs.declared.token.Kind.TheVariants.{Symbol}
-use Rattle.text_scopes.specs.Pieces.{Piece, symbol, gap, spelled, EndsBefore, AreSeparate}
-use Rattle.text_scopes.proofs.PrintedWords.{keyword_is_name}
-use Rattle.text_scopes.specs.declared.meaning.Meaning.{Meaning}
-use Rattle.text_scopes.specs.ScopeParts.{ScopeParts}
+use Rattle.text_parser.specs.declared.token.Kind.TheVariants.{Symbol}
+use Rattle.text_parser.specs.Pieces.{Piece, symbol, gap, spelled, EndsBefore, AreSeparate}
+use Rattle.text_parser.proofs.PrintedWords.{keyword_is_name}
+use Rattle.text_parser.specs.declared.meaning.Meaning.{Meaning}
+use Rattle.text_parser.specs.ScopeParts.{ScopeParts}
 use Rattle.text_print.specs.Printing.{expr_pieces, cond_pieces}
 use Rattle.text_print.proofs.Separate.{EndsWords, blank_ends, expr_separate, cond_separate}
 use Rattle.while_lang.specs.Programs.{ProgTree, empty, skip_then, abort_then, assert_then, act_then, assign_then, branch_then, loop_then}

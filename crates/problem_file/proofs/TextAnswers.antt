@@ -3,15 +3,15 @@ use Rattle.std.proofs.Common.{◌≡◌, ◌≤◌, ◌<◌, ◌⊎◌, inl, inr
 use Rattle.std.specs.Str.{IsUtf8, IsValidUpTo, is_utf8}
 use Rattle.std.proofs.lemmas.Str.{IsUtf8-from_is_utf8, utf8_valid_len-IsValidUpTo}
 use Rattle.std.proofs.lemmas.Bool.{ltb-true, ltb-false}
-use Rattle.text_scopes.specs.declared.lexer.TheConstants.{MAX_LEN}
-use Rattle.text_scopes.specs.declared.fault.TextFault.{TextFault}
-use Rattle.text_scopes.specs.declared.fault.TextFault.TheVariants.{NoMemory, TooLong, NotUtf8, BadToken, Syntax}
-use Rattle.text_scopes.specs.TokenParts.{TokenParts}
-use Rattle.text_scopes.specs.Lex.{IsText, Lexes, FirstBad, IsFault}
-use Rattle.text_scopes.proofs.Readings.{one_lexing, one_bad, not_both, some_reading}
-use Rattle.text_scopes.specs.Lexemes.{Lexeme, lexeme_of}
-use Rattle.text_scopes.specs.Parsed.{Makes}
-use Rattle.text_scopes.proofs.NamedFaults.{IsNamedFault, IsNamed}
+use Rattle.text_parser.specs.declared.lexer.TheConstants.{MAX_LEN}
+use Rattle.text_parser.specs.declared.fault.TextFault.{TextFault}
+use Rattle.text_parser.specs.declared.fault.TextFault.TheVariants.{NoMemory, TooLong, NotUtf8, BadToken, Syntax}
+use Rattle.text_parser.specs.TokenParts.{TokenParts}
+use Rattle.text_parser.specs.Lex.{IsText, Lexes, FirstBad, IsFault}
+use Rattle.text_parser.proofs.Readings.{one_lexing, one_bad, not_both, some_reading}
+use Rattle.text_parser.specs.Lexemes.{Lexeme, lexeme_of}
+use Rattle.text_parser.specs.Parsed.{Makes}
+use Rattle.text_parser.proofs.NamedFaults.{IsNamedFault, IsNamed}
 use Rattle.problem_file.specs.FirstFaults.{placed, placing, Refuses, too_long, not_utf8, IsFirstFault, no_text, bad_token, refused}
 use Rattle.problem_file.specs.Laws.{HaveOneAnswer}
 use Rattle.problem_file.proofs.Results.{ok_of, err_of, same_ok}

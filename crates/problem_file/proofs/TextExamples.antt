@@ -7,15 +7,15 @@ use Rattle.std.specs.Cmp.Lexicographic.{slice_cmp}
 use Rattle.std.specs.FinMap.{get-empty}
 use Rattle.kat_model.specs.Trees.{prim, meet, test, act, product, star as star_term}
 use Rattle.kat_model.specs.Expressions.{named, negation}
-use Rattle.text_scopes.specs.Pieces.{Piece, word, numeral, symbol, gap, parts_from, AreSeparate}
-use Rattle.text_scopes.proofs.PrintedWords.{word_is_name}
-use Rattle.text_scopes.proofs.Printed.{printed}
-use Rattle.text_scopes.specs.Actions.{context}
-use Rattle.text_scopes.specs.Phrases.{Leaf, Phrase, term, cond, one_prod, one_star, more_stars, bare, starred, name_unit, square_unit, one_conj, one_lit, more_lits, name_lit, not_lit}
-use Rattle.text_scopes.specs.declared.meaning.Meaning.TheVariants.{Test, Action}
-use Rattle.text_scopes.specs.ScopeParts.{ScopeParts, Means, IsUndeclared, empty_scope, declared}
-use Rattle.text_scopes.specs.Sound.{IsTermName, IsCondName}
-use Rattle.text_scopes.proofs.MeaningEntries.{get-insert_name}
+use Rattle.text_parser.specs.Pieces.{Piece, word, numeral, symbol, gap, parts_from, AreSeparate}
+use Rattle.text_parser.proofs.PrintedWords.{word_is_name}
+use Rattle.text_parser.proofs.Printed.{printed}
+use Rattle.text_parser.specs.Actions.{context}
+use Rattle.text_parser.specs.Phrases.{Leaf, Phrase, term, cond, one_prod, one_star, more_stars, bare, starred, name_unit, square_unit, one_conj, one_lit, more_lits, name_lit, not_lit}
+use Rattle.text_parser.specs.declared.meaning.Meaning.TheVariants.{Test, Action}
+use Rattle.text_parser.specs.ScopeParts.{ScopeParts, Means, IsUndeclared, empty_scope, declared}
+use Rattle.text_parser.specs.Sound.{IsTermName, IsCondName}
+use Rattle.text_parser.proofs.MeaningEntries.{get-insert_name}
 use Rattle.while_lang.specs.Files.{term_side, equal, triple}
 use Rattle.problem_file.specs.Files.{State, file_of}
 use Rattle.problem_file.specs.Phrases.{one_name, more_names, tests, actions, hypothesis, goal_equal, goal_triple}

@@ -3,17 +3,17 @@ use Rattle.std.proofs.Common.{◌≡◌, ℕ, ◌+◌, ◌≤◌, ◌<◌, List,
 use Rattle.kat_model.specs.declared.limits.TheConstants.{MAX_EXPR_NODES}
 use Rattle.kat_model.specs.Expressions.{CondTree}
 use Rattle.kat_model.proofs.Places.{slice_get_last}
-use Rattle.text_scopes.specs.declared.terminal.Terminal.TheVariants.{Separator, Zero}
-use Rattle.text_scopes.specs.declared.terminal.Separator.TheVariants.{Comma, CurlyClose, Equals}
-use Rattle.text_scopes.specs.Lexemes.{Lexeme}
-use Rattle.text_scopes.specs.Parsed.{◌>>=◌}
-use Rattle.text_scopes.specs.Phrases.{term, Leaf, Phrase, cons_token, yield_before, IsWithinLimits}
-use Rattle.text_scopes.specs.Actions.{context}
-use Rattle.text_scopes.specs.Folds.{fold}
-use Rattle.text_scopes.proofs.ParserSoundness.{bind_ok}
-use Rattle.text_scopes.specs.Measuring.{extents}
-use Rattle.text_scopes.specs.declared.extent.Extent.{Extent}
-use Rattle.text_scopes.specs.Sizes.{cond_size}
+use Rattle.text_parser.specs.declared.terminal.Terminal.TheVariants.{Separator, Zero}
+use Rattle.text_parser.specs.declared.terminal.Separator.TheVariants.{Comma, CurlyClose, Equals}
+use Rattle.text_parser.specs.Lexemes.{Lexeme}
+use Rattle.text_parser.specs.Parsed.{◌>>=◌}
+use Rattle.text_parser.specs.Phrases.{term, Leaf, Phrase, cons_token, yield_before, IsWithinLimits}
+use Rattle.text_parser.specs.Actions.{context}
+use Rattle.text_parser.specs.Folds.{fold}
+use Rattle.text_parser.proofs.ParserSoundness.{bind_ok}
+use Rattle.text_parser.specs.Measuring.{extents}
+use Rattle.text_parser.specs.declared.extent.Extent.{Extent}
+use Rattle.text_parser.specs.Sizes.{cond_size}
 use Rattle.while_lang.specs.ProgramSizes.{largest_in}
 use Rattle.while_lang.specs.NamedProgs.{ProgParts}
 use Rattle.while_lang.specs.BlockSound.{block_nesting}

@@ -7,10 +7,10 @@ use Rattle.kat_model.specs.Expressions.{CondTree, test_without_comparisons}
 use Rattle.kat_model.specs.declared.expression.Width.{Width}
 use Rattle.kat_model.specs.declared.expression.Width.TheVariants.{W8, W16, W32, W64}
 use Rattle.goal_forms.specs.Sides.{failing_run}
-use Rattle.text_scopes.specs.declared.fault.TextFault.{TextFault}
-use Rattle.text_scopes.specs.declared.fault.TextFault.TheVariants.{DoubleName, TooMany, TooLarge, TwoGoals, Sort}
-use Rattle.text_scopes.specs.declared.meaning.Meaning.TheVariants.{Test, Action, Var, Prog}
-use Rattle.text_scopes.specs.ScopeParts.{ScopeParts, meaning, empty_scope, declared, defined}
+use Rattle.text_parser.specs.declared.fault.TextFault.{TextFault}
+use Rattle.text_parser.specs.declared.fault.TextFault.TheVariants.{DoubleName, TooMany, TooLarge, TwoGoals, Sort}
+use Rattle.text_parser.specs.declared.meaning.Meaning.TheVariants.{Test, Action, Var, Prog}
+use Rattle.text_parser.specs.ScopeParts.{ScopeParts, meaning, empty_scope, declared, defined}
 use Rattle.while_lang.specs.Programs.{ProgTree}
 use Rattle.while_lang.specs.NamedProgs.{ProgParts}
 use Rattle.problem_file.specs.declared.goal_limit.GoalLimit.{GoalLimit}

@@ -1,12 +1,12 @@
 -- The first fault of the bytes of a text, for any checks of its tokens.
 use Rattle.std.specs.Prelude.{◌≡◌, ◌≤◌, ◌<◌, ℕ, min, List, length, map, Result, Ok, Err}
 use Rattle.std.specs.Str.{IsValidUpTo}
-use Rattle.text_scopes.specs.declared.lexer.TheConstants.{MAX_LEN}
-use Rattle.text_scopes.specs.declared.fault.TextFault.{TextFault}
-use Rattle.text_scopes.specs.declared.fault.TextFault.TheVariants.{TooLong, NotUtf8, BadToken, Syntax}
-use Rattle.text_scopes.specs.TokenParts.{TokenParts}
-use Rattle.text_scopes.specs.Lex.{Lexes, FirstBad}
-use Rattle.text_scopes.specs.Lexemes.{Lexeme, lexeme_of}
+use Rattle.text_parser.specs.declared.lexer.TheConstants.{MAX_LEN}
+use Rattle.text_parser.specs.declared.fault.TextFault.{TextFault}
+use Rattle.text_parser.specs.declared.fault.TextFault.TheVariants.{TooLong, NotUtf8, BadToken, Syntax}
+use Rattle.text_parser.specs.TokenParts.{TokenParts}
+use Rattle.text_parser.specs.Lex.{Lexes, FirstBad}
+use Rattle.text_parser.specs.Lexemes.{Lexeme, lexeme_of}
 
 -- a fault after the last token is placed at the length of the text
 abbrev pub placed : ℕ → TextFault → TextFault

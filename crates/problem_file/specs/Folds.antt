@@ -1,15 +1,15 @@
 -- The results of actions on items, from left to right, or the first fault. A measurement includes the tokens after its
 -- phrase, so the folds take these too.
 use Rattle.std.specs.Prelude.{ℕ, List, [], ◌∷◌, Bool, true, false, if◌then◌else◌, Result, Ok, Err, Option, Some, None, option_and_then}
-use Rattle.text_scopes.specs.declared.fault.TextFault.{TextFault}
-use Rattle.text_scopes.specs.declared.fault.TextFault.TheVariants.{NumberTooWide}
-use Rattle.text_scopes.specs.declared.terminal.Terminal.TheVariants.{Separator, Zero}
-use Rattle.text_scopes.specs.declared.terminal.Separator.TheVariants.{Comma, CurlyClose, Equals}
-use Rattle.text_scopes.specs.Lexemes.{Lexeme}
-use Rattle.text_scopes.specs.Parsed.{◌>>=◌}
-use Rattle.text_scopes.specs.Actions.{context}
-use Rattle.text_scopes.specs.Phrases.{term, cond, Leaf, Phrase, cons_token, yield_before}
-use Rattle.text_scopes.specs.Folds.{fold}
+use Rattle.text_parser.specs.declared.fault.TextFault.{TextFault}
+use Rattle.text_parser.specs.declared.fault.TextFault.TheVariants.{NumberTooWide}
+use Rattle.text_parser.specs.declared.terminal.Terminal.TheVariants.{Separator, Zero}
+use Rattle.text_parser.specs.declared.terminal.Separator.TheVariants.{Comma, CurlyClose, Equals}
+use Rattle.text_parser.specs.Lexemes.{Lexeme}
+use Rattle.text_parser.specs.Parsed.{◌>>=◌}
+use Rattle.text_parser.specs.Actions.{context}
+use Rattle.text_parser.specs.Phrases.{term, cond, Leaf, Phrase, cons_token, yield_before}
+use Rattle.text_parser.specs.Folds.{fold}
 use Rattle.while_lang.specs.BlockPhrases.{block, BlockPhrase, block_before}
 use Rattle.while_lang.specs.BlockFolds.{fold_block}
 use Rattle.problem_file.specs.declared.item_reading.Declared.TheVariants as what

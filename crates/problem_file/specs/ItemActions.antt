@@ -1,9 +1,9 @@
 -- The actions on the parts of an item during reading. An action may refuse a part; every other error in an item is an
 -- error of syntax.
 use Rattle.std.specs.Prelude.{ℕ, List, Result, Option}
-use Rattle.text_scopes.specs.declared.fault.TextFault.{TextFault}
-use Rattle.text_scopes.specs.Lexemes.{Lexeme}
-use Rattle.text_scopes.specs.Actions.{Actions}
+use Rattle.text_parser.specs.declared.fault.TextFault.{TextFault}
+use Rattle.text_parser.specs.Lexemes.{Lexeme}
+use Rattle.text_parser.specs.Actions.{Actions}
 use Rattle.while_lang.specs.BlockActions.{BlockActions}
 use Rattle.problem_file.specs.declared.item_reading.Declared.{Declared}
 use Rattle.problem_file.specs.declared.item_reading.Setting.{Setting}

@@ -1,9 +1,9 @@
 -- The laws of problem files. Each is the contract of a function of the crate that does nothing.
 use Rattle.std.specs.Prelude.{◌≡◌, ◌↔◌, ◌⊎◌, ℕ, List, Ok}
 use Rattle.kat_model.specs.Members.{Has}
-use Rattle.text_scopes.specs.declared.fault.TextFault.{TextFault}
-use Rattle.text_scopes.specs.declared.fault.TextFault.TheVariants.{NoMemory}
-use Rattle.text_scopes.specs.Lexemes.{Lexeme}
+use Rattle.text_parser.specs.declared.fault.TextFault.{TextFault}
+use Rattle.text_parser.specs.declared.fault.TextFault.TheVariants.{NoMemory}
+use Rattle.text_parser.specs.Lexemes.{Lexeme}
 use Rattle.while_lang.specs.BlockLaws.{AreLimited}
 use Rattle.while_lang.specs.Files.{GoalTree, FileParts}
 use Rattle.problem_file.specs.Files.{State}

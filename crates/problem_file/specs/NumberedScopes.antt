@@ -1,7 +1,7 @@
 -- Scopes with plain names only: tests are named t0, t1, .. and actions a0, a1, .. by their numbers.
 use Rattle.std.specs.Prelude.{ℕ, zero, suc}
-use Rattle.text_scopes.specs.declared.meaning.Meaning.TheVariants.{Test, Action}
-use Rattle.text_scopes.specs.ScopeParts.{ScopeParts, empty_scope, declared}
+use Rattle.text_parser.specs.declared.meaning.Meaning.TheVariants.{Test, Action}
+use Rattle.text_parser.specs.ScopeParts.{ScopeParts, empty_scope, declared}
 use Rattle.problem_file.specs.Questions.{plain_name}
 
 -- the scope of a number of tests and nothing else

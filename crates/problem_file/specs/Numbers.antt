@@ -2,11 +2,11 @@
 use Rattle.std.specs.Prelude.{◌<◌, ◌-◌, List, [], ◌∷◌, length, take, if◌then◌else◌, nat_lt, Result, Ok, Err}
 use Rattle.kat_model.specs.declared.expression.Width.{Width}
 use Rattle.kat_model.specs.Stores.{modulus}
-use Rattle.text_scopes.specs.declared.fault.TextFault.{TextFault}
-use Rattle.text_scopes.specs.declared.fault.TextFault.TheVariants.{NumberTooWide}
-use Rattle.text_scopes.specs.declared.terminal.Terminal.TheVariants.{Number, WideNumber}
-use Rattle.text_scopes.specs.Lexemes.{Lexeme, lexeme}
-use Rattle.text_scopes.specs.Parsed.{◌>>=◌}
+use Rattle.text_parser.specs.declared.fault.TextFault.{TextFault}
+use Rattle.text_parser.specs.declared.fault.TextFault.TheVariants.{NumberTooWide}
+use Rattle.text_parser.specs.declared.terminal.Terminal.TheVariants.{Number, WideNumber}
+use Rattle.text_parser.specs.Lexemes.{Lexeme, lexeme}
+use Rattle.text_parser.specs.Parsed.{◌>>=◌}
 
 -- the tokens before `rest`
 abbrev pub until : List Lexeme → List Lexeme → List Lexeme

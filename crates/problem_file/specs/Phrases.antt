@@ -1,11 +1,11 @@
 -- The phrases of a problem file, item by item, and the tokens that spell them.
 use Rattle.std.specs.Prelude.{◌≡◌, ℕ, List, [], ◌∷◌, Option, Some, None}
-use Rattle.text_scopes.specs.declared.terminal.Terminal.TheVariants.{Name, Keyword, Separator, Zero, One, Number, WideNumber}
-use Rattle.text_scopes.specs.declared.terminal.Keyword.{Keyword as Word}
-use Rattle.text_scopes.specs.declared.terminal.Keyword.TheVariants as word
-use Rattle.text_scopes.specs.declared.terminal.Separator.TheVariants.{Comma, Semicolon, CurlyOpen, CurlyClose, Equals}
-use Rattle.text_scopes.specs.Lexemes.{Lexeme}
-use Rattle.text_scopes.specs.Phrases.{Symbol, term, cond, Leaf, Phrase, one_prod, one_star, bare, name_unit, cons_token, yield_before, MeetsLookahead, IsWithinLimits}
+use Rattle.text_parser.specs.declared.terminal.Terminal.TheVariants.{Name, Keyword, Separator, Zero, One, Number, WideNumber}
+use Rattle.text_parser.specs.declared.terminal.Keyword.{Keyword as Word}
+use Rattle.text_parser.specs.declared.terminal.Keyword.TheVariants as word
+use Rattle.text_parser.specs.declared.terminal.Separator.TheVariants.{Comma, Semicolon, CurlyOpen, CurlyClose, Equals}
+use Rattle.text_parser.specs.Lexemes.{Lexeme}
+use Rattle.text_parser.specs.Phrases.{Symbol, term, cond, Leaf, Phrase, one_prod, one_star, bare, name_unit, cons_token, yield_before, MeetsLookahead, IsWithinLimits}
 use Rattle.while_lang.specs.BlockPhrases.{block, BlockPhrase, block_before, BlockObeys, BlockFits}
 
 -- NAME { "," NAME }

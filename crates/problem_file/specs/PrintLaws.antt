@@ -1,10 +1,10 @@
 -- A printed program reads back.
 use Rattle.std.specs.Prelude.{◌≤◌, ◌+◌, ℕ, List, [], length}
 use Rattle.kat_model.specs.declared.limits.TheConstants.{MAX_TERM_NODES, MAX_EXPR_NODES, MAX_OPEN}
-use Rattle.text_scopes.specs.declared.lexer.TheConstants.{MAX_LEN}
-use Rattle.text_scopes.specs.Pieces.{spelled}
-use Rattle.text_scopes.specs.declared.meaning.Meaning.{Meaning}
-use Rattle.text_scopes.specs.ScopeParts.{ScopeParts}
+use Rattle.text_parser.specs.declared.lexer.TheConstants.{MAX_LEN}
+use Rattle.text_parser.specs.Pieces.{spelled}
+use Rattle.text_parser.specs.declared.meaning.Meaning.{Meaning}
+use Rattle.text_parser.specs.ScopeParts.{ScopeParts}
 use Rattle.text_print.specs.Laws.{ReadsBack}
 use Rattle.while_lang.specs.Programs.{ProgTree}
 use Rattle.while_lang.specs.ProgramSizes.{prog_size, largest_in}

@@ -1,9 +1,9 @@
 -- Printed programs: the pieces that spell them.
 use Rattle.std.specs.Prelude.{◌+◌, max, ℕ, List, ◌∷◌, codes}
-use Rattle.text_scopes.specs.Pieces.{Piece, word, symbol, gap}
-use Rattle.text_scopes.specs.declared.meaning.Meaning.{Meaning}
-use Rattle.text_scopes.specs.declared.meaning.Meaning.TheVariants.{Action, Var}
-use Rattle.text_scopes.specs.ScopeParts.{ScopeParts, IsNameOf}
+use Rattle.text_parser.specs.Pieces.{Piece, word, symbol, gap}
+use Rattle.text_parser.specs.declared.meaning.Meaning.{Meaning}
+use Rattle.text_parser.specs.declared.meaning.Meaning.TheVariants.{Action, Var}
+use Rattle.text_parser.specs.ScopeParts.{ScopeParts, IsNameOf}
 use Rattle.text_print.specs.Printing.{expr_pieces, cond_pieces, ExprIsNamed, CondIsNamed, expr_nesting, cond_nesting}
 use Rattle.while_lang.specs.Programs.{ProgTree, empty, skip_then, abort_then, assert_then, act_then, assign_then, branch_then, loop_then}
 

@@ -8,11 +8,11 @@ use Rattle.kat_model.specs.declared.limits.TheConstants.{MAX_EXPR_NODES, MAX_TER
 use Rattle.kat_model.specs.declared.expression.Width.{Width}
 use Rattle.kat_model.specs.declared.expression.Width.TheVariants.{W8, W16, W32, W64}
 use Rattle.kat_model.specs.Expressions.{CondTree}
-use Rattle.text_scopes.specs.Pieces.{spelled}
-use Rattle.text_scopes.specs.declared.meaning.Meaning.{Meaning}
-use Rattle.text_scopes.specs.declared.meaning.Meaning.TheVariants.{Var}
-use Rattle.text_scopes.specs.ScopeParts.{IsIdentifier}
-use Rattle.text_scopes.specs.Sizes.{cond_size, largest_expr}
+use Rattle.text_parser.specs.Pieces.{spelled}
+use Rattle.text_parser.specs.declared.meaning.Meaning.{Meaning}
+use Rattle.text_parser.specs.declared.meaning.Meaning.TheVariants.{Var}
+use Rattle.text_parser.specs.ScopeParts.{IsIdentifier}
+use Rattle.text_parser.specs.Sizes.{cond_size, largest_expr}
 use Rattle.text_print.specs.Printing.{cond_text, cond_nesting}
 use Rattle.while_lang.specs.Programs.{ProgTree}
 use Rattle.while_lang.specs.ProgramSizes.{prog_size, largest_in}

@@ -4,15 +4,15 @@ use Rattle.kat_model.specs.declared.limits.TheConstants.{MAX_TESTS, MAX_ACTIONS,
 use Rattle.kat_model.specs.Trees.{Term, term_size}
 use Rattle.kat_model.specs.Expressions.{CondTree}
 use Rattle.kat_model.specs.declared.expression.Width.{Width}
-use Rattle.text_scopes.specs.Parsed.{◌>>=◌}
-use Rattle.text_scopes.specs.Actions.{context}
-use Rattle.text_scopes.specs.Phrases.{term, cond, Leaf, Phrase}
-use Rattle.text_scopes.specs.Folds.{fold}
-use Rattle.text_scopes.specs.declared.meaning.Meaning.TheVariants.{Test, Action, Var}
-use Rattle.text_scopes.specs.Sizes.{cond_size, largest_expr}
-use Rattle.text_scopes.specs.ScopeParts.{ScopeParts, IsUndeclared, declared}
-use Rattle.text_scopes.specs.Building.{trees}
-use Rattle.text_scopes.specs.Sound.{IsSound, nesting}
+use Rattle.text_parser.specs.Parsed.{◌>>=◌}
+use Rattle.text_parser.specs.Actions.{context}
+use Rattle.text_parser.specs.Phrases.{term, cond, Leaf, Phrase}
+use Rattle.text_parser.specs.Folds.{fold}
+use Rattle.text_parser.specs.declared.meaning.Meaning.TheVariants.{Test, Action, Var}
+use Rattle.text_parser.specs.Sizes.{cond_size, largest_expr}
+use Rattle.text_parser.specs.ScopeParts.{ScopeParts, IsUndeclared, declared}
+use Rattle.text_parser.specs.Building.{trees}
+use Rattle.text_parser.specs.Sound.{IsSound, nesting}
 use Rattle.while_lang.specs.Programs.{ProgTree, prog_of as prog_with}
 use Rattle.while_lang.specs.ProgramSizes.{prog_size, largest_in}
 use Rattle.while_lang.specs.NamedProgs.{ProgParts}

@@ -1,8 +1,8 @@
 -- The syntax check of a whole file.
 use Rattle.std.specs.Prelude.{List, Result, Ok, None}
-use Rattle.text_scopes.specs.declared.fault.TextFault.{TextFault}
-use Rattle.text_scopes.specs.Lexemes.{Lexeme}
-use Rattle.text_scopes.specs.Scans.{scanning}
+use Rattle.text_parser.specs.declared.fault.TextFault.{TextFault}
+use Rattle.text_parser.specs.Lexemes.{Lexeme}
+use Rattle.text_parser.specs.Scans.{scanning}
 use Rattle.while_lang.specs.BlockScans.{scanning_blocks}
 use Rattle.problem_file.specs.ItemActions.{ItemActions}
 use Rattle.problem_file.specs.Items.{items_by}

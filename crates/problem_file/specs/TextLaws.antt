@@ -3,9 +3,9 @@ use Rattle.std.specs.Prelude.{◌≡◌, ◌<◌, ℕ, List, Some}
 use Rattle.std.specs.Option.{option_map}
 use Rattle.kat_model.specs.Problems.{ProblemParts}
 use Rattle.kat_model.specs.declared.expression.Width.{Width}
-use Rattle.text_scopes.specs.declared.meaning.Meaning.{Meaning}
-use Rattle.text_scopes.specs.declared.meaning.Meaning.TheVariants.{Var}
-use Rattle.text_scopes.specs.ScopeParts.{Means}
+use Rattle.text_parser.specs.declared.meaning.Meaning.{Meaning}
+use Rattle.text_parser.specs.declared.meaning.Meaning.TheVariants.{Var}
+use Rattle.text_parser.specs.ScopeParts.{Means}
 use Rattle.while_lang.specs.Programs.{ProgTree}
 use Rattle.while_lang.specs.Concrete.{IsConcrete}
 use Rattle.while_lang.specs.Files.{term_side, prog_side, GoalTree, equal, FileParts, prog_named}

@@ -1,7 +1,7 @@
 -- Tokens that a lexer made.
 use Rattle.std.specs.Prelude.{◌≡◌, ℕ, List, slice_get, Some}
-use Rattle.text_scopes.specs.declared.token.Token.{Token}
-use Rattle.text_scopes.specs.Kinds.{IsToken}
+use Rattle.text_parser.specs.declared.token.Token.{Token}
+use Rattle.text_parser.specs.Kinds.{IsToken}
 
 -- the text of each token is valid for its kind
 abbrev pub AreTokens : List Token → Type 0

@@ -1,6 +1,6 @@
 //! The limit on the number of goals of a text.
 use kat_model::MAX_GOALS;
-use text_scopes::TextFault;
+use text_parser::TextFault;
 
 // The limit on the number of goals of a text. One reader reads texts with one goal and texts with up to `MAX_GOALS`. What
 // bytes say, their first fault and the law that they have one answer are stated for each limit.

@@ -6,7 +6,7 @@ ghost use Rattle.problem_file.specs.Working.Numbers.{AreNumbered};
 use crate::goal_limit::GoalLimit;
 use kat_model::{Kat, MAX_ACTIONS, MAX_TESTS, MAX_TEXT_NODES, MAX_VARS, Width};
 use std::alloc::Global;
-use text_scopes::{Meaning, Scope, TextFault, Token};
+use text_parser::{Meaning, Scope, TextFault, Token};
 use while_lang::{File, Goal, NamedProg};
 
 // Reads items whose syntax was checked before.
@@ -48,8 +48,8 @@ impl Drop for ItemReader {
 
 impl ItemReader {
     ghost use Rattle.std.specs.Prelude.{◌≡◌, Ok};
-    ghost use Rattle.text_scopes.specs.Parsed.{Makes};
-    ghost use Rattle.text_scopes.specs.ScopeParts.{IsIdentifier};
+    ghost use Rattle.text_parser.specs.Parsed.{Makes};
+    ghost use Rattle.text_parser.specs.ScopeParts.{IsIdentifier};
     ghost use Rattle.problem_file.specs.Files.{start, declare_test, declare_action, declare_var};
     ghost use Rattle.problem_file.specs.Files.{check_new, add_prog, grow, width_of};
     ghost use Rattle.problem_file.specs.Working.States.{state_of, Leaves};

@@ -1,15 +1,15 @@
 //! The actions on the parts of an item during reading.
 ghost use Rattle.std.specs.Prelude.{◌≡◌, ◌≤◌, length, drop, Ok};
-ghost use Rattle.text_scopes.specs.Lexemes.{lexemes};
-ghost use Rattle.text_scopes.specs.Parsed.{Makes, Goes};
-ghost use Rattle.text_scopes.specs.ScopeParts.{IsIdentifier};
+ghost use Rattle.text_parser.specs.Lexemes.{lexemes};
+ghost use Rattle.text_parser.specs.Parsed.{Makes, Goes};
+ghost use Rattle.text_parser.specs.ScopeParts.{IsIdentifier};
 ghost use Rattle.problem_file.specs.ItemActions.{ItemActions};
 ghost use Rattle.problem_file.specs.Numbers.{until};
 ghost use Rattle.problem_file.specs.Items.{measure_term, measure_cond, measure_block};
 ghost use Rattle.problem_file.specs.Working.Walks.{measured_of, sides_of, triple_of, Tells, Does};
 
 use crate::phrase::{Measured, MeasuredSides, MeasuredTriple};
-use text_scopes::{TextFault, Token};
+use text_parser::{TextFault, Token};
 
 // The kinds of names that an item may declare.
 #[derive(Clone, Copy)]

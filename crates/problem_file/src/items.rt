@@ -1,6 +1,6 @@
 //! The items of a problem file, read once by any reading.
 ghost use Rattle.std.specs.Prelude.{◌≡◌, ◌+◌, ◌<◌, ◌≤◌, length, drop, IfOk, IfSome};
-ghost use Rattle.text_scopes.specs.Lexemes.{lexemes};
+ghost use Rattle.text_parser.specs.Lexemes.{lexemes};
 ghost use Rattle.problem_file.specs.Tokens.{AreTokens};
 ghost use Rattle.problem_file.specs.Items.{at_name, over_names, at_number, term_by, block_by, program_by, side_by};
 ghost use Rattle.problem_file.specs.Items.{braced_by, middle_by, triple_by, sides_by, declaration_by, meaning_by};
@@ -12,7 +12,7 @@ ghost use Rattle.problem_file.specs.Working.Walks.{measured_of, sides_of, triple
 use crate::item_reading::{Comparison, Declared, ItemReading, Setting};
 use crate::names::{lone_name, name_at, number_at};
 use crate::phrase::{Measured, MeasuredSides, MeasuredTriple};
-use text_scopes::{Keyword, Separator, Terminal, TextFault, Token, expect, is_at, place_at, syntax_fault_at, terminal_at};
+use text_parser::{Keyword, Separator, Terminal, TextFault, Token, expect, is_at, place_at, syntax_fault_at, terminal_at};
 
 // Declares the name at an index, and returns the index after it.
 fn read_name<R: ItemReading>(
@@ -32,7 +32,7 @@ fn read_name<R: ItemReading>(
 }
 
 // Declares names separated by commas, and returns the index after them.
-#[tactic(auto, using(text_scopes::proofs::Tokens::next_drop))]
+#[tactic(auto, using(text_parser::proofs::Tokens::next_drop))]
 fn read_names<R: ItemReading>(
     reading: &mut R,
     toks: &[Token],
@@ -111,7 +111,7 @@ fn program_at<R: ItemReading>(reading: &R, toks: &[Token], from: usize) -> Optio
 }
 
 // Measures a side of a goal: the name of a program, or a term.
-#[tactic(auto, using(text_scopes::proofs::Tokens::next_drop))]
+#[tactic(auto, using(text_parser::proofs::Tokens::next_drop))]
 fn side_at<R: ItemReading>(
     reading: &R,
     toks: &[Token],

@@ -1,12 +1,11 @@
 //! Laws of the definitions. Each function does nothing: its contract is the law.
-ghost use Rattle.problem_file.specs.Laws.{FilesAreScanned, ItemsAreFolded, ItemsAreMade};
-ghost use Rattle.problem_file.specs.Reads.{Reads, FirstFault, FirstFaultOfAll};
-ghost use Rattle.problem_file.specs.Laws.{HaveOneAnswer, ReadsBoth, AreInRanges, AreAllInRanges};
 ghost use Rattle.std.specs.Prelude.{ℕ, List};
+ghost use Rattle.problem_file.specs.Laws.{FilesAreScanned, ItemsAreFolded, ItemsAreMade, HaveOneAnswer, ReadsBoth, AreInRanges, AreAllInRanges};
+ghost use Rattle.problem_file.specs.Reads.{Reads, FirstFault, FirstFaultOfAll};
 ghost use Rattle.kat_model.specs.Problems.{ProblemParts};
 ghost use Rattle.kat_model.specs.Expressions.{CondTree};
 ghost use Rattle.kat_model.specs.declared.expression.Width.{Width};
-ghost use Rattle.text_scopes.specs.declared.meaning.Meaning.{Meaning};
+ghost use Rattle.text_parser.specs.declared.meaning.Meaning.{Meaning};
 ghost use Rattle.while_lang.specs.Programs.{ProgTree};
 ghost use Rattle.while_lang.specs.Files.{prog_side, equal, triple};
 ghost use Rattle.problem_file.specs.CommentedTexts.{Comments, commented_text, IsCommentedPrintable};

@@ -2,9 +2,9 @@
 ghost use Rattle.std.specs.Prelude.{◌≡◌, ◌+◌, min, ◌^◌, ◌-◌, ◌≤◌, length, drop, nat_lt, Ok, IfOk, None, option_map, option_and_then};
 ghost use Rattle.kat_model.specs.Stores.{modulus};
 ghost use Rattle.kat_model.specs.Trees.{kat_tree};
-ghost use Rattle.text_scopes.specs.Lexemes.{lexemes};
-ghost use Rattle.text_scopes.specs.Parsed.{Makes};
-ghost use Rattle.text_scopes.specs.ScopeParts.{IsIdentifier};
+ghost use Rattle.text_parser.specs.Lexemes.{lexemes};
+ghost use Rattle.text_parser.specs.Parsed.{Makes};
+ghost use Rattle.text_parser.specs.ScopeParts.{IsIdentifier};
 ghost use Rattle.while_lang.specs.NamedProgs.{prog_parts};
 ghost use Rattle.while_lang.specs.Files.{prog_named};
 ghost use Rattle.problem_file.specs.Files.{State, width_with, check_new, check_size, width_of, state_hyp, state_goal};
@@ -28,7 +28,7 @@ use kat_model::{
     Cond, Items, Kat, MAX_HYPS, MAX_OPEN, MAX_ROUNDS, MAX_TERM_NODES, NoMemory, Width,
 };
 use std::alloc::Global;
-use text_scopes::{Extent, Terminal, TextFault, Token, build_cond, build_term, measure_cond, measure_term, terminal_at};
+use text_parser::{Extent, Terminal, TextFault, Token, build_cond, build_term, measure_cond, measure_term, terminal_at};
 use while_lang::{Goal, NamedProg, Side, build_block, measure_block, prog_meant};
 
 // Checks that an item, or a part of a goal, is within the limit of nodes; `TooLarge` at `at` past it.

@@ -1,13 +1,13 @@
 //! Names and numbers among the tokens.
 ghost use Rattle.std.specs.Prelude.{◌≡◌, ◌+◌, ◌<◌, length, drop, IfOk, IfErr, IfSome, Ok, Err, option_map};
-ghost use Rattle.text_scopes.specs.Lexemes.{lexemes, heads};
-ghost use Rattle.text_scopes.specs.Phrases.{term};
-ghost use Rattle.text_scopes.specs.Ends.{goes_on};
-ghost use Rattle.text_scopes.specs.ScopeParts.{IsIdentifier};
+ghost use Rattle.text_parser.specs.Lexemes.{lexemes, heads};
+ghost use Rattle.text_parser.specs.Phrases.{term};
+ghost use Rattle.text_parser.specs.Ends.{goes_on};
+ghost use Rattle.text_parser.specs.ScopeParts.{IsIdentifier};
 ghost use Rattle.problem_file.specs.Items.{name_at, number_at, lone_name};
 ghost use Rattle.problem_file.specs.Tokens.{AreTokens};
 
-use text_scopes::{Terminal, TextFault, Token, syntax_fault_at, terminal_at, terminal_of, text_at};
+use text_parser::{Terminal, TextFault, Token, syntax_fault_at, terminal_at, terminal_of, text_at};
 
 /// Returns the token at an index if it is a name. Otherwise fails with `Syntax` at its place, or at `usize::MAX` after
 /// the last token.

@@ -1,7 +1,7 @@
 //! Prints programs as text.
 ghost use Rattle.std.specs.Prelude.{◌≡◌, [], ◌++◌, OnOk, IfOk};
 ghost use Rattle.kat_model.specs.Expressions.{expr_tree, cond_tree};
-ghost use Rattle.text_scopes.specs.Pieces.{spelled};
+ghost use Rattle.text_parser.specs.Pieces.{spelled};
 ghost use Rattle.text_print.specs.Printing.{name_of, expr_text, cond_text};
 ghost use Rattle.while_lang.specs.ProgramViews.{stmt_tree};
 ghost use Rattle.problem_file.specs.ProgramPrinting.{block_pieces};
@@ -10,7 +10,7 @@ ghost use Rattle.problem_file.specs.Working.ProgramTexts.{stmt_text, stmts_text}
 use kat_model::{Cond, Expr, NoMemory};
 use std::alloc::Global;
 use text_print::{print_cond, print_expr, put_name};
-use text_scopes::{Meaning, Scope};
+use text_parser::{Meaning, Scope};
 use while_lang::{Prog, Stmt};
 
 fn put(out: &mut Vec<u8>, text: &[u8]) -> Result<(), NoMemory>

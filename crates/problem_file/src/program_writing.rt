@@ -8,7 +8,7 @@ use crate::writing::put;
 use kat_model::{NoMemory, Width};
 use std::alloc::Global;
 use text_print::put_name;
-use text_scopes::{Meaning, Scope};
+use text_parser::{Meaning, Scope};
 use while_lang::Prog;
 use crate::print::print_prog;
 

@@ -1,9 +1,9 @@
 //! Reads the text of a problem file.
 ghost use Rattle.std.specs.Prelude.{◌≡◌, ◌≤◌, ◌⊎◌, List, map, length, IfOk, IfErr, MatchResult};
-ghost use Rattle.text_scopes.specs.declared.fault.TextFault.TheVariants.{NoMemory as NoRoom};
-ghost use Rattle.text_scopes.specs.Lexemes.{lexemes};
-ghost use Rattle.text_scopes.specs.Parsed.{Makes};
-ghost use Rattle.text_scopes.specs.declared.lexer.TheConstants.{MAX_LEN as MOST};
+ghost use Rattle.text_parser.specs.declared.fault.TextFault.TheVariants.{NoMemory as NoRoom};
+ghost use Rattle.text_parser.specs.Lexemes.{lexemes};
+ghost use Rattle.text_parser.specs.Parsed.{Makes};
+ghost use Rattle.text_parser.specs.declared.lexer.TheConstants.{MAX_LEN as MOST};
 ghost use Rattle.while_lang.specs.Files.{GoalTree, FileParts};
 ghost use Rattle.problem_file.specs.Files.{start};
 ghost use Rattle.while_lang.specs.Trees.{goal_tree};
@@ -19,7 +19,7 @@ use crate::item_reader::ItemReader;
 use crate::items::read_items;
 use crate::syntax::test_syntax;
 use std::alloc::Global;
-use text_scopes::{MAX_LEN, TextFault, Token, tokens};
+use text_parser::{MAX_LEN, TextFault, Token, tokens};
 use while_lang::{File, Goal};
 
 /// Returns the bytes as a text. Fails with `TooLong` past `MAX_LEN` bytes, or with `NotUtf8` and the length of the

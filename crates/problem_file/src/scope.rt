@@ -1,13 +1,13 @@
 //! Scopes of plain names.
 ghost use Rattle.std.specs.Prelude.{◌≡◌, ◌≤◌, false, OnOk, IfOk};
 ghost use Rattle.kat_model.specs.declared.limits.TheConstants.{MAX_TESTS, MAX_ACTIONS};
-ghost use Rattle.text_scopes.specs.ScopeParts.{IsIdentifier, IsUnnamed, IsUndeclared, is_term, declared};
+ghost use Rattle.text_parser.specs.ScopeParts.{IsIdentifier, IsUnnamed, IsUndeclared, is_term, declared};
 ghost use Rattle.problem_file.specs.NumberedScopes.{numbered_scope};
 ghost use Rattle.problem_file.specs.Working.Scopes.{IsPlain};
 
 use kat_model::NoMemory;
 use std::alloc::Global;
-use text_scopes::{Kind, Meaning, Scope, TextFault, Token};
+use text_parser::{Kind, Meaning, Scope, TextFault, Token};
 
 /// Declares a name, which must be an identifier and undeclared. The meaning must not be a term and must have no name.
 /// Fails only when out of memory.

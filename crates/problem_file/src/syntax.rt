@@ -1,7 +1,7 @@
 //! The syntax check of a whole file, which allocates no memory.
 ghost use Rattle.std.specs.Prelude.{◌≡◌, length, Ok};
-ghost use Rattle.text_scopes.specs.Lexemes.{lexemes};
-ghost use Rattle.text_scopes.specs.Parsed.{Goes};
+ghost use Rattle.text_parser.specs.Lexemes.{lexemes};
+ghost use Rattle.text_parser.specs.Parsed.{Goes};
 ghost use Rattle.problem_file.specs.Tokens.{AreTokens};
 ghost use Rattle.problem_file.specs.Working.Walks.{Tells};
 ghost use Rattle.problem_file.specs.Items.{measure_block};
@@ -10,7 +10,7 @@ ghost use Rattle.problem_file.specs.Syntax.{checking, scan_file};
 use crate::item_reading::{Comparison, Declared, ItemReading, Setting};
 use crate::items::read_items;
 use crate::phrase::{Measured, MeasuredSides, MeasuredTriple};
-use text_scopes::{Context, Scan, TextFault, Token, parse_cond, parse_term};
+use text_parser::{Context, Scan, TextFault, Token, parse_cond, parse_term};
 use while_lang::block_end;
 
 // Checks that a block begins at an index, and returns the index after it.

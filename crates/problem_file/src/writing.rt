@@ -4,14 +4,14 @@ ghost use Rattle.std.specs.Prelude.{◌≡◌, ◌∷◌, ◌++◌, map, OnOk};
 ghost use Rattle.std.specs.List.{range_with_len};
 ghost use Rattle.std.specs.Fmt.{decimal};
 ghost use Rattle.kat_model.specs.Trees.{kat_tree};
-ghost use Rattle.text_scopes.specs.declared.meaning.Meaning.TheVariants.{Test, Action};
+ghost use Rattle.text_parser.specs.declared.meaning.Meaning.TheVariants.{Test, Action};
 ghost use Rattle.text_print.specs.Printing.{name_of, term_text};
 ghost use Rattle.problem_file.specs.Questions.{plain_name, declaration_text, tests_text, actions_text, hyp_text, goal_text};
 
 use kat_model::{Kat, NoMemory};
 use std::alloc::Global;
 use text_print::print_term;
-use text_scopes::Scope;
+use text_parser::Scope;
 
 pub(crate) fn put(out: &mut Vec<u8>, text: &[u8]) -> Result<(), NoMemory>
     ensures { OnOk result (out.new.items ≡ out.old.items ++ text.now) }

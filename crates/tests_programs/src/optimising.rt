@@ -6,7 +6,7 @@ use optimiser_steps::{Ended, LogLine, Optimised, optimise};
 use problem_file::{File, print_prog, read};
 use std::alloc::Global;
 use std::test::Fail;
-use text_scopes::{Scope, TextFault};
+use text_parser::{Scope, TextFault};
 
 // Whether the log has no step, or only this one, at the first statement.
 fn are_steps(log: &[LogLine], step: Option<u8>) -> bool {

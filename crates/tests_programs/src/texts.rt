@@ -4,7 +4,7 @@ use kat_model::NoMemory;
 use std::alloc::Global;
 use std::test::Fail;
 use text_print::print_term;
-use text_scopes::TextFault;
+use text_parser::TextFault;
 
 // Prints the left side, and the term of the right side on the next line.
 fn shown(alloc: Global, file: &GkatFile) -> Result<Vec<u8>, NoMemory> {

@@ -5,7 +5,7 @@ use chain_rules::{ChainAnswer, ChainReason, check_chain};
 use kat_model::Problem;
 use std::alloc::Global;
 use std::test::Fail;
-use text_scopes::TextFault;
+use text_parser::TextFault;
 
 fn answer(alloc: Global, problem: &Problem, proof: &str) -> Result<ChainAnswer, TextFault> {
     let chain = read_chain(alloc, proof.as_bytes(), problem.tests(), problem.actions())?;

@@ -6,7 +6,7 @@ use problem_file::{File, Goal, Side, read};
 use std::alloc::Global;
 use std::test::Fail;
 use term_store::Store;
-use text_scopes::TextFault;
+use text_parser::TextFault;
 
 // Returns the term of a side. No text here has a program as a side.
 fn term(alloc: Global, side: &Side) -> Result<Kat, NoMemory> {

@@ -8,7 +8,7 @@ use kat_model::{Cond, Kat, NoMemory};
 use problem_file::{File, Goal, Side, plain_scope, read};
 use std::alloc::Global;
 use std::test::Fail;
-use text_scopes::{Scope, TextFault};
+use text_parser::{Scope, TextFault};
 use while_lang::{Prog, encode};
 
 // Reads a file. The numbers of the file are in range.

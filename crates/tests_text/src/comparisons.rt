@@ -6,7 +6,7 @@ use kat_model::{Cond, Expr, NoMemory, Rel, Width};
 use linear_forms::{Atomic, CondForm, Form, Mono, canon, minus, normal, normal_cond, plus, subst};
 use std::alloc::Global;
 use std::test::Fail;
-use text_scopes::TextFault;
+use text_parser::TextFault;
 
 // Whether the form is the variable plus the constant.
 fn is_variable_plus(form: &Form, var: usize, constant: u64) -> bool {

@@ -1,7 +1,7 @@
 //! Problem files and their faults.
 use problem_file::{File, Goal, read_all};
 use std::alloc::Global;
-use text_scopes::TextFault;
+use text_parser::TextFault;
 
 // The numbers of tests, actions, terms, hypotheses and goals after the first, and whether the file is concrete and has a
 // program P.

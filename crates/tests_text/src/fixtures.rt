@@ -3,15 +3,15 @@
 //! A function that makes or drops values with trees is proved faster if it has fewer exits where such a value must be
 //! dropped. So each helper of these tests has one such value and lends it to the next.
 ghost use Rattle.std.specs.Prelude.{◌≡◌, false, IfOk};
-ghost use Rattle.text_scopes.specs.declared.token.Kind.TheVariants.{Name};
-ghost use Rattle.text_scopes.specs.Kinds.{IsToken};
-ghost use Rattle.text_scopes.specs.Keywords.{is_keyword};
-ghost use Rattle.text_scopes.specs.ScopeParts.{is_term};
+ghost use Rattle.text_parser.specs.declared.token.Kind.TheVariants.{Name};
+ghost use Rattle.text_parser.specs.Kinds.{IsToken};
+ghost use Rattle.text_parser.specs.Keywords.{is_keyword};
+ghost use Rattle.text_parser.specs.ScopeParts.{is_term};
 
 use kat_model::{Kat, NoMemory};
 use std::alloc::Global;
 use text_print::print_term;
-use text_scopes::{Kind, MAX_LEN, Meaning, Scope, TextFault, Token, is_keyword, tokens};
+use text_parser::{Kind, MAX_LEN, Meaning, Scope, TextFault, Token, is_keyword, tokens};
 
 // Returns the tokens of a text of any length.
 pub(crate) fn cut<'a>(alloc: Global, text: &'a str) -> Result<Vec<Token<'a>>, TextFault> {

@@ -2,7 +2,7 @@
 use flow_text::{FlowFile, read};
 use std::alloc::Global;
 use std::test::Fail;
-use text_scopes::TextFault;
+use text_parser::TextFault;
 
 const SEARCH: &str = "sort mem; fun u8 load(mem, u64); var u64 p, q, n; var mem m;
 graph before {

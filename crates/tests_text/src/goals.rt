@@ -4,7 +4,7 @@ use goal_forms::{Closed, Sides, below, eliminate, triple};
 use kat_model::{Kat, NoMemory, Problem, Test};
 use std::alloc::Global;
 use std::test::Fail;
-use text_scopes::{Scope, TextFault};
+use text_parser::{Scope, TextFault};
 
 fn closed_text(alloc: Global, closed: &Closed, scope: &Scope) -> Result<Vec<u8>, NoMemory> {
     let mut out = Vec::new(alloc);

@@ -4,7 +4,7 @@ use kat_model::{Cond, Kat, NoMemory, all_of, any_of, seq_of, sum_of};
 use std::alloc::Global;
 use std::test::Fail;
 use text_print::{print_cond, print_term};
-use text_scopes::{Scope, TextFault};
+use text_parser::{Scope, TextFault};
 
 // Returns the actions p, q, p, .. .
 fn actions(alloc: Global, count: usize) -> Result<Vec<Kat>, NoMemory> {

@@ -7,7 +7,7 @@ use crate::fixtures::{cut, is_so, sample};
 use kat_model::{NoMemory, Width};
 use std::alloc::Global;
 use std::test::Fail;
-use text_scopes::{Scope, TextFault};
+use text_parser::{Scope, TextFault};
 use while_lang::{Outcome, Prog, Store, read_block, run};
 use problem_file::print_prog;
 

@@ -2,7 +2,7 @@
 use crate::fixtures::cut;
 use std::alloc::Global;
 use std::test::Fail;
-use text_scopes::{Kind, TextFault, Token};
+use text_parser::{Kind, TextFault, Token};
 
 fn is_token(token: &Token, want: (Kind, &str, usize)) -> bool {
     token.kind == want.0 && token.text == want.1 && token.at == want.2

@@ -1,12 +1,12 @@
 -- The parentheses of a phrase are balanced.
 use Rattle.std.proofs.Common.{◌≡◌, ◌+◌, ◌-◌, ℕ, List, Bool, true, false, refl, ap, ◌∙◌, arith}
 use Rattle.kat_model.specs.declared.expression.Rel.{Rel}
-use Rattle.text_scopes.specs.declared.terminal.Terminal.{Terminal}
-use Rattle.text_scopes.specs.declared.terminal.Terminal.TheVariants.{RoundOpen, RoundClose, SquareOpen, SquareClose, Bang, Star, Plus, Minus, Dot, And, Or, Compares, Zero, One, Number, WideNumber, True, False, Name}
-use Rattle.text_scopes.specs.Lexemes.{Lexeme, is_terminal}
-use Rattle.text_scopes.specs.Conds.{after_close, begins_expr}
-use Rattle.text_scopes.specs.Phrases.{Symbol, fac, Leaf, Phrase, one_prod, more_prods, one_star, more_stars, bare, starred, zero_unit, one_unit, name_unit, not_unit, square_unit, round_unit, one_conj, more_conjs, one_lit, more_lits, true_lit, false_lit, name_lit, not_lit, round_lit, relation_lit, one_mul, more_muls, one_fac, more_facs, zero_fac, one_fac_number, number_fac, wide_fac, name_fac, round_fac, cons_token, sum_terminal, yield_before, BeginsExpr}
-use Rattle.text_scopes.proofs.Parentheses.{inner_opened, inner_closed, other_passed}
+use Rattle.text_parser.specs.declared.terminal.Terminal.{Terminal}
+use Rattle.text_parser.specs.declared.terminal.Terminal.TheVariants.{RoundOpen, RoundClose, SquareOpen, SquareClose, Bang, Star, Plus, Minus, Dot, And, Or, Compares, Zero, One, Number, WideNumber, True, False, Name}
+use Rattle.text_parser.specs.Lexemes.{Lexeme, is_terminal}
+use Rattle.text_parser.specs.Conds.{after_close, begins_expr}
+use Rattle.text_parser.specs.Phrases.{Symbol, fac, Leaf, Phrase, one_prod, more_prods, one_star, more_stars, bare, starred, zero_unit, one_unit, name_unit, not_unit, square_unit, round_unit, one_conj, more_conjs, one_lit, more_lits, true_lit, false_lit, name_lit, not_lit, round_lit, relation_lit, one_mul, more_muls, one_fac, more_facs, zero_fac, one_fac_number, number_fac, wide_fac, name_fac, round_fac, cons_token, sum_terminal, yield_before, BeginsExpr}
+use Rattle.text_parser.proofs.Parentheses.{inner_opened, inner_closed, other_passed}
 
 other : (n : ℕ) (s : Terminal) (l : Leaf) (ts : List Lexeme) → is_terminal RoundOpen s ≡ false → is_terminal RoundClose s ≡ false → after_close n (cons_token s l ts) ≡ after_close n ts
 other n s l ts o c = other_passed n (cons_token s l ts) o c

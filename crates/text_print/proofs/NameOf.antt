@@ -6,11 +6,11 @@ use Rattle.std.specs.Ordering.{nat_cmp, eq_by_cmp}
 use Rattle.std.specs.Cmp.{Equal-is, eq_by_cmp_equiv, nat_cmp_total}
 use Rattle.std.specs.Cmp.Lexicographic.{slice_cmp}
 use Rattle.std.specs.FinMap.{find, entries, get-entries, nat_cmp-IsAntisymmetric, slice_cmp-IsAntisymmetric}
-use Rattle.text_scopes.specs.declared.meaning.Meaning.{Meaning}
-use Rattle.text_scopes.specs.declared.meaning.Meaning.TheVariants.{Test, Action, Var, Term, Prog}
-use Rattle.text_scopes.specs.ScopeParts.{ScopeParts, meaning, Means, IsUnnamed, IsNameOf}
+use Rattle.text_parser.specs.declared.meaning.Meaning.{Meaning}
+use Rattle.text_parser.specs.declared.meaning.Meaning.TheVariants.{Test, Action, Var, Term, Prog}
+use Rattle.text_parser.specs.ScopeParts.{ScopeParts, meaning, Means, IsUnnamed, IsNameOf}
 use Rattle.text_print.specs.Printing.{is_meant, first_name, name_of}
-use Rattle.text_scopes.proofs.MeaningOrder.{same_meaning}
+use Rattle.text_parser.proofs.MeaningOrder.{same_meaning}
 
 meant_is : (m : Meaning) (o : Option Meaning) → is_meant m o ≡ true → o ≡ Some m
 meant_is m None e = absurd cc

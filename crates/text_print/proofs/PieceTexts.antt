@@ -4,8 +4,8 @@ use Rattle.std.proofs.lemmas.List.{append-nil}
 use Rattle.std.specs.Prelude.{codes}
 use Rattle.kat_model.specs.Trees.{TestTree, bottom, top, prim, complement, meet, join, Term, zero, one, test, act, sum, product, star}
 use Rattle.kat_model.specs.Expressions.{ExprTree, number, variable, plus, minus, times, CondTree, always, never, named, compared, negation, both, either}
-use Rattle.text_scopes.specs.Pieces.{Piece, symbol, gap, spelled}
-use Rattle.text_scopes.specs.declared.meaning.Meaning.{Meaning}
+use Rattle.text_parser.specs.Pieces.{Piece, symbol, gap, spelled}
+use Rattle.text_parser.specs.declared.meaning.Meaning.{Meaning}
 use Rattle.text_print.specs.Printing.{relation_text, cond_of, is_star, expr_text, cond_text, test_text, term_text, in_round, spaced, expr_pieces, cond_pieces, test_pieces, term_pieces}
 
 -- the pieces spell `text` before the pieces that follow

@@ -5,19 +5,19 @@ use Rattle.std.specs.Prelude.{codes}
 use Rattle.kat_model.specs.declared.limits.TheConstants.{MAX_OPEN}
 use Rattle.kat_model.specs.declared.expression.Rel.{Rel}
 use Rattle.kat_model.specs.Expressions.{ExprTree, CondTree, always, never, named, compared, negation, both, either, has_comparison}
-use Rattle.text_scopes.specs.Pieces.{Piece, symbol}
-use Rattle.text_scopes.specs.declared.terminal.Terminal.{Terminal}
-use Rattle.text_scopes.specs.declared.terminal.Terminal.TheVariants.{RoundOpen, RoundClose, Bang}
-use Rattle.text_scopes.specs.declared.reading.Context.{Context}
-use Rattle.text_scopes.specs.Lexemes.{Lexeme, lexeme}
-use Rattle.text_scopes.specs.Conds.{begins_expr}
-use Rattle.text_scopes.specs.Phrases.{lit, fac, Leaf, Phrase, one_conj, more_conjs, one_lit, more_lits, true_lit, false_lit, name_lit, not_lit, round_lit, relation_lit, one_mul, one_fac, yield_before, MeetsLookahead, IsWithinLimits}
-use Rattle.text_scopes.specs.Folds.{fold}
-use Rattle.text_scopes.specs.declared.meaning.Meaning.{Meaning}
-use Rattle.text_scopes.specs.declared.meaning.Meaning.TheVariants.{Test}
-use Rattle.text_scopes.specs.ScopeParts.{ScopeParts, IsNameOf}
-use Rattle.text_scopes.specs.Building.{condition_tree, trees}
-use Rattle.text_scopes.specs.Sound.{inside, inside_not, IsCondName, IsSound, nesting}
+use Rattle.text_parser.specs.Pieces.{Piece, symbol}
+use Rattle.text_parser.specs.declared.terminal.Terminal.{Terminal}
+use Rattle.text_parser.specs.declared.terminal.Terminal.TheVariants.{RoundOpen, RoundClose, Bang}
+use Rattle.text_parser.specs.declared.reading.Context.{Context}
+use Rattle.text_parser.specs.Lexemes.{Lexeme, lexeme}
+use Rattle.text_parser.specs.Conds.{begins_expr}
+use Rattle.text_parser.specs.Phrases.{lit, fac, Leaf, Phrase, one_conj, more_conjs, one_lit, more_lits, true_lit, false_lit, name_lit, not_lit, round_lit, relation_lit, one_mul, one_fac, yield_before, MeetsLookahead, IsWithinLimits}
+use Rattle.text_parser.specs.Folds.{fold}
+use Rattle.text_parser.specs.declared.meaning.Meaning.{Meaning}
+use Rattle.text_parser.specs.declared.meaning.Meaning.TheVariants.{Test}
+use Rattle.text_parser.specs.ScopeParts.{ScopeParts, IsNameOf}
+use Rattle.text_parser.specs.Building.{condition_tree, trees}
+use Rattle.text_parser.specs.Sound.{inside, inside_not, IsCondName, IsSound, nesting}
 use Rattle.text_print.specs.Printing.{relation_text, expr_pieces, cond_pieces, ExprIsNamed, CondIsNamed, cond_nesting}
 use Rattle.text_print.proofs.Matching.{matched, factor_begins}
 use Rattle.text_print.proofs.WordTerminals.{relation_terminal, name_terminal}

@@ -5,19 +5,19 @@ use Rattle.std.specs.Prelude.{codes}
 use Rattle.std.specs.Fmt.{decimal}
 use Rattle.kat_model.specs.declared.limits.TheConstants.{MAX_OPEN}
 use Rattle.kat_model.specs.Expressions.{ExprTree, number, variable, plus, minus, times}
-use Rattle.text_scopes.specs.Pieces.{Piece, word, numeral, symbol}
-use Rattle.text_scopes.specs.declared.terminal.Terminal.{Terminal}
-use Rattle.text_scopes.specs.declared.terminal.Terminal.TheVariants.{Zero, One, Number}
-use Rattle.text_scopes.specs.declared.reading.Context.{Context}
-use Rattle.text_scopes.specs.Terminals.{number_terminal}
-use Rattle.text_scopes.specs.Lexemes.{Lexeme, lexeme}
-use Rattle.text_scopes.specs.Phrases.{fac, Leaf, Phrase, one_mul, more_muls, one_fac, more_facs, zero_fac, one_fac_number, number_fac, name_fac, round_fac, yield_before, MeetsLookahead, IsWithinLimits}
-use Rattle.text_scopes.specs.Folds.{operator_of, fold}
-use Rattle.text_scopes.specs.declared.meaning.Meaning.{Meaning}
-use Rattle.text_scopes.specs.declared.meaning.Meaning.TheVariants.{Var}
-use Rattle.text_scopes.specs.ScopeParts.{ScopeParts, IsNameOf}
-use Rattle.text_scopes.specs.Building.{joined, variable_tree, trees}
-use Rattle.text_scopes.specs.Sound.{inside, IsExprName, IsSound, nesting}
+use Rattle.text_parser.specs.Pieces.{Piece, word, numeral, symbol}
+use Rattle.text_parser.specs.declared.terminal.Terminal.{Terminal}
+use Rattle.text_parser.specs.declared.terminal.Terminal.TheVariants.{Zero, One, Number}
+use Rattle.text_parser.specs.declared.reading.Context.{Context}
+use Rattle.text_parser.specs.Terminals.{number_terminal}
+use Rattle.text_parser.specs.Lexemes.{Lexeme, lexeme}
+use Rattle.text_parser.specs.Phrases.{fac, Leaf, Phrase, one_mul, more_muls, one_fac, more_facs, zero_fac, one_fac_number, number_fac, name_fac, round_fac, yield_before, MeetsLookahead, IsWithinLimits}
+use Rattle.text_parser.specs.Folds.{operator_of, fold}
+use Rattle.text_parser.specs.declared.meaning.Meaning.{Meaning}
+use Rattle.text_parser.specs.declared.meaning.Meaning.TheVariants.{Var}
+use Rattle.text_parser.specs.ScopeParts.{ScopeParts, IsNameOf}
+use Rattle.text_parser.specs.Building.{joined, variable_tree, trees}
+use Rattle.text_parser.specs.Sound.{inside, IsExprName, IsSound, nesting}
 use Rattle.text_print.specs.Printing.{expr_pieces, ExprIsNamed, expr_nesting}
 use Rattle.text_print.proofs.WordTerminals.{name_terminal, zero_written, one_written, number_is}
 use Rattle.text_print.proofs.PrintedPhrases.{lexemes_from, leaf, Begins, enters, after_left, spaced_spelled, spaced_obeys}

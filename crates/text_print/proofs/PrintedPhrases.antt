@@ -3,14 +3,14 @@ use Rattle.std.proofs.Common.{◌≡◌, ◌<◌, ◌+◌, ℕ, List, ◌∷◌,
 use Rattle.std.proofs.lemmas.Bool.{lt-ltb}
 use Rattle.std.specs.Prelude.{codes}
 use Rattle.kat_model.specs.declared.limits.TheConstants.{MAX_OPEN}
-use Rattle.text_scopes.specs.Pieces.{Piece, symbol, gap, parts_from}
-use Rattle.text_scopes.specs.declared.terminal.Terminal.TheVariants.{RoundOpen, RoundClose}
-use Rattle.text_scopes.specs.declared.reading.Context.{Context}
-use Rattle.text_scopes.specs.Terminals.{symbol_terminal}
-use Rattle.text_scopes.specs.Lexemes.{Lexeme, lexeme, lexeme_of}
-use Rattle.text_scopes.specs.Actions.{enter, enter_not}
-use Rattle.text_scopes.specs.Phrases.{Symbol, Leaf, Phrase, yield_before, MeetsLookahead}
-use Rattle.text_scopes.specs.Sound.{inside, inside_not}
+use Rattle.text_parser.specs.Pieces.{Piece, symbol, gap, parts_from}
+use Rattle.text_parser.specs.declared.terminal.Terminal.TheVariants.{RoundOpen, RoundClose}
+use Rattle.text_parser.specs.declared.reading.Context.{Context}
+use Rattle.text_parser.specs.Terminals.{symbol_terminal}
+use Rattle.text_parser.specs.Lexemes.{Lexeme, lexeme, lexeme_of}
+use Rattle.text_parser.specs.Actions.{enter, enter_not}
+use Rattle.text_parser.specs.Phrases.{Symbol, Leaf, Phrase, yield_before, MeetsLookahead}
+use Rattle.text_parser.specs.Sound.{inside, inside_not}
 use Rattle.text_print.specs.Printing.{spaced}
 
 -- the tokens of pieces, as the grammar sees them

@@ -4,31 +4,31 @@ use Rattle.std.proofs.lemmas.Bool.{le-ltb}
 use Rattle.kat_model.specs.declared.limits.TheConstants.{MAX_TERM_NODES, MAX_EXPR_NODES, MAX_OPEN}
 use Rattle.kat_model.specs.Trees.{Term, term_size}
 use Rattle.kat_model.specs.Expressions.{ExprTree, CondTree, has_comparison}
-use Rattle.text_scopes.specs.declared.fault.TextFault.{TextFault}
-use Rattle.text_scopes.specs.declared.lexer.TheConstants.{MAX_LEN}
-use Rattle.text_scopes.specs.Pieces.{spelled}
-use Rattle.text_scopes.proofs.Printed.{printed}
-use Rattle.text_scopes.specs.Parsed.{Parsed, before, place_of}
-use Rattle.text_scopes.specs.Actions.{context}
-use Rattle.text_scopes.specs.Exprs.{parse_expr, sums}
-use Rattle.text_scopes.specs.Conds.{parse_cond, disjunction}
-use Rattle.text_scopes.specs.Terms.{parse_term, choice}
-use Rattle.text_scopes.specs.Phrases.{term, cond, expr, Phrase, one_prod, one_star, one_conj, one_lit, one_mul, one_fac, yield_before, MeetsLookahead, IsWithinLimits}
-use Rattle.text_scopes.specs.Folds.{fold}
-use Rattle.text_scopes.proofs.ParserCompleteness.{term_parsed, cond_parsed, expr_parsed}
-use Rattle.text_scopes.proofs.Longest.{longest}
-use Rattle.text_scopes.specs.declared.meaning.Meaning.{Meaning}
-use Rattle.text_scopes.specs.declared.extent.Extent.{Extent}
-use Rattle.text_scopes.specs.Sizes.{expr_size, cond_size, largest_expr}
-use Rattle.text_scopes.specs.ScopeParts.{ScopeParts}
-use Rattle.text_scopes.specs.Building.{trees, cond_trees, expr_trees}
-use Rattle.text_scopes.specs.Measuring.{extents, cond_extents, expr_extents}
-use Rattle.text_scopes.specs.Readings.{within, phrased, term_at, cond_at, expr_at}
-use Rattle.text_scopes.specs.Sound.{IsSound, nesting}
-use Rattle.text_scopes.specs.Laws.{cond_nodes}
+use Rattle.text_parser.specs.declared.fault.TextFault.{TextFault}
+use Rattle.text_parser.specs.declared.lexer.TheConstants.{MAX_LEN}
+use Rattle.text_parser.specs.Pieces.{spelled}
+use Rattle.text_parser.proofs.Printed.{printed}
+use Rattle.text_parser.specs.Parsed.{Parsed, before, place_of}
+use Rattle.text_parser.specs.Actions.{context}
+use Rattle.text_parser.specs.Exprs.{parse_expr, sums}
+use Rattle.text_parser.specs.Conds.{parse_cond, disjunction}
+use Rattle.text_parser.specs.Terms.{parse_term, choice}
+use Rattle.text_parser.specs.Phrases.{term, cond, expr, Phrase, one_prod, one_star, one_conj, one_lit, one_mul, one_fac, yield_before, MeetsLookahead, IsWithinLimits}
+use Rattle.text_parser.specs.Folds.{fold}
+use Rattle.text_parser.proofs.ParserCompleteness.{term_parsed, cond_parsed, expr_parsed}
+use Rattle.text_parser.proofs.Longest.{longest}
+use Rattle.text_parser.specs.declared.meaning.Meaning.{Meaning}
+use Rattle.text_parser.specs.declared.extent.Extent.{Extent}
+use Rattle.text_parser.specs.Sizes.{expr_size, cond_size, largest_expr}
+use Rattle.text_parser.specs.ScopeParts.{ScopeParts}
+use Rattle.text_parser.specs.Building.{trees, cond_trees, expr_trees}
+use Rattle.text_parser.specs.Measuring.{extents, cond_extents, expr_extents}
+use Rattle.text_parser.specs.Readings.{within, phrased, term_at, cond_at, expr_at}
+use Rattle.text_parser.specs.Sound.{IsSound, nesting}
+use Rattle.text_parser.specs.Laws.{cond_nodes}
 use Rattle.text_print.specs.Laws.{ReadsBack}
 use Rattle.text_print.specs.Printing.{expr_pieces, cond_pieces, term_pieces, ExprIsNamed, CondIsNamed, TermIsNamed, expr_nesting, cond_nesting, term_nesting}
-use Rattle.text_scopes.proofs.Measured.{term_decided, cond_decided, expr_decided, term_measured, cond_measured, expr_measured, ok_value}
+use Rattle.text_parser.proofs.Measured.{term_decided, cond_decided, expr_decided, term_measured, cond_measured, expr_measured, ok_value}
 use Rattle.text_print.proofs.Separate.{nothing_ends, expr_separate, cond_separate, term_separate}
 use Rattle.text_print.proofs.PrintedExprs.{expr_back}
 use Rattle.text_print.proofs.PrintedConds.{cond_back}

@@ -5,18 +5,18 @@ use Rattle.std.specs.Prelude.{codes}
 use Rattle.kat_model.specs.declared.limits.TheConstants.{MAX_OPEN}
 use Rattle.kat_model.specs.Expressions.{has_comparison, test_without_comparisons}
 use Rattle.kat_model.specs.Trees.{TestTree, bottom, top, prim, complement, meet, join, Term, zero, one, test, act, sum, product, star as star_term}
-use Rattle.text_scopes.specs.Pieces.{Piece, word, numeral, symbol}
-use Rattle.text_scopes.specs.declared.terminal.Terminal.{Terminal}
-use Rattle.text_scopes.specs.declared.terminal.Terminal.TheVariants.{RoundOpen, SquareOpen, Dot}
-use Rattle.text_scopes.specs.declared.reading.Context.{Context}
-use Rattle.text_scopes.specs.Lexemes.{Lexeme, lexeme}
-use Rattle.text_scopes.specs.Phrases.{star, unit, lit, Leaf, Phrase, one_prod, more_prods, one_star, more_stars, bare, starred, zero_unit, one_unit, name_unit, square_unit, round_unit, one_conj, one_lit, yield_before, MeetsLookahead, IsWithinLimits}
-use Rattle.text_scopes.specs.Folds.{fold}
-use Rattle.text_scopes.specs.declared.meaning.Meaning.{Meaning}
-use Rattle.text_scopes.specs.declared.meaning.Meaning.TheVariants.{Test, Action}
-use Rattle.text_scopes.specs.ScopeParts.{ScopeParts, meaning, IsNameOf}
-use Rattle.text_scopes.specs.Building.{name_tree, trees}
-use Rattle.text_scopes.specs.Sound.{inside, IsTermName, IsSound, name_nesting, nesting}
+use Rattle.text_parser.specs.Pieces.{Piece, word, numeral, symbol}
+use Rattle.text_parser.specs.declared.terminal.Terminal.{Terminal}
+use Rattle.text_parser.specs.declared.terminal.Terminal.TheVariants.{RoundOpen, SquareOpen, Dot}
+use Rattle.text_parser.specs.declared.reading.Context.{Context}
+use Rattle.text_parser.specs.Lexemes.{Lexeme, lexeme}
+use Rattle.text_parser.specs.Phrases.{star, unit, lit, Leaf, Phrase, one_prod, more_prods, one_star, more_stars, bare, starred, zero_unit, one_unit, name_unit, square_unit, round_unit, one_conj, one_lit, yield_before, MeetsLookahead, IsWithinLimits}
+use Rattle.text_parser.specs.Folds.{fold}
+use Rattle.text_parser.specs.declared.meaning.Meaning.{Meaning}
+use Rattle.text_parser.specs.declared.meaning.Meaning.TheVariants.{Test, Action}
+use Rattle.text_parser.specs.ScopeParts.{ScopeParts, meaning, IsNameOf}
+use Rattle.text_parser.specs.Building.{name_tree, trees}
+use Rattle.text_parser.specs.Sound.{inside, IsTermName, IsSound, name_nesting, nesting}
 use Rattle.text_print.specs.Printing.{cond_of, is_star, in_round, spaced, cond_pieces, test_pieces, term_pieces, CondIsNamed, TermIsNamed, cond_nesting, test_nesting, term_nesting}
 use Rattle.text_print.proofs.WordTerminals.{name_terminal}
 use Rattle.text_print.proofs.PrintedPhrases.{lexemes_from, leaf, Begins, enters, after_left, spaced_spelled, spaced_obeys}

@@ -8,15 +8,15 @@ use Rattle.kat_model.specs.declared.expression.Rel.{Rel}
 use Rattle.kat_model.specs.declared.expression.Rel.TheVariants.{Eq, Ne, Lt, Le, Gt, Ge}
 use Rattle.kat_model.specs.Trees.{TestTree, bottom, top, prim, complement, meet, join, Term, zero, one, test, act, sum, product, star}
 use Rattle.kat_model.specs.Expressions.{ExprTree, number, variable, plus, minus, times, CondTree, always, never, named, compared, negation, both, either}
-use Rattle.text_scopes.specs.declared.token.Kind.TheVariants.{Name, Number, Symbol}
-use Rattle.text_scopes.specs.Kinds.{IsToken}
-use Rattle.text_scopes.specs.Pieces.{Piece, word, symbol, gap, spelled, EndsBefore, AreSeparate}
-use Rattle.text_scopes.proofs.Beginnings.{is_mark, name_begins, begins_no_mark, char_some}
-use Rattle.text_scopes.proofs.Gaps.{char_high}
-use Rattle.text_scopes.proofs.PrintedWords.{keyword_is_name, decimal_is_number}
-use Rattle.text_scopes.specs.declared.meaning.Meaning.{Meaning}
-use Rattle.text_scopes.specs.declared.meaning.Meaning.TheVariants.{Test, Action, Var}
-use Rattle.text_scopes.specs.ScopeParts.{ScopeParts, IsNameOf}
+use Rattle.text_parser.specs.declared.token.Kind.TheVariants.{Name, Number, Symbol}
+use Rattle.text_parser.specs.Kinds.{IsToken}
+use Rattle.text_parser.specs.Pieces.{Piece, word, symbol, gap, spelled, EndsBefore, AreSeparate}
+use Rattle.text_parser.proofs.Beginnings.{is_mark, name_begins, begins_no_mark, char_some}
+use Rattle.text_parser.proofs.Gaps.{char_high}
+use Rattle.text_parser.proofs.PrintedWords.{keyword_is_name, decimal_is_number}
+use Rattle.text_parser.specs.declared.meaning.Meaning.{Meaning}
+use Rattle.text_parser.specs.declared.meaning.Meaning.TheVariants.{Test, Action, Var}
+use Rattle.text_parser.specs.ScopeParts.{ScopeParts, IsNameOf}
 use Rattle.text_print.specs.Printing.{relation_text, cond_of, is_star, in_round, spaced, expr_pieces, cond_pieces, test_pieces, term_pieces, ExprIsNamed, CondIsNamed, TermIsNamed}
 
 -- the spelled text does not extend a name or a number before it

@@ -9,10 +9,10 @@ use Rattle.std.specs.List.{list_all}
 use Rattle.std.specs.Char.{is_ascii_digit}
 use Rattle.kat_model.specs.declared.expression.Rel.{Rel}
 use Rattle.kat_model.specs.declared.expression.Rel.TheVariants.{Eq, Ne, Lt, Le, Gt, Ge}
-use Rattle.text_scopes.specs.Keywords.{is_keyword}
-use Rattle.text_scopes.specs.declared.terminal.Terminal.TheVariants.{Compares, Number, Name}
-use Rattle.text_scopes.specs.Terminals.{symbol_terminal, keyword_terminal, value_from, is_digits, number_terminal}
-use Rattle.text_scopes.proofs.Numerals.{digits_are_numerals}
+use Rattle.text_parser.specs.Keywords.{is_keyword}
+use Rattle.text_parser.specs.declared.terminal.Terminal.TheVariants.{Compares, Number, Name}
+use Rattle.text_parser.specs.Terminals.{symbol_terminal, keyword_terminal, value_from, is_digits, number_terminal}
+use Rattle.text_parser.proofs.Numerals.{digits_are_numerals}
 use Rattle.text_print.specs.Printing.{relation_text}
 
 pub relation_terminal : (r : Rel) → symbol_terminal (relation_text r) ≡ Compares r

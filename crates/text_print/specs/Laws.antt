@@ -1,10 +1,10 @@
 -- The reading of a printed text.
 use Rattle.std.specs.Prelude.{◌≡◌, ℕ, List, [], map, Result, Ok}
-use Rattle.text_scopes.specs.declared.fault.TextFault.{TextFault}
-use Rattle.text_scopes.specs.Lex.{Lexes}
-use Rattle.text_scopes.specs.Pieces.{Piece, spelled, parts_from}
-use Rattle.text_scopes.specs.Lexemes.{Lexeme, lexeme_of}
-use Rattle.text_scopes.specs.Readings.{Phrased}
+use Rattle.text_parser.specs.declared.fault.TextFault.{TextFault}
+use Rattle.text_parser.specs.Lex.{Lexes}
+use Rattle.text_parser.specs.Pieces.{Piece, spelled, parts_from}
+use Rattle.text_parser.specs.Lexemes.{Lexeme, lexeme_of}
+use Rattle.text_parser.specs.Readings.{Phrased}
 
 -- the text of the pieces has tokens, which read as `tree` with no tokens left
 pub record ReadsBack {V : Type 0} (ps : List Piece) (read : List Lexeme → Result (Phrased V) TextFault) (tree : V) (levels : ℕ) : Type 0 where

@@ -7,11 +7,11 @@ use Rattle.kat_model.specs.declared.expression.Rel.{Rel}
 use Rattle.kat_model.specs.declared.expression.Rel.TheVariants.{Eq, Ne, Lt, Le, Gt, Ge}
 use Rattle.kat_model.specs.Trees.{TestTree, bottom, top, prim, complement, meet, join, Term, zero, one, test, act, sum, product, star}
 use Rattle.kat_model.specs.Expressions.{ExprTree, number, variable, plus, minus, times, CondTree, always, never, named, compared, negation, both, either}
-use Rattle.text_scopes.specs.Pieces.{Piece, word, numeral, symbol, gap}
-use Rattle.text_scopes.specs.declared.meaning.Meaning.{Meaning}
-use Rattle.text_scopes.specs.declared.meaning.Meaning.TheVariants.{Test, Action, Var}
-use Rattle.text_scopes.specs.contracts.meaning.MeaningOrd.TheImpl.{ghosts}
-use Rattle.text_scopes.specs.ScopeParts.{ScopeParts, meaning, IsNameOf}
+use Rattle.text_parser.specs.Pieces.{Piece, word, numeral, symbol, gap}
+use Rattle.text_parser.specs.declared.meaning.Meaning.{Meaning}
+use Rattle.text_parser.specs.declared.meaning.Meaning.TheVariants.{Test, Action, Var}
+use Rattle.text_parser.specs.contracts.meaning.MeaningOrd.TheImpl.{ghosts}
+use Rattle.text_parser.specs.ScopeParts.{ScopeParts, meaning, IsNameOf}
 
 -- whether the meaning exists and equals `m`
 abbrev pub is_meant : Meaning → Option Meaning → Bool

@@ -3,12 +3,12 @@ ghost use Rattle.std.specs.Prelude.{◌≡◌, ◌≤◌, ◌+◌, ℕ, List, []
 ghost use Rattle.kat_model.specs.declared.limits.TheConstants.{MAX_TERM_NODES, MAX_EXPR_NODES, MAX_OPEN};
 ghost use Rattle.kat_model.specs.Trees.{Term, term_size};
 ghost use Rattle.kat_model.specs.Expressions.{ExprTree, CondTree, has_comparison};
-ghost use Rattle.text_scopes.specs.declared.lexer.TheConstants.{MAX_LEN};
-ghost use Rattle.text_scopes.specs.Pieces.{spelled};
-ghost use Rattle.text_scopes.specs.declared.meaning.Meaning.{Meaning};
-ghost use Rattle.text_scopes.specs.Sizes.{expr_size, cond_size, largest_expr};
-ghost use Rattle.text_scopes.specs.ScopeParts.{ScopeParts, IsNameOf};
-ghost use Rattle.text_scopes.specs.Readings.{term_at, cond_at, expr_at};
+ghost use Rattle.text_parser.specs.declared.lexer.TheConstants.{MAX_LEN};
+ghost use Rattle.text_parser.specs.Pieces.{spelled};
+ghost use Rattle.text_parser.specs.declared.meaning.Meaning.{Meaning};
+ghost use Rattle.text_parser.specs.Sizes.{expr_size, cond_size, largest_expr};
+ghost use Rattle.text_parser.specs.ScopeParts.{ScopeParts, IsNameOf};
+ghost use Rattle.text_parser.specs.Readings.{term_at, cond_at, expr_at};
 ghost use Rattle.text_print.specs.Printing.{name_of, expr_pieces, cond_pieces, term_pieces, ExprIsNamed, CondIsNamed, TermIsNamed, expr_nesting, cond_nesting, term_nesting};
 ghost use Rattle.text_print.specs.Laws.{ReadsBack};
 

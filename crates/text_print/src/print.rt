@@ -3,12 +3,12 @@ ghost use Rattle.std.specs.Prelude.{◌≡◌, [], ◌++◌, OnOk, IfOk};
 ghost use Rattle.std.specs.Fmt.{decimal};
 ghost use Rattle.kat_model.specs.Trees.{test_tree, kat_tree};
 ghost use Rattle.kat_model.specs.Expressions.{compared, expr_tree, cond_tree};
-ghost use Rattle.text_scopes.specs.Pieces.{spelled};
+ghost use Rattle.text_parser.specs.Pieces.{spelled};
 ghost use Rattle.text_print.specs.Printing.{name_of, relation_text, cond_of, is_star, expr_text, cond_text, test_text, term_text, expr_pieces, cond_pieces, term_pieces};
 
 use kat_model::{Cond, Expr, Kat, NoMemory, Rel, Test};
 use std::alloc::Global;
-use text_scopes::{Meaning, Scope};
+use text_parser::{Meaning, Scope};
 
 /// Returns the name that denotes the meaning in the scope, or an empty text if it has no name.
 pub fn name_of(scope: &Scope, meaning: Meaning) -> &str

@@ -5,7 +5,7 @@ ghost use Rattle.kat_model.specs.Problems.{ProblemParts};
 ghost use Rattle.while_lang.specs.Files.{FileParts};
 ghost use Rattle.problem_file.specs.Reads.{Reads};
 ghost use Rattle.while_lang.specs.Concrete.{IsConcrete, Agrees};
-ghost use Rattle.text_scopes.specs.declared.fault.TextFault.TheVariants.{NoMemory as NoRoom};
+ghost use Rattle.text_parser.specs.declared.fault.TextFault.TheVariants.{NoMemory as NoRoom};
 ghost use Rattle.chain_rules.specs.Chained.{HasTermsInRange};
 ghost use Rattle.tool_inputs.specs.Steps.{IsRefusal};
 ghost use Rattle.tool_inputs.specs.FileProblem.{Asks};
@@ -16,7 +16,7 @@ use chain_proofs::{Chain, ChainAnswer, ChainReason, check_chain, read_chain};
 use kat_model::{MAX_TEXT_BYTES, NoMemory, Problem};
 use kat_report::put_fault;
 use std::alloc::Global;
-use text_scopes::TextFault;
+use text_parser::TextFault;
 use tool_inputs::{EarlyEnd, PairCommand, Reply, line, reply_to_pair};
 
 // Returns the line for an accepted proof.

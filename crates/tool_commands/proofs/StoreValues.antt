@@ -12,8 +12,8 @@ use Rattle.kat_model.specs.Stores.{modulus, Store}
 use Rattle.kat_model.specs.declared.expression.Width.{Width}
 use Rattle.kat_model.specs.declared.expression.Width.TheVariants.{W8, W16, W32, W64}
 use Rattle.kat_model.proofs.Options.{some_of_map, some_of_then, some_of_cond}
-use Rattle.text_scopes.specs.ScopeParts.{ScopeParts, meaning}
-use Rattle.text_scopes.specs.Terminals.{value_from}
+use Rattle.text_parser.specs.ScopeParts.{ScopeParts, meaning}
+use Rattle.text_parser.specs.Terminals.{value_from}
 use Rattle.while_lang.specs.Files.{FileParts}
 use Rattle.while_lang.specs.Concrete.{IsStoreOf}
 use Rattle.tool_commands.specs.Numbers.{is_number, number_below}

@@ -1,6 +1,6 @@
 -- Numbers in words of the command line.
 use Rattle.std.specs.Prelude.{ℕ, zero, suc, List, length, Bool, ◌&&◌, nat_lt, Option, None, Some, if◌then◌else◌}
-use Rattle.text_scopes.specs.Terminals.{value_from, is_digits}
+use Rattle.text_parser.specs.Terminals.{value_from, is_digits}
 
 -- 1 to 20 ASCII digits
 abbrev pub is_number : List ℕ → Bool

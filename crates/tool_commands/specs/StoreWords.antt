@@ -5,9 +5,9 @@ use Rattle.std.specs.List.{slice_split, before_first, after_first}
 use Rattle.std.specs.Str.{bytes_eq}
 use Rattle.kat_model.specs.Stores.{modulus, Store}
 use Rattle.kat_model.specs.declared.expression.Width.{Width}
-use Rattle.text_scopes.specs.declared.meaning.Meaning.{Meaning}
-use Rattle.text_scopes.specs.declared.meaning.Meaning.TheVariants.{Var}
-use Rattle.text_scopes.specs.ScopeParts.{ScopeParts, meaning}
+use Rattle.text_parser.specs.declared.meaning.Meaning.{Meaning}
+use Rattle.text_parser.specs.declared.meaning.Meaning.TheVariants.{Var}
+use Rattle.text_parser.specs.ScopeParts.{ScopeParts, meaning}
 use Rattle.while_lang.specs.Files.{FileParts}
 use Rattle.tool_commands.specs.Numbers.{number_below}
 

@@ -3,13 +3,13 @@ ghost use Rattle.std.specs.Prelude.{◌≡◌, ◌==◌, map, Some, None, if◌t
 ghost use Rattle.std.specs.Option.{option_map};
 ghost use Rattle.std.specs.List.{slice_split};
 ghost use Rattle.kat_model.specs.Stores.{IsStore};
-ghost use Rattle.text_scopes.specs.ScopeParts.{meaning};
+ghost use Rattle.text_parser.specs.ScopeParts.{meaning};
 ghost use Rattle.tool_commands.specs.StoreWords.{variable_meant, setting_of, with_setting, with_item, with_items, values_of, store_of};
 
 use crate::numbers::number_within;
 use kat_model::{NoMemory, Width};
 use std::alloc::Global;
-use text_scopes::{Meaning, Scope};
+use text_parser::{Meaning, Scope};
 use while_lang::{File, Store};
 
 // Returns the variable with this name, if any.

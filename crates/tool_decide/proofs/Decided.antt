@@ -1,5 +1,5 @@
 -- The answer of `decide` is evidence, so its text reads back, and it determines the status.
-use Rattle.std.proofs.Common.{◌≡◌, ◌<◌, ◌≤◌, ◌^◌, ℕ, inl, inr, List, length, refl, sym, subst, arith, ltb-true}
+use Rattle.std.proofs.Common.{◌≡◌, ◌<◌, ◌^◌, ℕ, inl, inr, List, length, refl, sym, subst}
 use Rattle.kat_model.specs.declared.limits.TheConstants.{MAX_TESTS, MAX_ACTIONS}
 use Rattle.kat_model.specs.Problems.{ProblemParts, IsProblem}
 use Rattle.kat_model.specs.Strings.{GuardedString}
@@ -16,16 +16,7 @@ use Rattle.bisim_worklist.proofs.AnswerCerts.{answer_accepted, answer_few}
 use Rattle.tool_inputs.specs.EvidenceBytes.{evidence_status, Spells}
 use Rattle.tool_decide.specs.Decide.{IsDecided}
 use Rattle.tool_decide.specs.DecideJson.{IsReported}
-
--- a number below a count of a problem is below 2^64
-pub small : (most k n : ℕ) → most < 2 ^ 64 → k < n → n ≤ most → k < 2 ^ 64
-small most k n wide lt le = omega (arith, lt, le, wide)
-
-pub few_tests : MAX_TESTS < 2 ^ 64
-few_tests = ltb-true MAX_TESTS (2 ^ 64) refl
-
-few_actions : MAX_ACTIONS < 2 ^ 64
-few_actions = ltb-true MAX_ACTIONS (2 ^ 64) refl
+use Rattle.tool_decide.specs.Working.NarrowCounts.{small, few_tests, few_actions}
 
 module _ (q : ProblemParts) (problem : IsProblem q) where
   accepted_evidence : (c : CertParts) → IsCert c → IsAccepted q c → length c.test_nodes < 2 ^ 64 → length c.term_nodes < 2 ^ 64 → IsEvidence (Equal c)

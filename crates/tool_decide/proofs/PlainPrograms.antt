@@ -6,7 +6,7 @@ use Rattle.kat_model.specs.Expressions.{CondTree}
 use Rattle.kat_model.specs.Problems.{ProblemParts, problem_size}
 use Rattle.kat_model.specs.Relations.{Same}
 use Rattle.kat_model.specs.Trees.{Term}
-use Rattle.text_scopes.specs.ScopeParts.{empty_scope}
+use Rattle.text_parser.specs.ScopeParts.{empty_scope}
 use Rattle.while_lang.specs.Programs.{ProgTree}
 use Rattle.while_lang.specs.Files.{FileParts, GoalTree, equal, triple, prog_side}
 use Rattle.while_lang.specs.Concrete.{Agrees}

@@ -1,3 +1,4 @@
+pub mod NarrowCounts
 pub mod OptimiseReplies
 pub mod FileTriples
 pub mod TextTriples

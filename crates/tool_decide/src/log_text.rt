@@ -7,7 +7,7 @@ use kat_report::put_path;
 use optimiser_steps::{Ended, LogLine, Optimised};
 use std::alloc::Global;
 use std::fmt::Write;
-use text_scopes::Scope;
+use text_parser::Scope;
 use problem_file::print_prog;
 
 fn put_step(alloc: Global, out: &mut Vec<u8>, line: &LogLine) -> Result<(), NoMemory>

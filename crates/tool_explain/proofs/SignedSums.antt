@@ -1,7 +1,7 @@
 -- The signed text of a form and its halves, term by term.
 use Rattle.std.proofs.Common.{◌≡◌, ◌<◌, ◌≤◌, ◌+◌, ℕ, List, ◌∷◌, ◌++◌, length, get_or, drop, Bool, true, false, refl, sym, ap, ◌∙◌, append_assoc}
 use Rattle.std.proofs.lemmas.List.{drop_more, drop_all}
-use Rattle.text_scopes.specs.declared.meaning.Meaning.{Meaning}
+use Rattle.text_parser.specs.declared.meaning.Meaning.{Meaning}
 use Rattle.linear_forms.specs.Forms.{FormTree, constant, var, product, TermTree, with_term, form_of}
 use Rattle.tool_explain.specs.Signed.{signed_sum, still_first, half_sum}
 use Rattle.tool_explain.specs.Working.FormParts.{signed_part, half_term, signed_constant, half_constant}

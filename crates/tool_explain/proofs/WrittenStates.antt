@@ -4,7 +4,7 @@ use Rattle.std.proofs.lemmas.Bool.{cases_lt}
 use Rattle.std.proofs.lemmas.List.{append-nil, nil_from_length, drop_more, drop_all}
 use Rattle.kat_model.specs.Steps.{Atom}
 use Rattle.kat_model.specs.Strings.{Move}
-use Rattle.text_scopes.specs.declared.meaning.Meaning.{Meaning}
+use Rattle.text_parser.specs.declared.meaning.Meaning.{Meaning}
 use Rattle.abstraction.specs.Abstracts.{AbstractParts}
 use Rattle.abstraction.specs.declared.rows.TestRow.{TestRow}
 use Rattle.tool_explain.specs.Signed.{is_same, literal_text}

@@ -4,7 +4,7 @@ use Rattle.std.specs.List.{zip}
 use Rattle.std.specs.Fmt.{decimal}
 use Rattle.kat_model.specs.Trees.{Term}
 use Rattle.kat_model.specs.Stores.{modulus}
-use Rattle.text_scopes.specs.declared.meaning.Meaning.{Meaning}
+use Rattle.text_parser.specs.declared.meaning.Meaning.{Meaning}
 use Rattle.text_print.specs.Printing.{name_of}
 use Rattle.problem_file.specs.Questions.{hyp_text}
 use Rattle.while_lang.specs.Files.{FileParts}

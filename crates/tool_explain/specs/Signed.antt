@@ -1,8 +1,8 @@
 -- Forms and comparisons as people write them: numbers above half of the numbers of a width are written with a minus sign.
 use Rattle.std.specs.Prelude.{ℕ, ◌/◌, List, [], ◌++◌, codes, Bool, true, false, ◌&&◌, not, nat_eq, nat_lt, if◌then◌else◌, Option, Some, None}
 use Rattle.std.specs.Fmt.{decimal}
-use Rattle.text_scopes.specs.declared.meaning.Meaning.{Meaning}
-use Rattle.text_scopes.specs.declared.meaning.Meaning.TheVariants.{Test, Action, Var}
+use Rattle.text_parser.specs.declared.meaning.Meaning.{Meaning}
+use Rattle.text_parser.specs.declared.meaning.Meaning.TheVariants.{Test, Action, Var}
 use Rattle.linear_forms.specs.Forms.{FormTree, constant, var_term, product_term}
 use Rattle.linear_forms.specs.Comparisons.{negative_number}
 use Rattle.linear_forms.specs.Atomic.{Atomic}

@@ -16,7 +16,7 @@ use certificate::{Cert, Evidence, Style};
 use kat_model::{Kat, NoMemory};
 use problem_file::put_hyp;
 use std::alloc::Global;
-use text_scopes::Scope;
+use text_parser::Scope;
 use while_lang::File;
 
 fn style_text(style: Style) -> &'static [u8]

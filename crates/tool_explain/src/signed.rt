@@ -13,7 +13,7 @@ use kat_model::{NoMemory, Width};
 use linear_forms::{Atomic, Form, Mono, Term};
 use std::alloc::Global;
 use text_print::put_name;
-use text_scopes::{Meaning, Scope};
+use text_parser::{Meaning, Scope};
 
 // Returns half of the number of values of the width.
 fn half(width: Width) -> u64

@@ -11,7 +11,7 @@ use abstraction::{Abstract, TestRow};
 use kat_model::{NoMemory, Width};
 use std::alloc::Global;
 use string_tables::{GString, Move};
-use text_scopes::Scope;
+use text_parser::Scope;
 
 fn put_comma(out: &mut Vec<u8>, first: bool) -> Result<(), NoMemory>
     ensures { OnOk result (out.new.items ≡ out.old.items ++ comma_text first) }

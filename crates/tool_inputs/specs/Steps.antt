@@ -6,7 +6,7 @@ use Rattle.kat_io.specs.Outside.{FaultCounted}
 use Rattle.certificate.specs.declared.evidence.Evidence.{Evidence}
 use Rattle.kat_report.specs.InputLines.{unread_line, words_line}
 use Rattle.while_lang.specs.Files.{FileParts}
-use Rattle.text_scopes.specs.declared.fault.TextFault.{TextFault}
+use Rattle.text_parser.specs.declared.fault.TextFault.{TextFault}
 use Rattle.problem_file.specs.Reads.{Reads, FirstFault}
 use Rattle.abstraction.specs.Abstracts.{AbstractParts, abstract_of}
 use Rattle.tool_inputs.specs.TextProblem.{IsFaultOf, HasNoAbstraction}

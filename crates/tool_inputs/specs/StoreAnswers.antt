@@ -5,7 +5,7 @@ use Rattle.kat_model.specs.Expressions.{CondTree}
 use Rattle.kat_model.specs.Problems.{ProblemParts}
 use Rattle.kat_model.specs.Relations.{Same}
 use Rattle.kat_model.specs.Stores.{Store, IsStore, holds}
-use Rattle.text_scopes.specs.ScopeParts.{empty_scope}
+use Rattle.text_parser.specs.ScopeParts.{empty_scope}
 use Rattle.while_lang.specs.Programs.{ProgTree}
 use Rattle.while_lang.specs.Runs.{Ends}
 use Rattle.while_lang.specs.Files.{GoalTree, equal, triple, prog_side, FileParts}

@@ -1,6 +1,6 @@
 -- Why a text poses no problem.
 use Rattle.std.specs.Prelude.{◌≡◌, ◌⊎◌, ℕ, List, Err}
-use Rattle.text_scopes.specs.declared.fault.TextFault.{TextFault}
+use Rattle.text_parser.specs.declared.fault.TextFault.{TextFault}
 use Rattle.kat_report.specs.Refusals.{text_fault_line}
 use Rattle.while_lang.specs.Files.{FileParts}
 use Rattle.problem_file.specs.Reads.{Reads, FirstFault}

@@ -1,6 +1,6 @@
 //! The problem that a text poses.
 ghost use Rattle.std.specs.Prelude.{◌≡◌, ◌≢◌};
-ghost use Rattle.text_scopes.specs.declared.fault.TextFault.TheVariants.{NoMemory as NoRoom};
+ghost use Rattle.text_parser.specs.declared.fault.TextFault.TheVariants.{NoMemory as NoRoom};
 ghost use Rattle.kat_report.specs.Refusals.{text_fault_line};
 ghost use Rattle.problem_file.specs.Reads.{Reads};
 ghost use Rattle.tool_inputs.specs.TextProblem.{IsFaulty};
@@ -13,7 +13,7 @@ use kat_model::{NoMemory, Problem};
 use kat_report::text_fault_line;
 use problem_file::{File, read};
 use std::alloc::Global;
-use text_scopes::TextFault;
+use text_parser::TextFault;
 
 /// Returns the reply to a text with this fault: a refusal, unless memory ran out.
 pub fn text_fault_stop(alloc: Global, fault: TextFault) -> EarlyEnd

@@ -2,8 +2,8 @@
 use Rattle.std.specs.Prelude.{◌≡◌, ◌≤◌, ◌⊎◌, ◌↔◌, ℕ, List, [], ◌++◌, codes}
 use Rattle.kat_model.specs.declared.limits.TheConstants.{MAX_TERM_NODES}
 use Rattle.kat_model.specs.Problems.{ProblemParts, problem_size}
-use Rattle.text_scopes.specs.declared.meaning.Meaning.TheVariants.{Test, Action}
-use Rattle.text_scopes.specs.ScopeParts.{IsWellFormed}
+use Rattle.text_parser.specs.declared.meaning.Meaning.TheVariants.{Test, Action}
+use Rattle.text_parser.specs.ScopeParts.{IsWellFormed}
 use Rattle.text_print.specs.Printing.{name_of}
 use Rattle.problem_file.specs.Questions.{goal_text}
 use Rattle.problem_file.specs.NamedTexts.{names_line}

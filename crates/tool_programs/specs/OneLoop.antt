@@ -3,9 +3,9 @@ use Rattle.std.specs.Prelude.{◌≡◌, ◌≢◌, ◌⊎◌, ◌↔◌, ◌<�
 use Rattle.kat_model.specs.declared.limits.TheConstants.{MAX_EXPR_NODES, MAX_TERM_NODES, MAX_OPEN, MAX_TEXT_BYTES, MAX_VARS}
 use Rattle.kat_model.specs.declared.expression.Width.{Width}
 use Rattle.kat_model.specs.Stores.{modulus}
-use Rattle.text_scopes.specs.declared.meaning.Meaning.{Meaning}
-use Rattle.text_scopes.specs.declared.meaning.Meaning.TheVariants.{Var}
-use Rattle.text_scopes.specs.ScopeParts.{ScopeParts, IsDeclared, IsUndeclared, IsWellFormed, declared}
+use Rattle.text_parser.specs.declared.meaning.Meaning.{Meaning}
+use Rattle.text_parser.specs.declared.meaning.Meaning.TheVariants.{Var}
+use Rattle.text_parser.specs.ScopeParts.{ScopeParts, IsDeclared, IsUndeclared, IsWellFormed, declared}
 use Rattle.text_print.specs.Printing.{name_of}
 use Rattle.while_lang.specs.Programs.{ProgTree, statements}
 use Rattle.while_lang.specs.ProgramSizes.{prog_size, largest_in}

@@ -2,7 +2,7 @@
 use Rattle.std.specs.Prelude.{◌≡◌, ◌≤◌, ◌⊎◌, ◌↔◌, ℕ, List, ◌∷◌, length, Ok, All}
 use Rattle.kat_model.specs.declared.limits.TheConstants.{MAX_HYPS, MAX_OPEN, MAX_TEXT_BYTES}
 use Rattle.kat_model.specs.Problems.{ProblemParts, IsProblem}
-use Rattle.text_scopes.specs.ScopeParts.{IsWellFormed}
+use Rattle.text_parser.specs.ScopeParts.{IsWellFormed}
 use Rattle.text_print.specs.Printing.{term_nesting}
 use Rattle.while_lang.specs.Files.{FileParts}
 use Rattle.problem_file.specs.Reads.{Reads}

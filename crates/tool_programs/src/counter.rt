@@ -1,11 +1,11 @@
 //! The name of a form's counter.
 ghost use Rattle.std.specs.Prelude.{IfOk, OnOk, string_bytes};
-ghost use Rattle.text_scopes.specs.ScopeParts.{IsWellFormed};
+ghost use Rattle.text_parser.specs.ScopeParts.{IsWellFormed};
 ghost use Rattle.tool_programs.specs.OneLoop.{IsCounterName};
 
 use kat_model::NoMemory;
 use std::alloc::Global;
-use text_scopes::Scope;
+use text_parser::Scope;
 
 /// Returns `pc` and the fewest `_` such that the scope does not declare this name.
 pub(crate) fn counter_name(alloc: Global, scope: &Scope) -> Result<String, NoMemory>

@@ -1,6 +1,6 @@
 //! `gkat`: replies to a text of GKAT with the problem that it asks, as the text of a problem file.
 ghost use Rattle.std.specs.Prelude.{◌≡◌, ◌++◌, IfOk, OnOk};
-ghost use Rattle.text_scopes.specs.ScopeParts.{IsWellFormed};
+ghost use Rattle.text_parser.specs.ScopeParts.{IsWellFormed};
 ghost use Rattle.text_print.specs.Printing.{name_of};
 ghost use Rattle.problem_file.specs.NamedTexts.{names_line};
 ghost use Rattle.gkat_front.specs.FileViews.{file_parts};
@@ -16,7 +16,7 @@ use kat_model::NoMemory;
 use problem_file::put_goal;
 use std::alloc::Global;
 use text_print::put_name;
-use text_scopes::{Meaning, Scope};
+use text_parser::{Meaning, Scope};
 use tool_inputs::{EarlyEnd, Reply, TextCommand, reply_to_text, text_fault_stop};
 
 // The kinds of names that a text of GKAT declares.

@@ -1,8 +1,8 @@
 //! `oneloop`: replies to a text and the name of a program with a form of that program with one loop.
 ghost use Rattle.std.specs.Prelude.{◌≡◌, ◌≢◌, ◌<◌, ◌≤◌, ◌+◌, ℕ, List, Some, true, IfOk};
 ghost use Rattle.kat_model.specs.declared.limits.TheConstants.{MAX_VARS};
-ghost use Rattle.text_scopes.specs.declared.meaning.Meaning.TheVariants.{Var};
-ghost use Rattle.text_scopes.specs.ScopeParts.{declared, IsUnnamed, IsWellFormed};
+ghost use Rattle.text_parser.specs.declared.meaning.Meaning.TheVariants.{Var};
+ghost use Rattle.text_parser.specs.ScopeParts.{declared, IsUnnamed, IsWellFormed};
 ghost use Rattle.text_print.specs.Printing.{name_of};
 ghost use Rattle.while_lang.specs.Programs.{is_concrete};
 ghost use Rattle.one_loop.specs.declared.fault.OneLoopFault.TheVariants.{NoMemory as NoRoom};
@@ -25,7 +25,7 @@ use kat_model::{NoMemory, Width};
 use one_loop::{OneLoopFault, one_loop};
 use problem_file::{declare, one_program_text};
 use std::alloc::Global;
-use text_scopes::{Meaning, Scope};
+use text_parser::{Meaning, Scope};
 use tool_commands::program_of;
 use tool_inputs::{EarlyEnd, FileCommand, Reply, reply_to_bytes, unfit_stop};
 use while_lang::{File, Prog};

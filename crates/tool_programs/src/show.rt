@@ -1,7 +1,7 @@
 //! `show`: replies to a text with the abstraction of its file, as a text.
 ghost use Rattle.std.specs.Prelude.{IfOk};
 ghost use Rattle.kat_model.specs.Problems.{IsProblem};
-ghost use Rattle.text_scopes.specs.ScopeParts.{IsWellFormed};
+ghost use Rattle.text_parser.specs.ScopeParts.{IsWellFormed};
 ghost use Rattle.tool_programs.specs.Show.{ShowsFile, ShowHeadline, ShowReply};
 
 use abstraction::Abstract;

@@ -9,7 +9,7 @@ use std::alloc::Global;
 use std::fmt::Write;
 use store_trials::{RunEnd, Trial};
 use text_print::put_name;
-use text_scopes::{Meaning, Scope};
+use text_parser::{Meaning, Scope};
 use while_lang::Store;
 
 fn put_number(alloc: Global, out: &mut Vec<u8>, number: u64) -> Result<(), NoMemory>

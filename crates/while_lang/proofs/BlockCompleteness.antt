@@ -1,16 +1,16 @@
 -- Parsing the tokens of a block gives the fold of the block.
 use Rattle.std.proofs.Common.{◌≡◌, ℕ, List, true, false, Result, Ok, Err, refl, ap, ◌∙◌}
-use Rattle.text_scopes.specs.declared.fault.TextFault.{TextFault}
-use Rattle.text_scopes.specs.declared.terminal.Terminal.TheVariants.{Keyword, Separator}
-use Rattle.text_scopes.specs.declared.terminal.Keyword.TheVariants as word
-use Rattle.text_scopes.specs.declared.terminal.Separator.TheVariants.{Semicolon, CurlyClose}
-use Rattle.text_scopes.specs.Lexemes.{Lexeme, heads, is_terminal}
-use Rattle.text_scopes.specs.Parsed.{Parsed, ◌>>=◌, before, change}
-use Rattle.text_scopes.specs.Actions.{context}
-use Rattle.text_scopes.specs.Phrases.{cond, expr, Leaf, Phrase, cons_token, yield_before, MeetsLookahead}
-use Rattle.text_scopes.specs.Ends.{Ends}
-use Rattle.text_scopes.proofs.ParserCompleteness.{then_rest, checked, changed, closed, cond_parsed, expr_parsed}
-use Rattle.text_scopes.proofs.Longest.{longest}
+use Rattle.text_parser.specs.declared.fault.TextFault.{TextFault}
+use Rattle.text_parser.specs.declared.terminal.Terminal.TheVariants.{Keyword, Separator}
+use Rattle.text_parser.specs.declared.terminal.Keyword.TheVariants as word
+use Rattle.text_parser.specs.declared.terminal.Separator.TheVariants.{Semicolon, CurlyClose}
+use Rattle.text_parser.specs.Lexemes.{Lexeme, heads, is_terminal}
+use Rattle.text_parser.specs.Parsed.{Parsed, ◌>>=◌, before, change}
+use Rattle.text_parser.specs.Actions.{context}
+use Rattle.text_parser.specs.Phrases.{cond, expr, Leaf, Phrase, cons_token, yield_before, MeetsLookahead}
+use Rattle.text_parser.specs.Ends.{Ends}
+use Rattle.text_parser.proofs.ParserCompleteness.{then_rest, checked, changed, closed, cond_parsed, expr_parsed}
+use Rattle.text_parser.proofs.Longest.{longest}
 use Rattle.while_lang.specs.BlockActions.{BlockActions}
 use Rattle.while_lang.specs.Blocks.{enter, block as block_aim, stmts_after, stmt_after, branch_after, cond_by, expr_by, then_semicolon, else_by, parse_block}
 use Rattle.while_lang.specs.BlockPhrases.{BlockSymbol, block, stmts, stmt, branch, BlockPhrase, braced, no_stmts, more_stmts, skip_stmt, abort_stmt, assert_stmt, name_stmt, assign_stmt, if_stmt, while_stmt}

@@ -2,12 +2,12 @@
 use Rattle.std.proofs.Common.{◌≡◌, ℕ, ◌+◌, nat_lt, List, Result, Ok, Err, sym, subst, ap, ◌∙◌}
 use Rattle.std.specs.Result.{IsErrAnd}
 use Rattle.std.proofs.lemmas.Result.{err_from_is_err_and}
-use Rattle.text_scopes.specs.declared.fault.TextFault.{TextFault}
+use Rattle.text_parser.specs.declared.fault.TextFault.{TextFault}
 use Rattle.kat_model.specs.declared.limits.TheConstants.{MAX_OPEN}
-use Rattle.text_scopes.specs.declared.fault.TextFault.TheVariants.{NoMemory, TooDeep}
-use Rattle.text_scopes.specs.Lexemes.{Lexeme}
-use Rattle.text_scopes.specs.Parsed.{Parsed, Makes, Reads}
-use Rattle.text_scopes.proofs.NamedFaults.{IsNamedFault, IsNamed, if_named}
+use Rattle.text_parser.specs.declared.fault.TextFault.TheVariants.{NoMemory, TooDeep}
+use Rattle.text_parser.specs.Lexemes.{Lexeme}
+use Rattle.text_parser.specs.Parsed.{Parsed, Makes, Reads}
+use Rattle.text_parser.proofs.NamedFaults.{IsNamedFault, IsNamed, if_named}
 use Rattle.while_lang.specs.Blocks.{enter}
 use Rattle.while_lang.specs.Working.Appending.{Appends}
 

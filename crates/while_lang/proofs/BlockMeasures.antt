@@ -4,20 +4,20 @@ use Rattle.std.proofs.lemmas.Bool.{ltb-true, ltb-false}
 use Rattle.std.proofs.lemmas.List.{append-nil}
 use Rattle.kat_model.specs.declared.limits.TheConstants.{MAX_TERM_NODES, MAX_EXPR_NODES, MAX_OPEN}
 use Rattle.kat_model.specs.Expressions.{ExprTree, CondTree}
-use Rattle.text_scopes.specs.declared.fault.TextFault.{TextFault}
-use Rattle.text_scopes.specs.declared.fault.TextFault.TheVariants.{TooDeep}
-use Rattle.text_scopes.specs.Parsed.{◌>>=◌}
-use Rattle.text_scopes.specs.Actions.{context}
-use Rattle.text_scopes.specs.Phrases.{cond as cond_symbol, expr, Phrase}
-use Rattle.text_scopes.specs.declared.meaning.Meaning.{Meaning}
-use Rattle.text_scopes.specs.declared.meaning.Meaning.TheVariants.{Test, Action, Var, Term as TermName, Prog}
-use Rattle.text_scopes.specs.declared.extent.Extent.{Extent}
-use Rattle.text_scopes.specs.Sizes.{expr_size, cond_size, largest_expr, capped}
-use Rattle.text_scopes.specs.ScopeParts.{ScopeParts, meaning}
-use Rattle.text_scopes.specs.Measuring.{compared_nodes}
-use Rattle.text_scopes.specs.Laws.{told_nodes}
-use Rattle.text_scopes.proofs.Related.{Both, both_then}
-use Rattle.text_scopes.proofs.Measured.{cond_measured, expr_measured, told_compared, told_kept, made, told_of}
+use Rattle.text_parser.specs.declared.fault.TextFault.{TextFault}
+use Rattle.text_parser.specs.declared.fault.TextFault.TheVariants.{TooDeep}
+use Rattle.text_parser.specs.Parsed.{◌>>=◌}
+use Rattle.text_parser.specs.Actions.{context}
+use Rattle.text_parser.specs.Phrases.{cond as cond_symbol, expr, Phrase}
+use Rattle.text_parser.specs.declared.meaning.Meaning.{Meaning}
+use Rattle.text_parser.specs.declared.meaning.Meaning.TheVariants.{Test, Action, Var, Term as TermName, Prog}
+use Rattle.text_parser.specs.declared.extent.Extent.{Extent}
+use Rattle.text_parser.specs.Sizes.{expr_size, cond_size, largest_expr, capped}
+use Rattle.text_parser.specs.ScopeParts.{ScopeParts, meaning}
+use Rattle.text_parser.specs.Measuring.{compared_nodes}
+use Rattle.text_parser.specs.Laws.{told_nodes}
+use Rattle.text_parser.proofs.Related.{Both, both_then}
+use Rattle.text_parser.proofs.Measured.{cond_measured, expr_measured, told_compared, told_kept, made, told_of}
 use Rattle.while_lang.specs.Programs.{ProgTree, empty, skip_then, abort_then, assert_then, act_then, assign_then, branch_then, loop_then, prog_of, stmts_of}
 use Rattle.while_lang.specs.Programs.{StmtTree, skip, abort, assert, act, assign, branch as branch_stmt, loop, with_stmt}
 use Rattle.while_lang.specs.ProgramSizes.{prog_size, largest_in}

@@ -2,17 +2,17 @@
 use Rattle.std.proofs.Common.{◌≡◌, ℕ, ◌+◌, ◌<◌, ◌≤◌, List, ◌∷◌, true, false, drop, Result, Ok, Err, refl, sym, subst, ap, ◌∙◌, arith}
 use Rattle.std.specs.Prelude.{IfOk}
 use Rattle.std.specs.Result.{IsErrAnd, result_and}
-use Rattle.text_scopes.specs.declared.fault.TextFault.{TextFault}
-use Rattle.text_scopes.specs.declared.fault.TextFault.TheVariants.{NoMemory}
-use Rattle.text_scopes.specs.declared.terminal.Terminal.{Terminal}
-use Rattle.text_scopes.specs.declared.terminal.Terminal.TheVariants.{Name, Keyword, Separator}
-use Rattle.text_scopes.specs.declared.terminal.Keyword.{Keyword as KeywordOf}
-use Rattle.text_scopes.specs.declared.terminal.Keyword.TheVariants as word
-use Rattle.text_scopes.specs.declared.terminal.Separator.TheVariants.{Semicolon, CurlyOpen, CurlyClose, Becomes}
-use Rattle.text_scopes.specs.Lexemes.{Lexeme, lexeme, heads, is_terminal}
-use Rattle.text_scopes.specs.Parsed.{Parsed, ◌>>=◌, before, change, wants, place_of, Makes, Wants, Goes}
-use Rattle.text_scopes.proofs.NamedFaults.{IsNamed, wants_named}
-use Rattle.text_scopes.proofs.Tokens.{next_drop}
+use Rattle.text_parser.specs.declared.fault.TextFault.{TextFault}
+use Rattle.text_parser.specs.declared.fault.TextFault.TheVariants.{NoMemory}
+use Rattle.text_parser.specs.declared.terminal.Terminal.{Terminal}
+use Rattle.text_parser.specs.declared.terminal.Terminal.TheVariants.{Name, Keyword, Separator}
+use Rattle.text_parser.specs.declared.terminal.Keyword.{Keyword as KeywordOf}
+use Rattle.text_parser.specs.declared.terminal.Keyword.TheVariants as word
+use Rattle.text_parser.specs.declared.terminal.Separator.TheVariants.{Semicolon, CurlyOpen, CurlyClose, Becomes}
+use Rattle.text_parser.specs.Lexemes.{Lexeme, lexeme, heads, is_terminal}
+use Rattle.text_parser.specs.Parsed.{Parsed, ◌>>=◌, before, change, wants, place_of, Makes, Wants, Goes}
+use Rattle.text_parser.proofs.NamedFaults.{IsNamed, wants_named}
+use Rattle.text_parser.proofs.Tokens.{next_drop}
 use Rattle.while_lang.specs.BlockActions.{BlockActions}
 use Rattle.while_lang.specs.Blocks.{enter, block, stmts_after, stmt_after, branch_after, cond_by, expr_by, then_semicolon, assign_by, named_by, loop_by, else_by, parse_block}
 use Rattle.while_lang.specs.Working.Appending.{Appends, EndsAfter}

@@ -3,24 +3,24 @@ use Rattle.std.proofs.Common.{◌≡◌, ℕ, zero, suc, ◌+◌, ◌*◌, ◌<�
 use Rattle.std.specs.Prelude.{IfErr}
 use Rattle.std.proofs.lemmas.Bool.{or_right}
 use Rattle.kat_model.specs.declared.limits.TheConstants.{MAX_OPEN}
-use Rattle.text_scopes.specs.declared.fault.TextFault.{TextFault}
-use Rattle.text_scopes.specs.declared.fault.TextFault.TheVariants.{Syntax, TooDeep, NumberTooWide}
-use Rattle.text_scopes.specs.declared.terminal.Terminal.{Terminal}
-use Rattle.text_scopes.specs.declared.terminal.Terminal.TheVariants.{RoundClose, SquareClose, Star, Plus, Dot, And, Or, Compares, Name, Keyword, Separator}
-use Rattle.text_scopes.specs.declared.terminal.Keyword.TheVariants as word
-use Rattle.text_scopes.specs.declared.terminal.Separator.TheVariants.{Semicolon, CurlyOpen, CurlyClose, Becomes}
-use Rattle.text_scopes.specs.Lexemes.{Lexeme, lexeme, heads, is_terminal}
-use Rattle.text_scopes.specs.Parsed.{Parsed, ◌>>=◌, change, wants, place_of, Wants}
-use Rattle.text_scopes.specs.Actions.{context}
-use Rattle.text_scopes.specs.Exprs.{sums}
-use Rattle.text_scopes.specs.Conds.{disjunction}
-use Rattle.text_scopes.specs.Scans.{scanning_exprs, scanning_conds}
-use Rattle.text_scopes.specs.Phrases.{Symbol, Leaf, Phrase, one_prod, more_prods, one_star, more_stars, bare, starred, zero_unit, one_unit, name_unit, not_unit, square_unit, round_unit, one_conj, more_conjs, one_lit, more_lits, true_lit, false_lit, name_lit, not_lit, round_lit, relation_lit, one_mul, more_muls, one_fac, more_facs, zero_fac, one_fac_number, number_fac, wide_fac, name_fac, round_fac, cons_token, sum_terminal, yield_before}
-use Rattle.text_scopes.specs.Faults.{opens, is_wide, StandsAt, IsSyntaxFault}
-use Rattle.text_scopes.proofs.TerminalEquality.{terminal_is}
-use Rattle.text_scopes.proofs.ParserSoundness.{leaf, terminal_headed, expr_found, cond_found}
-use Rattle.text_scopes.proofs.ScanFaults.{cond_faults, expr_faults}
-use Rattle.text_scopes.proofs.Within.{Within, headed}
+use Rattle.text_parser.specs.declared.fault.TextFault.{TextFault}
+use Rattle.text_parser.specs.declared.fault.TextFault.TheVariants.{Syntax, TooDeep, NumberTooWide}
+use Rattle.text_parser.specs.declared.terminal.Terminal.{Terminal}
+use Rattle.text_parser.specs.declared.terminal.Terminal.TheVariants.{RoundClose, SquareClose, Star, Plus, Dot, And, Or, Compares, Name, Keyword, Separator}
+use Rattle.text_parser.specs.declared.terminal.Keyword.TheVariants as word
+use Rattle.text_parser.specs.declared.terminal.Separator.TheVariants.{Semicolon, CurlyOpen, CurlyClose, Becomes}
+use Rattle.text_parser.specs.Lexemes.{Lexeme, lexeme, heads, is_terminal}
+use Rattle.text_parser.specs.Parsed.{Parsed, ◌>>=◌, change, wants, place_of, Wants}
+use Rattle.text_parser.specs.Actions.{context}
+use Rattle.text_parser.specs.Exprs.{sums}
+use Rattle.text_parser.specs.Conds.{disjunction}
+use Rattle.text_parser.specs.Scans.{scanning_exprs, scanning_conds}
+use Rattle.text_parser.specs.Phrases.{Symbol, Leaf, Phrase, one_prod, more_prods, one_star, more_stars, bare, starred, zero_unit, one_unit, name_unit, not_unit, square_unit, round_unit, one_conj, more_conjs, one_lit, more_lits, true_lit, false_lit, name_lit, not_lit, round_lit, relation_lit, one_mul, more_muls, one_fac, more_facs, zero_fac, one_fac_number, number_fac, wide_fac, name_fac, round_fac, cons_token, sum_terminal, yield_before}
+use Rattle.text_parser.specs.Faults.{opens, is_wide, StandsAt, IsSyntaxFault}
+use Rattle.text_parser.proofs.TerminalEquality.{terminal_is}
+use Rattle.text_parser.proofs.ParserSoundness.{leaf, terminal_headed, expr_found, cond_found}
+use Rattle.text_parser.proofs.ScanFaults.{cond_faults, expr_faults}
+use Rattle.text_parser.proofs.Within.{Within, headed}
 use Rattle.while_lang.specs.Blocks.{enter, BlockAim, block, stmts_after, stmt_after, branch_after, BlockParser, cond_by, expr_by, then_semicolon, block_by, stmts_by, assign_by, named_by, loop_by, stmt_by, else_by, branch_by}
 use Rattle.while_lang.specs.Blocks.{blocks_by, steps, block_within, parse_block}
 use Rattle.while_lang.specs.BlockScans.{scanning_blocks, scan_block}

@@ -2,19 +2,19 @@
 use Rattle.std.proofs.Common.{◌≡◌, ℕ, zero, suc, ◌+◌, ◌<◌, List, [], ◌∷◌, Bool, true, false, cond as if_true, nat_lt, Result, Ok, Err, refl, ap, sym, subst, ◌∙◌, drop}
 use Rattle.std.proofs.lemmas.Bool.{ltb-true}
 use Rattle.kat_model.specs.declared.limits.TheConstants.{MAX_OPEN}
-use Rattle.text_scopes.specs.declared.fault.TextFault.{TextFault}
-use Rattle.text_scopes.specs.declared.fault.TextFault.TheVariants.{TooDeep}
-use Rattle.text_scopes.specs.declared.terminal.Terminal.TheVariants.{Name, Keyword, Separator}
-use Rattle.text_scopes.specs.declared.terminal.Keyword.TheVariants as word
-use Rattle.text_scopes.specs.declared.terminal.Separator.TheVariants.{Semicolon, CurlyOpen, CurlyClose, Becomes}
-use Rattle.text_scopes.specs.Lexemes.{Lexeme, lexeme, heads, is_terminal}
-use Rattle.text_scopes.specs.Parsed.{Parsed, ◌>>=◌, before, change, wants, place_of}
-use Rattle.text_scopes.specs.Actions.{context}
-use Rattle.text_scopes.specs.Exprs.{sums}
-use Rattle.text_scopes.specs.Conds.{disjunction}
-use Rattle.text_scopes.specs.Phrases.{cond, expr, Leaf, Phrase, cons_token, yield_before, MeetsLookahead, IsWithinLimits, IsPhrase}
-use Rattle.text_scopes.proofs.TerminalEquality.{wants_ok}
-use Rattle.text_scopes.proofs.ParserSoundness.{leaf, bind_ok, chosen, changed_ok, before_ok, wanted_ok, terminal_headed, expr_found, cond_found}
+use Rattle.text_parser.specs.declared.fault.TextFault.{TextFault}
+use Rattle.text_parser.specs.declared.fault.TextFault.TheVariants.{TooDeep}
+use Rattle.text_parser.specs.declared.terminal.Terminal.TheVariants.{Name, Keyword, Separator}
+use Rattle.text_parser.specs.declared.terminal.Keyword.TheVariants as word
+use Rattle.text_parser.specs.declared.terminal.Separator.TheVariants.{Semicolon, CurlyOpen, CurlyClose, Becomes}
+use Rattle.text_parser.specs.Lexemes.{Lexeme, lexeme, heads, is_terminal}
+use Rattle.text_parser.specs.Parsed.{Parsed, ◌>>=◌, before, change, wants, place_of}
+use Rattle.text_parser.specs.Actions.{context}
+use Rattle.text_parser.specs.Exprs.{sums}
+use Rattle.text_parser.specs.Conds.{disjunction}
+use Rattle.text_parser.specs.Phrases.{cond, expr, Leaf, Phrase, cons_token, yield_before, MeetsLookahead, IsWithinLimits, IsPhrase}
+use Rattle.text_parser.proofs.TerminalEquality.{wants_ok}
+use Rattle.text_parser.proofs.ParserSoundness.{leaf, bind_ok, chosen, changed_ok, before_ok, wanted_ok, terminal_headed, expr_found, cond_found}
 use Rattle.while_lang.specs.BlockActions.{BlockActions}
 use Rattle.while_lang.specs.Blocks.{enter, BlockAim, block as block_aim, stmts_after, stmt_after, branch_after, BlockParser, cond_by, expr_by, then_semicolon, block_by, stmts_by, assign_by, named_by, loop_by, stmt_by, else_by, branch_by}
 use Rattle.while_lang.specs.Blocks.{blocks_by, block_within, parse_block}

@@ -2,8 +2,8 @@
 use Rattle.std.proofs.Common.{◌≡◌, ℕ, ◌+◌, ◌<◌, true, false, Ok, refl, ap, ◌∙◌}
 use Rattle.std.proofs.lemmas.Bool.{lt-ltb}
 use Rattle.kat_model.specs.declared.limits.TheConstants.{MAX_OPEN}
-use Rattle.text_scopes.specs.Actions.{context}
-use Rattle.text_scopes.proofs.Scanned.{scanned, ended}
+use Rattle.text_parser.specs.Actions.{context}
+use Rattle.text_parser.proofs.Scanned.{scanned, ended}
 use Rattle.while_lang.specs.Blocks.{enter, block as block_aim, parse_block}
 use Rattle.while_lang.specs.BlockPhrases.{BlockSymbol, BlockPhrase, braced, no_stmts, more_stmts, skip_stmt, abort_stmt, assert_stmt, name_stmt, assign_stmt, if_stmt, while_stmt, no_else, else_block, else_if, BlockFits}
 use Rattle.while_lang.specs.BlockFolds.{fold_block}

@@ -1,8 +1,8 @@
 -- The semantic actions of the block parser. Actions may reject a part; the other faults of a block are its syntax, its
 -- depth and numbers that are too wide.
 use Rattle.std.specs.Prelude.{ℕ, List, Result}
-use Rattle.text_scopes.specs.declared.fault.TextFault.{TextFault}
-use Rattle.text_scopes.specs.Actions.{Actions}
+use Rattle.text_parser.specs.declared.fault.TextFault.{TextFault}
+use Rattle.text_parser.specs.Actions.{Actions}
 
 -- `S` is the result for the statements of a block so far, which each action on statements takes. The numbers of `named`
 -- are the number of open constructs and the place of the name; the number of `target` is the place of the name.

@@ -2,10 +2,10 @@
 use Rattle.std.specs.Prelude.{List, [], ◌∷◌, ◌++◌, slice_get, Ok, Option, Some, None, ℕ}
 use Rattle.kat_model.specs.Trees.{Term}
 use Rattle.kat_model.specs.Expressions.{ExprTree, CondTree}
-use Rattle.text_scopes.specs.declared.meaning.Meaning.{Meaning}
-use Rattle.text_scopes.specs.declared.meaning.Meaning.TheVariants.{Action, Var, Prog}
-use Rattle.text_scopes.specs.ScopeParts.{ScopeParts, meaning}
-use Rattle.text_scopes.specs.Building.{trees}
+use Rattle.text_parser.specs.declared.meaning.Meaning.{Meaning}
+use Rattle.text_parser.specs.declared.meaning.Meaning.TheVariants.{Action, Var, Prog}
+use Rattle.text_parser.specs.ScopeParts.{ScopeParts, meaning}
+use Rattle.text_parser.specs.Building.{trees}
 use Rattle.while_lang.specs.Programs.{StmtTree, skip, abort, assert, act, assign, branch, loop, prog_of, stmts_of}
 use Rattle.while_lang.specs.NamedProgs.{ProgParts}
 use Rattle.while_lang.specs.BlockActions.{BlockActions}

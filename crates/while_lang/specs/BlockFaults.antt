@@ -1,14 +1,14 @@
 -- The faults that the syntax check of blocks reports.
 use Rattle.std.specs.Prelude.{◌≡◌, ◌⊎◌, ℕ, List, Bool, true, ◌||◌, Err}
-use Rattle.text_scopes.specs.declared.fault.TextFault.{TextFault}
-use Rattle.text_scopes.specs.declared.fault.TextFault.TheVariants.{Syntax, TooDeep, NumberTooWide}
-use Rattle.text_scopes.specs.declared.terminal.Terminal.{Terminal}
-use Rattle.text_scopes.specs.declared.terminal.Terminal.TheVariants.{Keyword, Separator}
-use Rattle.text_scopes.specs.declared.terminal.Keyword.TheVariants as word
-use Rattle.text_scopes.specs.declared.terminal.Separator.TheVariants.{CurlyOpen}
-use Rattle.text_scopes.specs.Lexemes.{Lexeme, is_terminal}
-use Rattle.text_scopes.specs.Parsed.{at_end}
-use Rattle.text_scopes.specs.Faults.{opens, is_wide, StandsAt}
+use Rattle.text_parser.specs.declared.fault.TextFault.{TextFault}
+use Rattle.text_parser.specs.declared.fault.TextFault.TheVariants.{Syntax, TooDeep, NumberTooWide}
+use Rattle.text_parser.specs.declared.terminal.Terminal.{Terminal}
+use Rattle.text_parser.specs.declared.terminal.Terminal.TheVariants.{Keyword, Separator}
+use Rattle.text_parser.specs.declared.terminal.Keyword.TheVariants as word
+use Rattle.text_parser.specs.declared.terminal.Separator.TheVariants.{CurlyOpen}
+use Rattle.text_parser.specs.Lexemes.{Lexeme, is_terminal}
+use Rattle.text_parser.specs.Parsed.{at_end}
+use Rattle.text_parser.specs.Faults.{opens, is_wide, StandsAt}
 use Rattle.while_lang.specs.BlockScans.{scan_block}
 
 -- whether a terminal opens a construct of a block: a brace, the `if` of an `else if`, or what opens a construct of a

@@ -1,9 +1,9 @@
 -- The syntax check of a block: finds its end, or its first fault.
 use Rattle.std.specs.Prelude.{◌≡◌, ◌↔◌, ℕ, List, Result, Ok}
-use Rattle.text_scopes.specs.declared.fault.TextFault.{TextFault}
-use Rattle.text_scopes.specs.Lexemes.{Lexeme}
-use Rattle.text_scopes.specs.Parsed.{◌>>=◌}
-use Rattle.text_scopes.specs.Scans.{scanning}
+use Rattle.text_parser.specs.declared.fault.TextFault.{TextFault}
+use Rattle.text_parser.specs.Lexemes.{Lexeme}
+use Rattle.text_parser.specs.Parsed.{◌>>=◌}
+use Rattle.text_parser.specs.Scans.{scanning}
 use Rattle.while_lang.specs.BlockActions.{BlockActions}
 use Rattle.while_lang.specs.Blocks.{block, parse_block}
 use Rattle.while_lang.specs.BlockPhrases.{block as block_symbol, IsBlockPhrase}

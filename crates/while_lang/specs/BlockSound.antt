@@ -1,11 +1,11 @@
 -- The blocks that are allowed in a scope, and their nesting with the named programs expanded.
 use Rattle.std.specs.Prelude.{◌≤◌, ◌+◌, ℕ, max, true, false, List, slice_get, Option, Some, None}
 use Rattle.kat_model.specs.declared.limits.TheConstants.{MAX_OPEN}
-use Rattle.text_scopes.specs.Actions.{context}
-use Rattle.text_scopes.specs.declared.meaning.Meaning.{Meaning}
-use Rattle.text_scopes.specs.declared.meaning.Meaning.TheVariants.{Action, Prog}
-use Rattle.text_scopes.specs.ScopeParts.{ScopeParts, meaning}
-use Rattle.text_scopes.specs.Sound.{IsSound, IsExprName, nesting}
+use Rattle.text_parser.specs.Actions.{context}
+use Rattle.text_parser.specs.declared.meaning.Meaning.{Meaning}
+use Rattle.text_parser.specs.declared.meaning.Meaning.TheVariants.{Action, Prog}
+use Rattle.text_parser.specs.ScopeParts.{ScopeParts, meaning}
+use Rattle.text_parser.specs.Sound.{IsSound, IsExprName, nesting}
 use Rattle.while_lang.specs.NamedProgs.{ProgParts}
 use Rattle.while_lang.specs.BlockPhrases.{BlockSymbol, BlockPhrase, braced, no_stmts, more_stmts, skip_stmt, abort_stmt, assert_stmt, name_stmt, assign_stmt, if_stmt, while_stmt, no_else, else_block, else_if}
 

@@ -1,16 +1,16 @@
 -- The block parser.
 use Rattle.std.specs.Prelude.{ℕ, zero, suc, ◌+◌, ◌*◌, List, [], ◌∷◌, length, drop, true, false, if◌then◌else◌, nat_lt, Result, Ok, Err}
 use Rattle.kat_model.specs.declared.limits.TheConstants.{MAX_OPEN}
-use Rattle.text_scopes.specs.declared.fault.TextFault.{TextFault}
-use Rattle.text_scopes.specs.declared.fault.TextFault.TheVariants.{NoMemory, Syntax, TooDeep}
-use Rattle.text_scopes.specs.declared.terminal.Terminal.TheVariants.{Name, Keyword, Separator}
-use Rattle.text_scopes.specs.declared.terminal.Keyword.TheVariants as word
-use Rattle.text_scopes.specs.declared.terminal.Separator.TheVariants.{Semicolon, CurlyOpen, CurlyClose, Becomes}
-use Rattle.text_scopes.specs.Lexemes.{Lexeme, lexeme, heads, is_terminal}
-use Rattle.text_scopes.specs.Parsed.{Parsed, ◌>>=◌, at_end, place_of, before, change, wants, then_wants}
-use Rattle.text_scopes.specs.Actions.{context}
-use Rattle.text_scopes.specs.Exprs.{parse_expr, sums}
-use Rattle.text_scopes.specs.Conds.{parse_cond, disjunction}
+use Rattle.text_parser.specs.declared.fault.TextFault.{TextFault}
+use Rattle.text_parser.specs.declared.fault.TextFault.TheVariants.{NoMemory, Syntax, TooDeep}
+use Rattle.text_parser.specs.declared.terminal.Terminal.TheVariants.{Name, Keyword, Separator}
+use Rattle.text_parser.specs.declared.terminal.Keyword.TheVariants as word
+use Rattle.text_parser.specs.declared.terminal.Separator.TheVariants.{Semicolon, CurlyOpen, CurlyClose, Becomes}
+use Rattle.text_parser.specs.Lexemes.{Lexeme, lexeme, heads, is_terminal}
+use Rattle.text_parser.specs.Parsed.{Parsed, ◌>>=◌, at_end, place_of, before, change, wants, then_wants}
+use Rattle.text_parser.specs.Actions.{context}
+use Rattle.text_parser.specs.Exprs.{parse_expr, sums}
+use Rattle.text_parser.specs.Conds.{parse_cond, disjunction}
 use Rattle.while_lang.specs.BlockActions.{BlockActions}
 
 -- the number of open constructs after one more opens at place `at`

@@ -1,6 +1,6 @@
 -- The sizes of programs that the limits bound.
 use Rattle.std.specs.Prelude.{ℕ, ◌+◌, max}
-use Rattle.text_scopes.specs.Sizes.{expr_size, cond_size, largest_expr}
+use Rattle.text_parser.specs.Sizes.{expr_size, cond_size, largest_expr}
 use Rattle.while_lang.specs.Programs.{ProgTree, empty, skip_then, abort_then, assert_then, act_then, assign_then, branch_then, loop_then}
 
 -- the number of nodes: one for each statement, plus those of its condition, its expression and its blocks

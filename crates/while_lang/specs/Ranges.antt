@@ -3,9 +3,9 @@ use Rattle.std.specs.Prelude.{◌≡◌, ◌≤◌, ◌<◌, ℕ, List, [], ◌�
 use Rattle.kat_model.specs.declared.limits.TheConstants.{MAX_TESTS, MAX_ACTIONS, MAX_VARS}
 use Rattle.kat_model.specs.Expressions.{ExprTree, CondTree}
 use Rattle.kat_model.specs.Problems.{IsInRange, AreInRange}
-use Rattle.text_scopes.specs.declared.meaning.Meaning.{Meaning}
-use Rattle.text_scopes.specs.declared.meaning.Meaning.TheVariants.{Test, Action, Var, Prog}
-use Rattle.text_scopes.specs.ScopeParts.{ScopeParts, Means}
+use Rattle.text_parser.specs.declared.meaning.Meaning.{Meaning}
+use Rattle.text_parser.specs.declared.meaning.Meaning.TheVariants.{Test, Action, Var, Prog}
+use Rattle.text_parser.specs.ScopeParts.{ScopeParts, Means}
 use Rattle.while_lang.specs.Programs.{ProgTree}
 use Rattle.while_lang.specs.Leaves.{Anything, EveryExprLeaf, EveryCondLeaf, EveryLeaf}
 use Rattle.while_lang.specs.NamedProgs.{ProgParts}

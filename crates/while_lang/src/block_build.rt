@@ -1,7 +1,7 @@
 //! Builds the tree of a block.
 ghost use Rattle.std.specs.Prelude.{◌≡◌, [], ◌∷◌, ◌++◌, map, length, drop, slice_get, Ok, IfOk, OnOk};
-ghost use Rattle.text_scopes.specs.Lexemes.{lexemes};
-ghost use Rattle.text_scopes.specs.Parsed.{Makes, Reads, Goes};
+ghost use Rattle.text_parser.specs.Lexemes.{lexemes};
+ghost use Rattle.text_parser.specs.Parsed.{Makes, Reads, Goes};
 ghost use Rattle.while_lang.specs.Programs.{stmts_of};
 ghost use Rattle.while_lang.specs.ProgramViews.{stmt_tree};
 ghost use Rattle.while_lang.specs.NamedProgs.{parts_of_progs};
@@ -15,7 +15,7 @@ use crate::numbered::prog_at;
 use crate::prog::{Prog, Stmt, push_stmt};
 use kat_model::{Cond, Expr, NoMemory};
 use std::alloc::Global;
-use text_scopes::{Meaning, Scope, TextFault, Token};
+use text_parser::{Meaning, Scope, TextFault, Token};
 
 // The actions that build the tree of a block. The block was measured before.
 #[derive(Clone, Copy)]
@@ -122,7 +122,7 @@ impl BlockReading for BlockBuild<'_> {
         from: usize,
         depth: usize,
     ) -> Result<(Expr, usize), TextFault> {
-        text_scopes::build_expr(self.alloc, toks, from, depth, self.scope)
+        text_parser::build_expr(self.alloc, toks, from, depth, self.scope)
     }
 
     fn read_cond(
@@ -131,7 +131,7 @@ impl BlockReading for BlockBuild<'_> {
         from: usize,
         depth: usize,
     ) -> Result<(Cond, usize), TextFault> {
-        text_scopes::build_cond(self.alloc, toks, from, depth, self.scope, true)
+        text_parser::build_cond(self.alloc, toks, from, depth, self.scope, true)
     }
 
     fn none(&self) -> Vec<Stmt> {

@@ -1,8 +1,8 @@
 //! The faults of the names of a block, and the size and nesting of the block.
 ghost use Rattle.std.specs.Prelude.{◌≡◌, length, drop, slice_get};
-ghost use Rattle.text_scopes.specs.Lexemes.{lexemes};
-ghost use Rattle.text_scopes.specs.Parsed.{Reads, Goes};
-ghost use Rattle.text_scopes.specs.Measuring.{compared_nodes};
+ghost use Rattle.text_parser.specs.Lexemes.{lexemes};
+ghost use Rattle.text_parser.specs.Parsed.{Reads, Goes};
+ghost use Rattle.text_parser.specs.Measuring.{compared_nodes};
 ghost use Rattle.while_lang.specs.NamedProgs.{parts_of_progs};
 ghost use Rattle.while_lang.specs.BlockMeasuring.{extent, with_node, beside, deeper, spliced_extent, named_extent, check_target, block_extents};
 ghost use Rattle.while_lang.specs.BlockReadings.{measured_block};
@@ -12,7 +12,7 @@ use crate::blocks;
 use crate::named::NamedProg;
 use crate::numbered::prog_at;
 use kat_model::{MAX_EXPR_NODES, MAX_OPEN, MAX_TERM_NODES};
-use text_scopes::{Extent, Meaning, Scope, TextFault, Token};
+use text_parser::{Extent, Meaning, Scope, TextFault, Token};
 
 // The actions that measure a block and reject what is not allowed in it.
 #[derive(Clone, Copy)]
@@ -119,7 +119,7 @@ impl BlockReading for BlockMeasure<'_> {
 
     type Stmts = Extent;
 
-    ghost use Rattle.text_scopes.specs.declared.extent.Extent.{Extent};
+    ghost use Rattle.text_parser.specs.declared.extent.Extent.{Extent};
 
     ghost E = { Extent };
 
@@ -149,7 +149,7 @@ impl BlockReading for BlockMeasure<'_> {
         from: usize,
         depth: usize,
     ) -> Result<(Extent, usize), TextFault> {
-        text_scopes::measure_expr(toks, from, depth, self.scope)
+        text_parser::measure_expr(toks, from, depth, self.scope)
     }
 
     fn read_cond(
@@ -158,7 +158,7 @@ impl BlockReading for BlockMeasure<'_> {
         from: usize,
         depth: usize,
     ) -> Result<(Extent, usize), TextFault> {
-        text_scopes::measure_cond(toks, from, depth, self.scope, true)
+        text_parser::measure_cond(toks, from, depth, self.scope, true)
     }
 
     fn none(&self) -> Extent {

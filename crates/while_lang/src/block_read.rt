@@ -1,7 +1,7 @@
 //! Reads blocks in a scope.
 ghost use Rattle.std.specs.Prelude.{◌≡◌, ◌<◌, ◌≤◌, length, drop, IfOk};
-ghost use Rattle.text_scopes.specs.Lexemes.{lexemes};
-ghost use Rattle.text_scopes.specs.Readings.{Answers};
+ghost use Rattle.text_parser.specs.Lexemes.{lexemes};
+ghost use Rattle.text_parser.specs.Readings.{Answers};
 ghost use Rattle.while_lang.specs.NamedProgs.{parts_of_progs};
 ghost use Rattle.while_lang.specs.BlockReadings.{block_at};
 
@@ -11,7 +11,7 @@ use crate::named::NamedProg;
 use crate::prog::Prog;
 use kat_model::MAX_TERM_NODES;
 use std::alloc::Global;
-use text_scopes::{Scope, TextFault, Token, place_at};
+use text_parser::{Scope, TextFault, Token, place_at};
 
 /// Reads the block that begins at `from`, with no open construct around it. Returns its program, with the programs that
 /// it names spliced in, the index after it, and its nesting. Otherwise fails with the first fault in its syntax or its

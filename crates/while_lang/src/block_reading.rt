@@ -1,11 +1,11 @@
 //! The semantic actions of the block parser.
 ghost use Rattle.std.specs.Prelude.{◌≡◌, length, drop, Ok};
-ghost use Rattle.text_scopes.specs.Lexemes.{lexemes};
-ghost use Rattle.text_scopes.specs.Parsed.{Makes, Reads, Goes};
+ghost use Rattle.text_parser.specs.Lexemes.{lexemes};
+ghost use Rattle.text_parser.specs.Parsed.{Makes, Reads, Goes};
 ghost use Rattle.while_lang.specs.BlockActions.{BlockActions};
 ghost use Rattle.while_lang.specs.Blocks.{cond_by, expr_by};
 
-use text_scopes::{TextFault, Token};
+use text_parser::{TextFault, Token};
 
 // The semantic actions of the block parser. It calls the methods for the parts of a block in text order; each method on
 // statements appends to the statements of the block so far. A part that a method rejects ends the parse with that

@@ -1,13 +1,13 @@
 //! The syntax check of blocks, which takes no memory.
 ghost use Rattle.std.specs.Prelude.{◌≡◌, ◌<◌, ◌≤◌, length, drop, IfOk, IfErr};
-ghost use Rattle.text_scopes.specs.Lexemes.{lexemes};
-ghost use Rattle.text_scopes.specs.Parsed.{Wants};
+ghost use Rattle.text_parser.specs.Lexemes.{lexemes};
+ghost use Rattle.text_parser.specs.Parsed.{Wants};
 ghost use Rattle.while_lang.specs.BlockScans.{scanning_blocks, scan_block};
 ghost use Rattle.while_lang.specs.BlockFaults.{IsBlockFault};
 
 use crate::block_reading::BlockReading;
 use crate::blocks::read_block;
-use text_scopes::{Context, Scan, TextFault, Token};
+use text_parser::{Context, Scan, TextFault, Token};
 
 // The actions that make nothing and accept every part.
 struct BlockScan;
@@ -47,7 +47,7 @@ impl BlockReading for BlockScan {
         from: usize,
         depth: usize,
     ) -> Result<((), usize), TextFault> {
-        text_scopes::parse_expr(&Scan, toks, from, Context::outermost(depth, true))
+        text_parser::parse_expr(&Scan, toks, from, Context::outermost(depth, true))
     }
 
     fn read_cond(
@@ -56,7 +56,7 @@ impl BlockReading for BlockScan {
         from: usize,
         depth: usize,
     ) -> Result<((), usize), TextFault> {
-        text_scopes::parse_cond(&Scan, toks, from, Context::outermost(depth, true))
+        text_parser::parse_cond(&Scan, toks, from, Context::outermost(depth, true))
     }
 
     fn none(&self) {}

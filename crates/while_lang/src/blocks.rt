@@ -1,14 +1,14 @@
 //! The block parser, for any semantic actions.
 ghost use Rattle.std.specs.Prelude.{◌≡◌, ℕ, ◌+◌, ◌<◌, ◌≤◌, length, drop, Ok, IfOk};
-ghost use Rattle.text_scopes.specs.Lexemes.{lexemes, text_at};
-ghost use Rattle.text_scopes.specs.Parsed.{Reads, Goes, change};
+ghost use Rattle.text_parser.specs.Lexemes.{lexemes, text_at};
+ghost use Rattle.text_parser.specs.Parsed.{Reads, Goes, change};
 ghost use Rattle.while_lang.specs.Blocks.{enter, block, stmts_after, stmt_after, branch_after, parse_block};
 ghost use Rattle.while_lang.specs.Blocks.{cond_by, then_semicolon, assign_by, named_by, loop_by, else_by};
 ghost use Rattle.while_lang.specs.Working.Appending.{Appends, EndsAfter};
 
 use crate::block_reading::BlockReading;
 use kat_model::MAX_OPEN;
-use text_scopes::{Keyword, Separator, Terminal, TextFault, Token, expect, is_at, place_at, syntax_fault_at, terminal_at, text_at};
+use text_parser::{Keyword, Separator, Terminal, TextFault, Token, expect, is_at, place_at, syntax_fault_at, terminal_at, text_at};
 
 /// Returns the number of open constructs after one more opens at place `at`. Fails with `TooDeep` at that place if
 /// `MAX_OPEN` or more are open already.

@@ -9,7 +9,7 @@ use crate::named::NamedProg;
 use crate::prog::Prog;
 use kat_model::{Cond, Kat, Width};
 use std::marker::Model;
-use text_scopes::{Meaning, Scope};
+use text_parser::{Meaning, Scope};
 
 /// A side of a goal. It is a program exactly when the text has only the name of a program in its place.
 pub enum Side {
@@ -94,7 +94,7 @@ impl Model for File {
     ghost use Rattle.kat_model.specs.Codes.{coded_term};
     ghost use Rattle.kat_model.specs.ConditionCodes.{coded_cond};
     ghost use Rattle.kat_model.specs.Trees.{kat_tree};
-    ghost use Rattle.text_scopes.specs.Definitions.{coded_meanings};
+    ghost use Rattle.text_parser.specs.Definitions.{coded_meanings};
     ghost use Rattle.while_lang.specs.ProgramCodes.{coded_prog};
     ghost use Rattle.while_lang.specs.NamedProgs.{parts_of_progs};
     ghost use Rattle.while_lang.specs.Files.{FileParts};

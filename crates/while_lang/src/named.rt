@@ -1,6 +1,6 @@
 //! Named programs, which later programs may use.
 ghost use Rattle.std.specs.Prelude.{◌≡◌};
-ghost use Rattle.text_scopes.specs.Sizes.{capped};
+ghost use Rattle.text_parser.specs.Sizes.{capped};
 ghost use Rattle.while_lang.specs.ProgramSizes.{prog_size};
 
 use crate::prog::Prog;

@@ -2,7 +2,7 @@
 ghost use Rattle.std.specs.Prelude.{◌≡◌};
 ghost use Rattle.kat_model.specs.Expressions.{expr_tree, cond_tree};
 ghost use Rattle.kat_model.specs.Problems.{counted};
-ghost use Rattle.text_scopes.specs.Sizes.{expr_size, cond_size};
+ghost use Rattle.text_parser.specs.Sizes.{expr_size, cond_size};
 ghost use Rattle.while_lang.specs.Programs.{with_stmt, empty};
 ghost use Rattle.while_lang.specs.ProgramViews.{stmt_tree};
 ghost use Rattle.while_lang.specs.ProgramSizes.{prog_size};

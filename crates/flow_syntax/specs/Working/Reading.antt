@@ -1,7 +1,7 @@
 -- What the functions of the reader do.
 use Rattle.std.specs.Prelude.{◌≡◌, ◌<◌, ◌≤◌, ℕ, ◌+◌, List, [], ◌∷◌, length, drop, Option, Some, None, Result, Ok, Err}
-use Rattle.text_scopes.specs.declared.fault.TextFault.{TextFault}
-use Rattle.text_scopes.specs.declared.fault.TextFault.TheVariants.{NoMemory}
+use Rattle.text_parser.specs.declared.fault.TextFault.{TextFault}
+use Rattle.text_parser.specs.declared.fault.TextFault.TheVariants.{NoMemory}
 use Rattle.flow_syntax.specs.declared.rule.Mark.{Mark}
 use Rattle.flow_syntax.specs.declared.rule.Part.{Part}
 use Rattle.flow_syntax.specs.declared.rule.Step.{Step}

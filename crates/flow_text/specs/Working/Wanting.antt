@@ -1,8 +1,8 @@
 -- What is wanted next while names are resolved, as the program holds it.
 use Rattle.std.specs.Prelude.{◌≡◌, List, map, reverse, Result, Ok, Err}
-use Rattle.text_scopes.specs.declared.fault.TextFault.{TextFault}
-use Rattle.text_scopes.specs.declared.fault.TextFault.TheVariants.{NoMemory}
-use Rattle.text_scopes.specs.TokenParts.{parts_of_token}
+use Rattle.text_parser.specs.declared.fault.TextFault.{TextFault}
+use Rattle.text_parser.specs.declared.fault.TextFault.TheVariants.{NoMemory}
+use Rattle.text_parser.specs.TokenParts.{parts_of_token}
 use Rattle.flow_model.specs.declared.graph.ExprNode.{ExprNode}
 use Rattle.flow_text.specs.declared.resolve.Wanted.{Wanted as IsWanted}
 use Rattle.flow_text.specs.declared.resolve.Wanted.TheVariants.{Operand, SecondOperand}

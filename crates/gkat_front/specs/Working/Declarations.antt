@@ -1,6 +1,6 @@
 -- The declaration of a name, by its kind.
 use Rattle.std.specs.Prelude.{ℕ, List, Result}
-use Rattle.text_scopes.specs.declared.fault.TextFault.{TextFault}
+use Rattle.text_parser.specs.declared.fault.TextFault.{TextFault}
 use Rattle.gkat_front.specs.declared.item_reading.GkatDeclared.{GkatDeclared}
 use Rattle.gkat_front.specs.declared.item_reading.GkatDeclared.TheVariants.{Test, Action}
 use Rattle.gkat_front.specs.FileActions.{FileActions}

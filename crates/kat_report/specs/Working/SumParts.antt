@@ -1,8 +1,8 @@
 -- The parts of the text of a form that are printed separately.
 use Rattle.std.specs.Prelude.{ℕ, List, [], ◌++◌, codes, Bool, ◌&&◌, not, nat_eq, if◌then◌else◌}
 use Rattle.std.specs.Fmt.{decimal}
-use Rattle.text_scopes.specs.declared.meaning.Meaning.{Meaning}
-use Rattle.text_scopes.specs.declared.meaning.Meaning.TheVariants.{Var}
+use Rattle.text_parser.specs.declared.meaning.Meaning.{Meaning}
+use Rattle.text_parser.specs.declared.meaning.Meaning.TheVariants.{Var}
 use Rattle.linear_forms.specs.Forms.{MonoTree, var, product, TermTree}
 use Rattle.kat_report.specs.Shows.{plus_text, times_text, form_text}
 

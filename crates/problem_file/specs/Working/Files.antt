@@ -1,8 +1,8 @@
 -- The answer to bytes, for each limit of goals.
 use Rattle.std.specs.Prelude.{◌≡◌, ◌⊎◌, ℕ, List, map, drop, Vec, Result, MatchResult}
 use Rattle.std.specs.declared.alloc.Global.{Global}
-use Rattle.text_scopes.specs.declared.fault.TextFault.{TextFault}
-use Rattle.text_scopes.specs.declared.fault.TextFault.TheVariants.{NoMemory}
+use Rattle.text_parser.specs.declared.fault.TextFault.{TextFault}
+use Rattle.text_parser.specs.declared.fault.TextFault.TheVariants.{NoMemory}
 use Rattle.while_lang.specs.declared.file.Goal.{Goal}
 use Rattle.problem_file.specs.declared.goal_limit.GoalLimit.{GoalLimit}
 use Rattle.while_lang.specs.Files.{FileParts}

@@ -1,8 +1,8 @@
 -- The check of the first token.
 use Rattle.std.specs.Prelude.{List, [], ◌∷◌, Result, Ok}
 use Rattle.kat_model.specs.declared.expression.Width.{Width}
-use Rattle.text_scopes.specs.declared.fault.TextFault.{TextFault}
-use Rattle.text_scopes.specs.Lexemes.{Lexeme}
+use Rattle.text_parser.specs.declared.fault.TextFault.{TextFault}
+use Rattle.text_parser.specs.Lexemes.{Lexeme}
 use Rattle.problem_file.specs.Numbers.{check_number}
 
 -- the fault of the first token, if it is a number that is too wide

@@ -1,7 +1,7 @@
 -- The numbers that names stand for.
 use Rattle.std.specs.Prelude.{◌<◌, ℕ, List}
-use Rattle.text_scopes.specs.declared.meaning.Meaning.TheVariants.{Test, Action, Var, Prog}
-use Rattle.text_scopes.specs.ScopeParts.{ScopeParts, Means}
+use Rattle.text_parser.specs.declared.meaning.Meaning.TheVariants.{Test, Action, Var, Prog}
+use Rattle.text_parser.specs.ScopeParts.{ScopeParts, Means}
 
 -- the numbers of named tests, actions, variables and programs are below these bounds
 pub record AreNumbered (w : ScopeParts) (tests actions vars progs : ℕ) : Type 0 where

@@ -1,8 +1,8 @@
 -- The texts of statements as the program writes them.
 use Rattle.std.specs.Prelude.{ℕ, List, [], ◌++◌, codes}
 use Rattle.kat_model.specs.Expressions.{ExprTree, CondTree}
-use Rattle.text_scopes.specs.declared.meaning.Meaning.{Meaning}
-use Rattle.text_scopes.specs.declared.meaning.Meaning.TheVariants.{Action, Var}
+use Rattle.text_parser.specs.declared.meaning.Meaning.{Meaning}
+use Rattle.text_parser.specs.declared.meaning.Meaning.TheVariants.{Action, Var}
 use Rattle.text_print.specs.Printing.{expr_text, cond_text}
 use Rattle.while_lang.specs.Programs.{ProgTree, empty, skip_then, abort_then, assert_then, act_then, assign_then, branch_then, loop_then}
 use Rattle.while_lang.specs.Programs.{StmtTree, skip, abort, assert, act, assign, branch, loop}

@@ -1,7 +1,7 @@
 -- The scopes of texts of questions.
 use Rattle.std.specs.Prelude.{◌≡◌, ℕ, List}
-use Rattle.text_scopes.specs.declared.meaning.Meaning.{Meaning}
-use Rattle.text_scopes.specs.ScopeParts.{ScopeParts, Means}
+use Rattle.text_parser.specs.declared.meaning.Meaning.{Meaning}
+use Rattle.text_parser.specs.ScopeParts.{ScopeParts, Means}
 use Rattle.problem_file.specs.Questions.{plain_name}
 use Rattle.problem_file.specs.NamedTexts.{IsOneOf}
 

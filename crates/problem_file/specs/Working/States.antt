@@ -1,7 +1,7 @@
 -- What the items so far have made, as a state.
 use Rattle.std.specs.Prelude.{map, Result}
 use Rattle.kat_model.specs.Trees.{kat_tree}
-use Rattle.text_scopes.specs.declared.fault.TextFault.{TextFault}
+use Rattle.text_parser.specs.declared.fault.TextFault.{TextFault}
 use Rattle.while_lang.specs.NamedProgs.{parts_of_progs}
 use Rattle.problem_file.specs.Files.{State}
 use Rattle.while_lang.specs.Trees.{goal_tree, names_of_progs}

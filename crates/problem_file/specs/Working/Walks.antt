@@ -4,11 +4,11 @@ use Rattle.kat_model.specs.declared.tree.Kat.{Kat}
 use Rattle.kat_model.specs.declared.expression.Cond.{Cond}
 use Rattle.kat_model.specs.Trees.{Term, kat_tree}
 use Rattle.kat_model.specs.Expressions.{CondTree, cond_tree}
-use Rattle.text_scopes.specs.declared.fault.TextFault.{TextFault}
-use Rattle.text_scopes.specs.declared.fault.TextFault.TheVariants.{NoMemory}
-use Rattle.text_scopes.specs.declared.token.Token.{Token}
-use Rattle.text_scopes.specs.Lexemes.{Lexeme, lexemes}
-use Rattle.text_scopes.specs.Parsed.{Parsed, Makes, Reads}
+use Rattle.text_parser.specs.declared.fault.TextFault.{TextFault}
+use Rattle.text_parser.specs.declared.fault.TextFault.TheVariants.{NoMemory}
+use Rattle.text_parser.specs.declared.token.Token.{Token}
+use Rattle.text_parser.specs.Lexemes.{Lexeme, lexemes}
+use Rattle.text_parser.specs.Parsed.{Parsed, Makes, Reads}
 use Rattle.problem_file.specs.declared.phrase.Measured.{Measured}
 use Rattle.problem_file.specs.declared.phrase.MeasuredSides.{MeasuredSides}
 use Rattle.problem_file.specs.declared.phrase.MeasuredTriple.{MeasuredTriple}

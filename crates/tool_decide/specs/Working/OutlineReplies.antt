@@ -22,7 +22,7 @@ use Rattle.tool_inputs.specs.Steps.{AbstractsFile}
 use Rattle.tool_decide.specs.Decide.{IsDifferent, IsDecided}
 use Rattle.tool_decide.specs.Triples.{HasTask, HasNoTask, TakesTask}
 use Rattle.tool_decide.specs.Outline.{IsNoted, IsOutlined, OutlinesText, OutlineHeadline, OutlineReply}
-use Rattle.tool_decide.proofs.Decided.{small, few_tests}
+use Rattle.tool_decide.specs.Working.NarrowCounts.{small, few_tests}
 use Rattle.tool_inputs.proofs.Steps.{OneStatus, reads_said, small_status, text_long}
 use Rattle.tool_inputs.proofs.FileReplies.{RefusesLong, HasOneReply}
 use Rattle.tool_inputs.proofs.StoreSentences.{asked_agrees}

@@ -1,7 +1,7 @@
 -- The parts of the signed text of a form that are printed separately.
 use Rattle.std.specs.Prelude.{ℕ, List, [], ◌++◌, codes, Bool}
-use Rattle.text_scopes.specs.declared.meaning.Meaning.{Meaning}
-use Rattle.text_scopes.specs.declared.meaning.Meaning.TheVariants.{Var}
+use Rattle.text_parser.specs.declared.meaning.Meaning.{Meaning}
+use Rattle.text_parser.specs.declared.meaning.Meaning.TheVariants.{Var}
 use Rattle.linear_forms.specs.Forms.{MonoTree, var, product, TermTree, constant}
 use Rattle.kat_report.specs.Shows.{times_text}
 use Rattle.tool_explain.specs.Signed.{is_negative, magnitude, sign_text, signed_text, signed_sum, half_part, half_sum}

@@ -2,7 +2,7 @@
 use Rattle.std.proofs.Common.{◌≡◌, ◌<◌, ℕ, List, length, Result, Ok, Err, inl, inr, refl, sym, subst, ◌∙◌}
 use Rattle.kat_model.specs.declared.limits.TheConstants.{MAX_TEXT_BYTES}
 use Rattle.kat_model.specs.Problems.{ProblemParts}
-use Rattle.text_scopes.specs.declared.fault.TextFault.TheVariants.{TooLong}
+use Rattle.text_parser.specs.declared.fault.TextFault.TheVariants.{TooLong}
 use Rattle.kat_report.specs.InputLines.{too_long_line}
 use Rattle.problem_file.specs.FirstFaults.{too_long, no_text}
 use Rattle.problem_file.proofs.OneAnswer.{have_one_answer}

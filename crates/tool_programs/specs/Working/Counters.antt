@@ -12,9 +12,9 @@ use Rattle.std.specs.FinMap.{find, entries, get-entries, nat_cmp-IsAntisymmetric
 use Rattle.std.specs.List.{list_all, sum_by}
 use Rattle.std.specs.Option.{is_some}
 use Rattle.std.specs.Ordering.{nat_cmp, eq_by_cmp}
-use Rattle.text_scopes.proofs.PrintedWords.{continues_word, word_is_name}
-use Rattle.text_scopes.specs.declared.meaning.Meaning.{Meaning}
-use Rattle.text_scopes.specs.ScopeParts.{ScopeParts, meaning, Means, IsDeclared, IsUndeclared, IsIdentifier}
+use Rattle.text_parser.proofs.PrintedWords.{continues_word, word_is_name}
+use Rattle.text_parser.specs.declared.meaning.Meaning.{Meaning}
+use Rattle.text_parser.specs.ScopeParts.{ScopeParts, meaning, Means, IsDeclared, IsUndeclared, IsIdentifier}
 use Rattle.tool_programs.specs.OneLoop.{pc_name, IsCounterName}
 
 -- ---- it is an identifier

@@ -13,11 +13,11 @@ use Rattle.kat_model.specs.declared.expression.Width.{Width}
 use Rattle.kat_model.specs.declared.expression.Width.TheVariants.{W8, W16, W32, W64}
 use Rattle.kat_model.specs.Expressions.{ExprTree, number, variable, plus, minus, times, CondTree, always, never, named, compared, negation, both, either}
 use Rattle.kat_model.specs.Stores.{modulus}
-use Rattle.text_scopes.specs.Pieces.{Piece, symbol, gap, spelled}
-use Rattle.text_scopes.specs.declared.meaning.Meaning.{Meaning}
-use Rattle.text_scopes.specs.declared.meaning.Meaning.TheVariants.{Var}
-use Rattle.text_scopes.specs.ScopeParts.{ScopeParts, IsDeclared}
-use Rattle.text_scopes.specs.Sizes.{expr_size, cond_size}
+use Rattle.text_parser.specs.Pieces.{Piece, symbol, gap, spelled}
+use Rattle.text_parser.specs.declared.meaning.Meaning.{Meaning}
+use Rattle.text_parser.specs.declared.meaning.Meaning.TheVariants.{Var}
+use Rattle.text_parser.specs.ScopeParts.{ScopeParts, IsDeclared}
+use Rattle.text_parser.specs.Sizes.{expr_size, cond_size}
 use Rattle.text_print.specs.Printing.{relation_text, spaced, expr_pieces, cond_pieces}
 use Rattle.while_lang.specs.Programs.{ProgTree, empty, skip_then, abort_then, assert_then, act_then, assign_then, branch_then, loop_then}
 use Rattle.while_lang.specs.ProgramSizes.{prog_size}

@@ -3,10 +3,10 @@ use Rattle.std.proofs.Common.{◌≡◌, ◌<◌, ◌+◌, ◌⊎◌, ℕ, List,
 use Rattle.std.proofs.lemmas.Bool.{cases_lt}
 use Rattle.std.proofs.lemmas.Option.{none-some, same_Some}
 use Rattle.std.specs.Option.{is_some, option_map}
-use Rattle.text_scopes.specs.declared.meaning.Meaning.{Meaning}
-use Rattle.text_scopes.specs.declared.meaning.Meaning.TheVariants.{Test, Action, Var, Term, Prog}
-use Rattle.text_scopes.specs.ScopeParts.{ScopeParts, meaning, Means, IsDeclared, IsUnnamed, IsIdentifier, IsWellFormed, IsNameOf, declared}
-use Rattle.text_scopes.proofs.Inverse.{insert_extends}
+use Rattle.text_parser.specs.declared.meaning.Meaning.{Meaning}
+use Rattle.text_parser.specs.declared.meaning.Meaning.TheVariants.{Test, Action, Var, Term, Prog}
+use Rattle.text_parser.specs.ScopeParts.{ScopeParts, meaning, Means, IsDeclared, IsUnnamed, IsIdentifier, IsWellFormed, IsNameOf, declared}
+use Rattle.text_parser.proofs.Inverse.{insert_extends}
 use Rattle.text_print.proofs.NameOf.{name_is}
 use Rattle.while_lang.specs.Programs.{ProgTree}
 use Rattle.while_lang.specs.NamedProgs.{ProgParts}

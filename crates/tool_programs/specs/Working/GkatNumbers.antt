@@ -8,17 +8,17 @@ use Rattle.kat_model.specs.Trees.{TestTree, top, bottom, prim}
 use Rattle.kat_model.specs.Expressions.{test_without_comparisons}
 use Rattle.kat_model.specs.Problems.{IsTestInRange, IsInRange}
 use Rattle.kat_model.proofs.BalancedTrees.{balanced_holds}
-use Rattle.text_scopes.specs.declared.fault.TextFault.{TextFault}
-use Rattle.text_scopes.specs.declared.fault.TextFault.TheVariants.{DoubleName, TooMany, TooLarge}
-use Rattle.text_scopes.specs.Actions.{context}
-use Rattle.text_scopes.specs.Phrases.{cond, Phrase}
-use Rattle.text_scopes.specs.Folds.{fold}
-use Rattle.text_scopes.proofs.ParserSoundness.{bind_ok}
-use Rattle.text_scopes.specs.declared.meaning.Meaning.{Meaning}
-use Rattle.text_scopes.specs.declared.meaning.Meaning.TheVariants.{Test, Action, Var, Term, Prog}
-use Rattle.text_scopes.specs.ScopeParts.{Definition, ScopeParts, meaning, IsUndeclared, declared}
-use Rattle.text_scopes.specs.Measuring.{extents}
-use Rattle.text_scopes.specs.Building.{trees}
+use Rattle.text_parser.specs.declared.fault.TextFault.{TextFault}
+use Rattle.text_parser.specs.declared.fault.TextFault.TheVariants.{DoubleName, TooMany, TooLarge}
+use Rattle.text_parser.specs.Actions.{context}
+use Rattle.text_parser.specs.Phrases.{cond, Phrase}
+use Rattle.text_parser.specs.Folds.{fold}
+use Rattle.text_parser.proofs.ParserSoundness.{bind_ok}
+use Rattle.text_parser.specs.declared.meaning.Meaning.{Meaning}
+use Rattle.text_parser.specs.declared.meaning.Meaning.TheVariants.{Test, Action, Var, Term, Prog}
+use Rattle.text_parser.specs.ScopeParts.{Definition, ScopeParts, meaning, IsUndeclared, declared}
+use Rattle.text_parser.specs.Measuring.{extents}
+use Rattle.text_parser.specs.Building.{trees}
 use Rattle.while_lang.specs.Blocks.{enter}
 use Rattle.while_lang.specs.Ranges.{AreNamed}
 use Rattle.while_lang.proofs.RangesGrow.{IsInRange-more}

@@ -5,9 +5,9 @@ use Rattle.std.proofs.lemmas.Option.{same_Some}
 use Rattle.std.specs.Prelude.{codes}
 use Rattle.kat_model.specs.declared.limits.TheConstants.{MAX_TERM_NODES, MAX_TEXT_BYTES}
 use Rattle.kat_model.specs.Problems.{IsProblem, problem_size}
-use Rattle.text_scopes.specs.declared.meaning.Meaning.{Meaning}
-use Rattle.text_scopes.specs.declared.meaning.Meaning.TheVariants.{Test, Action, Var, Term, Prog}
-use Rattle.text_scopes.specs.ScopeParts.{meaning, Means, IsWellFormed}
+use Rattle.text_parser.specs.declared.meaning.Meaning.{Meaning}
+use Rattle.text_parser.specs.declared.meaning.Meaning.TheVariants.{Test, Action, Var, Term, Prog}
+use Rattle.text_parser.specs.ScopeParts.{meaning, Means, IsWellFormed}
 use Rattle.text_print.specs.Printing.{name_of}
 use Rattle.text_print.proofs.NameOf.{name_stands}
 use Rattle.problem_file.specs.Questions.{goal_text}

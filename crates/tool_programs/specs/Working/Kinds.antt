@@ -1,7 +1,7 @@
 -- The kinds of names that a text of GKAT declares.
 use Rattle.std.specs.Prelude.{ℕ, List, codes}
-use Rattle.text_scopes.specs.declared.meaning.Meaning.{Meaning}
-use Rattle.text_scopes.specs.declared.meaning.Meaning.TheVariants.{Test as TestMeaning, Action as ActionMeaning}
+use Rattle.text_parser.specs.declared.meaning.Meaning.{Meaning}
+use Rattle.text_parser.specs.declared.meaning.Meaning.TheVariants.{Test as TestMeaning, Action as ActionMeaning}
 use Rattle.tool_programs.specs.declared.gkat.Kind.{Kind}
 use Rattle.tool_programs.specs.declared.gkat.Kind.TheVariants.{Test, Action}
 

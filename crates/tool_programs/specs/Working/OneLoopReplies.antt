@@ -7,8 +7,8 @@ use Rattle.kat_model.specs.declared.expression.Width.{Width}
 use Rattle.kat_model.specs.Expressions.{CondTree, always, never, named as tested, compared, negation, both, either}
 use Rattle.kat_model.specs.Problems.{counted}
 use Rattle.kat_model.specs.Stores.{modulus}
-use Rattle.text_scopes.specs.declared.meaning.Meaning.TheVariants.{Var}
-use Rattle.text_scopes.specs.ScopeParts.{ScopeParts, IsDeclared, IsUnnamed, IsWellFormed, declared}
+use Rattle.text_parser.specs.declared.meaning.Meaning.TheVariants.{Var}
+use Rattle.text_parser.specs.ScopeParts.{ScopeParts, IsDeclared, IsUnnamed, IsWellFormed, declared}
 use Rattle.text_print.specs.Printing.{name_of}
 use Rattle.while_lang.specs.ProgramSizes.{prog_size}
 use Rattle.while_lang.specs.Programs.{ProgTree, empty, skip_then, abort_then, assert_then, act_then, assign_then, branch_then, loop_then, is_concrete_cond, is_concrete, statements}

@@ -1,7 +1,7 @@
 -- A text is read as a concrete file with an abstraction, or there is a reason why it is not.
 use Rattle.std.proofs.Common.{◌≡◌, ◌<◌, ℕ, List, length, Result, Ok, Err, inl, inr, refl, sym, subst, ◌∙◌}
 use Rattle.kat_model.specs.declared.limits.TheConstants.{MAX_TEXT_BYTES}
-use Rattle.text_scopes.specs.declared.fault.TextFault.TheVariants.{TooLong}
+use Rattle.text_parser.specs.declared.fault.TextFault.TheVariants.{TooLong}
 use Rattle.kat_report.specs.InputLines.{too_long_line}
 use Rattle.problem_file.specs.FirstFaults.{too_long, no_text}
 use Rattle.while_lang.specs.Files.{FileParts}

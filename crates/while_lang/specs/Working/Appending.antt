@@ -1,11 +1,11 @@
 -- The results of functions that append what they read to a list.
 use Rattle.std.specs.Prelude.{◌≡◌, ℕ, List, drop, Result, Ok, Err}
-use Rattle.text_scopes.specs.declared.fault.TextFault.{TextFault}
-use Rattle.text_scopes.specs.declared.fault.TextFault.TheVariants.{NoMemory}
-use Rattle.text_scopes.specs.declared.terminal.Terminal.TheVariants.{Separator}
-use Rattle.text_scopes.specs.declared.terminal.Separator.TheVariants.{Semicolon}
-use Rattle.text_scopes.specs.Lexemes.{Lexeme, is_terminal}
-use Rattle.text_scopes.specs.Parsed.{Parsed, Wants, wants}
+use Rattle.text_parser.specs.declared.fault.TextFault.{TextFault}
+use Rattle.text_parser.specs.declared.fault.TextFault.TheVariants.{NoMemory}
+use Rattle.text_parser.specs.declared.terminal.Terminal.TheVariants.{Separator}
+use Rattle.text_parser.specs.declared.terminal.Separator.TheVariants.{Semicolon}
+use Rattle.text_parser.specs.Lexemes.{Lexeme, is_terminal}
+use Rattle.text_parser.specs.Parsed.{Parsed, Wants, wants}
 
 -- the index that the function returns and the list `s` that it leaves agree with `m`, or the fault does; `memory` holds
 -- on `NoMemory`

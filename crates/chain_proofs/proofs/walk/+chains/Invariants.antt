@@ -1,5 +1,5 @@
 use Rattle.std.proofs.Common.{◌≡◌, ◌+◌, ◌≤◌, ◌<◌, length, drop, ◌-◌, ◌*◌}
-use Rattle.text_scopes.specs.Lexemes.{lexemes}
+use Rattle.text_parser.specs.Lexemes.{lexemes}
 use Rattle.chain_proofs.specs.ChainWalks.{lines_after, parse_chain}
 use Rattle.chain_proofs.proofs.walk.+chains.Given as goal
 

@@ -1,5 +1,5 @@
 use Rattle.std.proofs.Common.{◌≡◌, ◌≤◌, length, drop, ◌-◌}
-use Rattle.text_scopes.specs.Lexemes.{lexemes}
+use Rattle.text_parser.specs.Lexemes.{lexemes}
 use Rattle.chain_proofs.specs.ChainWalks.{parts_by}
 use Rattle.chain_proofs.proofs.walk.parts.Given as goal
 

@@ -1,5 +1,5 @@
 use Rattle.std.proofs.Common.{◌≡◌, ◌≤◌, ◌+◌, length, drop}
-use Rattle.text_scopes.specs.TokenParts.{parts_of_tokens}
+use Rattle.text_parser.specs.TokenParts.{parts_of_tokens}
 use Rattle.flow_syntax.specs.Values.{count_taken, values}
 use Rattle.flow_syntax.proofs.building.build.Given as goal
 

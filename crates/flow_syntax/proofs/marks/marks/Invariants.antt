@@ -1,5 +1,5 @@
 use Rattle.std.proofs.Common.{◌≡◌, map, take}
-use Rattle.text_scopes.specs.TokenParts.{parts_of_tokens}
+use Rattle.text_parser.specs.TokenParts.{parts_of_tokens}
 use Rattle.flow_syntax.specs.Terminals.{mark_of}
 use Rattle.flow_syntax.proofs.marks.marks.Given as goal
 

@@ -1,7 +1,7 @@
 use Rattle.std.proofs.Common.{sym, subst, arith, reverse}
 use Rattle.flow_syntax.specs.Rules.{parts_of_rules}
 use Rattle.flow_syntax.specs.Derivations.{IsFirstFault}
-use Rattle.text_scopes.specs.declared.fault.TextFault.TheVariants.{Syntax}
+use Rattle.text_parser.specs.declared.fault.TextFault.TheVariants.{Syntax}
 use Rattle.flow_syntax.proofs.MovesMade.{left_over, makes_less}
 use Rattle.flow_syntax.proofs.reading.read_parts.Goals as goal
 

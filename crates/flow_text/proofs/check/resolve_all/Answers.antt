@@ -2,7 +2,7 @@ use Rattle.std.proofs.Common.{◌≡◌, ◌+◌, ◌-◌, List, length, take, d
 use Rattle.std.specs.Prelude.{Vec}
 use Rattle.std.specs.declared.alloc.Global.{Global}
 use Rattle.std.proofs.lemmas.Result.{err_from_is_err_and}
-use Rattle.text_scopes.specs.declared.fault.TextFault.{TextFault}
+use Rattle.text_parser.specs.declared.fault.TextFault.{TextFault}
 use Rattle.kat_model.specs.declared.expression.Width.TheVariants.{W8}
 use Rattle.flow_model.specs.declared.sort.Sort.TheVariants.{Number}
 use Rattle.flow_model.specs.declared.graph.ExprNode.{ExprNode}

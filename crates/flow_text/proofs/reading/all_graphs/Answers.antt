@@ -2,7 +2,7 @@ use Rattle.std.proofs.Common.{◌≡◌, ◌+◌, List, [], length, drop, map, E
 use Rattle.std.specs.Prelude.{Vec}
 use Rattle.std.specs.declared.alloc.Global.{Global}
 use Rattle.std.proofs.lemmas.Result.{err_from_is_err_and}
-use Rattle.text_scopes.specs.declared.fault.TextFault.{TextFault}
+use Rattle.text_parser.specs.declared.fault.TextFault.{TextFault}
 use Rattle.flow_model.specs.declared.graph.Block.{Block}
 use Rattle.flow_text.specs.Trees.{graph_of}
 use Rattle.flow_text.specs.Checking.{next_graph, graphs_after}

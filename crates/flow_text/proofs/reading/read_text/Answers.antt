@@ -1,7 +1,7 @@
 use Rattle.std.proofs.Common.{length, map, Err, sym, subst, ap, ◌∙◌}
 use Rattle.std.proofs.lemmas.Result.{err_from_is_err_and}
-use Rattle.text_scopes.specs.declared.fault.TextFault.{TextFault}
-use Rattle.text_scopes.specs.TokenParts.{parts_of_tokens}
+use Rattle.text_parser.specs.declared.fault.TextFault.{TextFault}
+use Rattle.text_parser.specs.TokenParts.{parts_of_tokens}
 use Rattle.flow_syntax.specs.Derivations.{IsReaderFault}
 use Rattle.flow_syntax.specs.declared.phrase.TheConstants.{FILE}
 use Rattle.flow_syntax.specs.Terminals.{mark_of}

@@ -1,5 +1,5 @@
 use Rattle.std.proofs.Common.{◌<◌, ◌≤◌, length, drop, refl, arith}
-use Rattle.text_scopes.specs.Lexemes.{lexemes}
+use Rattle.text_parser.specs.Lexemes.{lexemes}
 use Rattle.problem_file.proofs.ReadFaults.{made_ends, made_within}
 use Rattle.gkat_front.specs.Items.{equal_by}
 use Rattle.gkat_front.proofs.items.read_equal.Goals as goal

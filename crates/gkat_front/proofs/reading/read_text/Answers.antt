@@ -1,10 +1,10 @@
 use Rattle.std.proofs.Common.{◌≡◌, ◌⊎◌, Ok, Err, sym, subst, ap, ◌∙◌}
 use Rattle.std.proofs.lemmas.Result.{err_from_is_err_and}
-use Rattle.text_scopes.specs.declared.fault.TextFault.{TextFault}
-use Rattle.text_scopes.specs.declared.fault.TextFault.TheVariants.{NoMemory}
-use Rattle.text_scopes.specs.TokenParts.{parts_of_tokens}
-use Rattle.text_scopes.specs.Lexemes.{lexemes}
-use Rattle.text_scopes.specs.Parsed.{Makes}
+use Rattle.text_parser.specs.declared.fault.TextFault.{TextFault}
+use Rattle.text_parser.specs.declared.fault.TextFault.TheVariants.{NoMemory}
+use Rattle.text_parser.specs.TokenParts.{parts_of_tokens}
+use Rattle.text_parser.specs.Lexemes.{lexemes}
+use Rattle.text_parser.specs.Parsed.{Makes}
 use Rattle.problem_file.specs.Tokens.{AreTokens}
 use Rattle.problem_file.proofs.TextAnswers.{bad_told, fault_told}
 use Rattle.problem_file.proofs.ReadTexts.{lexed_tokens}

@@ -1,5 +1,5 @@
 use Rattle.std.proofs.Common.{◌≡◌, ◌+◌, ◌≤◌, ◌<◌, length, drop, ◌-◌, ◌*◌}
-use Rattle.text_scopes.specs.Lexemes.{lexemes}
+use Rattle.text_parser.specs.Lexemes.{lexemes}
 use Rattle.gkat_front.specs.GkatWalks.{factors_after, parse_gkat}
 use Rattle.gkat_front.proofs.walk.+exprs.Given as goal
 

@@ -1,8 +1,8 @@
 use Rattle.std.proofs.Common.{drop, Ok, Err, refl}
-use Rattle.text_scopes.specs.declared.terminal.Terminal.TheVariants.{SquareOpen, SquareClose}
-use Rattle.text_scopes.specs.Lexemes.{lexemes, is_terminal}
-use Rattle.text_scopes.specs.Parsed.{wants, place_of}
-use Rattle.text_scopes.proofs.NamedFaults.{wants_named}
+use Rattle.text_parser.specs.declared.terminal.Terminal.TheVariants.{SquareOpen, SquareClose}
+use Rattle.text_parser.specs.Lexemes.{lexemes, is_terminal}
+use Rattle.text_parser.specs.Parsed.{wants, place_of}
+use Rattle.text_parser.proofs.NamedFaults.{wants_named}
 use Rattle.while_lang.specs.Blocks.{enter}
 use Rattle.while_lang.proofs.BlockFaults.{enter_named, entered, part_fails, check_fails}
 use Rattle.gkat_front.specs.GkatWalks.{guard_by}

@@ -1,7 +1,7 @@
 use Rattle.std.proofs.Common.{drop, refl}
-use Rattle.text_scopes.specs.declared.terminal.Terminal.TheVariants.{Separator}
-use Rattle.text_scopes.specs.declared.terminal.Separator.TheVariants.{Semicolon}
-use Rattle.text_scopes.specs.Lexemes.{lexemes, is_terminal}
+use Rattle.text_parser.specs.declared.terminal.Terminal.TheVariants.{Separator}
+use Rattle.text_parser.specs.declared.terminal.Separator.TheVariants.{Semicolon}
+use Rattle.text_parser.specs.Lexemes.{lexemes, is_terminal}
 use Rattle.problem_file.specs.Items.{over_names, declaration_by}
 use Rattle.problem_file.proofs.ReadFaults.{step_ends, token_ends}
 use Rattle.problem_file.proofs.items.read_declaration.Goals as goal

@@ -1,10 +1,10 @@
 use Rattle.std.proofs.Common.{◌+◌, ◌<◌, ◌≤◌, drop, false, refl, length, arith}
-use Rattle.text_scopes.specs.declared.terminal.Terminal.TheVariants.{Separator}
-use Rattle.text_scopes.specs.declared.terminal.Separator.TheVariants.{Semicolon}
-use Rattle.text_scopes.specs.Lexemes.{lexemes, is_terminal}
-use Rattle.text_scopes.specs.Parsed.{wants}
-use Rattle.text_scopes.proofs.NamedFaults.{wants_named}
-use Rattle.text_scopes.proofs.Tokens.{next_drop}
+use Rattle.text_parser.specs.declared.terminal.Terminal.TheVariants.{Separator}
+use Rattle.text_parser.specs.declared.terminal.Separator.TheVariants.{Semicolon}
+use Rattle.text_parser.specs.Lexemes.{lexemes, is_terminal}
+use Rattle.text_parser.specs.Parsed.{wants}
+use Rattle.text_parser.proofs.NamedFaults.{wants_named}
+use Rattle.text_parser.proofs.Tokens.{next_drop}
 use Rattle.problem_file.specs.Items.{triple_by, hyp_by}
 use Rattle.problem_file.specs.Working.Walks.{triple_of}
 use Rattle.problem_file.proofs.ReadFaults.{named_fault, read_fault, check_fault, fault_ends, made_ends, made_within}

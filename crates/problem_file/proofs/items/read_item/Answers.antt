@@ -1,6 +1,6 @@
 use Rattle.std.proofs.Common.{◌≡◌, ◌+◌, drop, refl, sym, subst}
-use Rattle.text_scopes.specs.declared.terminal.Keyword.TheVariants as word
-use Rattle.text_scopes.specs.Lexemes.{lexemes, text_at}
+use Rattle.text_parser.specs.declared.terminal.Keyword.TheVariants as word
+use Rattle.text_parser.specs.Lexemes.{lexemes, text_at}
 use Rattle.problem_file.specs.Working.Walks.{StepEnds}
 use Rattle.problem_file.proofs.ItemParts.{test_seen, action_seen, var_seen, term_seen, prog_seen, hyp_seen, rounds_seen, width_seen, goal_seen}
 use Rattle.problem_file.proofs.items.read_item.Goals as goal

@@ -1,7 +1,7 @@
 use Rattle.std.proofs.Common.{◌<◌, List, length, drop, length-drop, Err, sym, subst, ap, ◌∙◌, arith}
 use Rattle.std.proofs.lemmas.Result.{err_from_is_err_and}
-use Rattle.text_scopes.specs.declared.fault.TextFault.{TextFault}
-use Rattle.text_scopes.specs.Lexemes.{Lexeme, lexemes}
+use Rattle.text_parser.specs.declared.fault.TextFault.{TextFault}
+use Rattle.text_parser.specs.Lexemes.{Lexeme, lexemes}
 use Rattle.problem_file.specs.Items.{item_by, items_by}
 use Rattle.problem_file.specs.Working.Walks.{Does}
 use Rattle.problem_file.proofs.Lists.{items_go, item_fails, drop_less, lexemes_length}

@@ -1,5 +1,5 @@
 use Rattle.std.proofs.Common.{◌≤◌, length, drop, ◌-◌}
-use Rattle.text_scopes.specs.Lexemes.{lexemes}
+use Rattle.text_parser.specs.Lexemes.{lexemes}
 use Rattle.problem_file.specs.Items.{item_by, items_by}
 use Rattle.problem_file.proofs.Lists.{ItemsLeft}
 use Rattle.problem_file.proofs.items.read_items.Given as goal

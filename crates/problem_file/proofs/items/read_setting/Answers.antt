@@ -1,7 +1,7 @@
 use Rattle.std.proofs.Common.{drop, refl}
-use Rattle.text_scopes.specs.declared.terminal.Terminal.TheVariants.{Separator}
-use Rattle.text_scopes.specs.declared.terminal.Separator.TheVariants.{Semicolon}
-use Rattle.text_scopes.specs.Lexemes.{lexemes, is_terminal}
+use Rattle.text_parser.specs.declared.terminal.Terminal.TheVariants.{Separator}
+use Rattle.text_parser.specs.declared.terminal.Separator.TheVariants.{Semicolon}
+use Rattle.text_parser.specs.Lexemes.{lexemes, is_terminal}
 use Rattle.problem_file.specs.Items.{at_number, setting_by}
 use Rattle.problem_file.proofs.ReadFaults.{check_fault, fault_ends, step_ends, token_ends}
 use Rattle.problem_file.proofs.items.read_setting.Goals as goal

@@ -1,9 +1,9 @@
 use Rattle.std.proofs.Common.{◌<◌, ◌≤◌, drop, true, length, arith}
-use Rattle.text_scopes.specs.declared.terminal.Terminal.TheVariants.{Separator}
-use Rattle.text_scopes.specs.declared.terminal.Separator.TheVariants.{Semicolon}
-use Rattle.text_scopes.specs.Lexemes.{lexemes, is_terminal}
-use Rattle.text_scopes.specs.Parsed.{wants}
-use Rattle.text_scopes.proofs.NamedFaults.{wants_named}
+use Rattle.text_parser.specs.declared.terminal.Terminal.TheVariants.{Separator}
+use Rattle.text_parser.specs.declared.terminal.Separator.TheVariants.{Semicolon}
+use Rattle.text_parser.specs.Lexemes.{lexemes, is_terminal}
+use Rattle.text_parser.specs.Parsed.{wants}
+use Rattle.text_parser.proofs.NamedFaults.{wants_named}
 use Rattle.problem_file.specs.Items.{triple_by, triple_goal_by}
 use Rattle.problem_file.specs.Numbers.{until}
 use Rattle.problem_file.specs.Working.Walks.{triple_of}

@@ -1,9 +1,9 @@
 use Rattle.std.proofs.Common.{◌<◌, ◌≤◌, drop, length, arith}
-use Rattle.text_scopes.specs.declared.terminal.Terminal.TheVariants.{Separator, Zero}
-use Rattle.text_scopes.specs.declared.terminal.Separator.TheVariants.{Semicolon, Equals}
-use Rattle.text_scopes.specs.Lexemes.{lexemes, is_terminal}
-use Rattle.text_scopes.specs.Parsed.{wants}
-use Rattle.text_scopes.proofs.NamedFaults.{wants_named}
+use Rattle.text_parser.specs.declared.terminal.Terminal.TheVariants.{Separator, Zero}
+use Rattle.text_parser.specs.declared.terminal.Separator.TheVariants.{Semicolon, Equals}
+use Rattle.text_parser.specs.Lexemes.{lexemes, is_terminal}
+use Rattle.text_parser.specs.Parsed.{wants}
+use Rattle.text_parser.proofs.NamedFaults.{wants_named}
 use Rattle.problem_file.specs.Items.{term_by, zero_by}
 use Rattle.problem_file.specs.Working.Walks.{measured_of}
 use Rattle.problem_file.proofs.ReadFaults.{named_fault, read_fault, fault_ends, made_ends, made_within}

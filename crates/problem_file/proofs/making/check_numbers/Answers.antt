@@ -1,6 +1,6 @@
 use Rattle.std.proofs.Common.{◌≤◌, length, arith}
 use Rattle.std.proofs.lemmas.Result.{err_from_is_err_and}
-use Rattle.text_scopes.specs.Lexemes.{lexemes}
+use Rattle.text_parser.specs.Lexemes.{lexemes}
 use Rattle.problem_file.proofs.Lists.{lexemes_length}
 use Rattle.problem_file.proofs.NumberChecks.{numbers_go, numbers_fail}
 use Rattle.problem_file.proofs.making.check_numbers.Goals as goal

@@ -1,5 +1,5 @@
 use Rattle.std.proofs.Common.{◌≤◌, ◌-◌}
-use Rattle.text_scopes.specs.Lexemes.{lexemes}
+use Rattle.text_parser.specs.Lexemes.{lexemes}
 use Rattle.problem_file.proofs.NumberChecks.{NumbersLeft}
 use Rattle.problem_file.proofs.making.check_numbers.Given as goal
 

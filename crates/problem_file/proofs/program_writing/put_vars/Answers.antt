@@ -1,6 +1,6 @@
 use Rattle.std.proofs.Common.{arith}
 use Rattle.std.specs.Prelude.{codes}
-use Rattle.text_scopes.specs.declared.meaning.Meaning.TheVariants.{Var}
+use Rattle.text_parser.specs.declared.meaning.Meaning.TheVariants.{Var}
 use Rattle.text_print.specs.Printing.{name_of}
 use Rattle.problem_file.proofs.PlainWritten.{name_more, declaration_written}
 use Rattle.problem_file.proofs.program_writing.put_vars.Goals as goal

@@ -1,5 +1,5 @@
 use Rattle.std.proofs.Common.{◌≡◌, ◌-◌, ◌++◌}
-use Rattle.text_scopes.specs.declared.meaning.Meaning.TheVariants.{Var}
+use Rattle.text_parser.specs.declared.meaning.Meaning.TheVariants.{Var}
 use Rattle.text_print.specs.Printing.{name_of}
 use Rattle.problem_file.proofs.PlainWritten.{later_names}
 use Rattle.problem_file.proofs.program_writing.put_vars.Given as goal

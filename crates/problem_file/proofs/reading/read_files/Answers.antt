@@ -1,6 +1,6 @@
 use Rattle.std.proofs.Common.{List, ℕ, Err, inr, sym, subst, ap, ◌∙◌}
 use Rattle.std.proofs.lemmas.Result.{err_from_is_err_and}
-use Rattle.text_scopes.specs.declared.fault.TextFault.{TextFault}
+use Rattle.text_parser.specs.declared.fault.TextFault.{TextFault}
 use Rattle.problem_file.specs.FirstFaults.{no_text}
 use Rattle.problem_file.specs.Working.Files.{AnswersFor}
 use Rattle.problem_file.proofs.reading.read_files.Goals as goal

@@ -1,7 +1,7 @@
 -- Each name is new, and the scope declares it afterwards.
 use Rattle.std.proofs.Common.{◌≡◌, ◌<◌, ◌+◌, List, ℕ, sym, ap, ◌∙◌, subst, arith}
-use Rattle.text_scopes.specs.declared.meaning.Meaning.TheVariants.{Test, Action}
-use Rattle.text_scopes.specs.ScopeParts.{ScopeParts, Means, IsIdentifier, IsUndeclared, declared}
+use Rattle.text_parser.specs.declared.meaning.Meaning.TheVariants.{Test, Action}
+use Rattle.text_parser.specs.ScopeParts.{ScopeParts, Means, IsIdentifier, IsUndeclared, declared}
 use Rattle.problem_file.specs.Questions.{plain_name}
 use Rattle.problem_file.proofs.PlainNames.{test_identifier, action_identifier, plain_are_names}
 use Rattle.problem_file.specs.NumberedScopes.{tests_scope, numbered_scope}

@@ -1,5 +1,5 @@
 use Rattle.std.proofs.Common.{drop}
-use Rattle.text_scopes.specs.Lexemes.{lexemes}
+use Rattle.text_parser.specs.Lexemes.{lexemes}
 use Rattle.problem_file.proofs.BlockEnds.{block_ends, block_fails}
 use Rattle.problem_file.proofs.syntax.measure_block.Goals as goal
 

@@ -5,8 +5,8 @@ use Rattle.std.specs.List.{list_all}
 use Rattle.std.specs.Char.{is_ascii_digit}
 use Rattle.std.proofs.lemmas.Bool.{and_parts, lt-ltb, le-ltb, ltb-true, cases_lt}
 use Rattle.std.proofs.lemmas.Str.Parse.{parse_digits}
-use Rattle.text_scopes.specs.Terminals.{value_from, is_digits}
-use Rattle.text_scopes.proofs.Numerals.{digits_are_numerals}
+use Rattle.text_parser.specs.Terminals.{value_from, is_digits}
+use Rattle.text_parser.proofs.Numerals.{digits_are_numerals}
 use Rattle.tool_commands.specs.Numbers.{is_number, number_below}
 use Rattle.tool_commands.proofs.numbers.number_of.Goals as goal
 

@@ -1,6 +1,6 @@
 use Rattle.std.proofs.Common.{◌≡◌, ap, subst}
 use Rattle.while_lang.specs.Files.{FileParts}
-use Rattle.text_scopes.specs.ScopeParts.{ScopeParts}
+use Rattle.text_parser.specs.ScopeParts.{ScopeParts}
 use Rattle.tool_decide.specs.LogTexts.{optimised_text}
 use Rattle.tool_decide.proofs.optimise.log_of.Goals as goal
 

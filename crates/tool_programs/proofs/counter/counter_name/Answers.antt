@@ -1,5 +1,5 @@
 use Rattle.std.proofs.Common.{◌+◌, string_bytes, subst, arith}
-use Rattle.text_scopes.specs.ScopeParts.{IsDeclared}
+use Rattle.text_parser.specs.ScopeParts.{IsDeclared}
 use Rattle.tool_programs.specs.Working.Counters.{pc_more, declared_here, undeclared_here, declared_more, tries_fall}
 use Rattle.tool_programs.proofs.counter.counter_name.Goals as goal
 

@@ -1,5 +1,5 @@
 use Rattle.std.proofs.Common.{◌≡◌, ◌<◌, ◌-◌, ℕ, suc, length, string_bytes}
-use Rattle.text_scopes.specs.ScopeParts.{IsDeclared}
+use Rattle.text_parser.specs.ScopeParts.{IsDeclared}
 use Rattle.tool_programs.specs.OneLoop.{pc_name}
 use Rattle.tool_programs.specs.Working.Counters.{all_lengths}
 use Rattle.tool_programs.proofs.counter.counter_name.Given as goal

@@ -1,5 +1,5 @@
 use Rattle.std.proofs.Common.{◌≡◌, ◌++◌, subst, arith}
-use Rattle.text_scopes.specs.declared.meaning.Meaning.{Meaning}
+use Rattle.text_parser.specs.declared.meaning.Meaning.{Meaning}
 use Rattle.text_print.specs.Printing.{name_of}
 use Rattle.problem_file.proofs.PlainWritten.{name_more, declaration_written}
 use Rattle.tool_programs.specs.Working.Kinds.{kind_word, kind_meaning}

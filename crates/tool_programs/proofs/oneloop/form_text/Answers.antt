@@ -1,7 +1,7 @@
 use Rattle.std.proofs.Common.{ℕ, ◌+◌, List, string_bytes, sym, ap, ◌∙◌, subst}
 use Rattle.std.proofs.lemmas.Result.{IfOk-weaker}
-use Rattle.text_scopes.specs.declared.meaning.Meaning.TheVariants.{Var}
-use Rattle.text_scopes.specs.ScopeParts.{ScopeParts, IsIdentifier, IsUndeclared, declared}
+use Rattle.text_parser.specs.declared.meaning.Meaning.TheVariants.{Var}
+use Rattle.text_parser.specs.ScopeParts.{ScopeParts, IsIdentifier, IsUndeclared, declared}
 use Rattle.text_print.specs.Printing.{name_of}
 use Rattle.problem_file.specs.ProgramTexts.{one_program_text}
 use Rattle.tool_programs.specs.Working.Counters.{counter_identifier}

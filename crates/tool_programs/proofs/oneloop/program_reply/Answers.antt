@@ -1,7 +1,7 @@
 use Rattle.std.proofs.Common.{◌<◌, inl, inr, refl, sym, ap, subst, rules}
 use Rattle.kat_model.specs.declared.limits.TheConstants.{MAX_VARS}
-use Rattle.text_scopes.specs.declared.meaning.Meaning.TheVariants.{Var}
-use Rattle.text_scopes.specs.ScopeParts.{IsUnnamed}
+use Rattle.text_parser.specs.declared.meaning.Meaning.TheVariants.{Var}
+use Rattle.text_parser.specs.ScopeParts.{IsUnnamed}
 use Rattle.while_lang.specs.Files.{FileParts}
 use Rattle.tool_programs.specs.OneLoop.{HasNoForm, FormsFile}
 use Rattle.tool_inputs.specs.Steps.{IsRefusal}

@@ -1,6 +1,6 @@
 use Rattle.std.proofs.Common.{subst}
 use Rattle.kat_model.specs.Problems.{IsProblem}
-use Rattle.text_scopes.specs.ScopeParts.{IsWellFormed}
+use Rattle.text_parser.specs.ScopeParts.{IsWellFormed}
 use Rattle.while_lang.specs.Files.{FileParts}
 use Rattle.abstraction.specs.Abstracts.{AbstractParts}
 use Rattle.tool_programs.proofs.show.know_limits.Goals as goal

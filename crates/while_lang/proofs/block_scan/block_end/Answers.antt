@@ -1,6 +1,6 @@
 use Rattle.std.proofs.Common.{rules, drop}
-use Rattle.text_scopes.specs.Lexemes.{lexemes}
-use Rattle.text_scopes.specs.Parsed.{Wants}
+use Rattle.text_parser.specs.Lexemes.{lexemes}
+use Rattle.text_parser.specs.Parsed.{Wants}
 use Rattle.while_lang.specs.BlockScans.{scan_block}
 use Rattle.while_lang.proofs.BlockScanFaults.{answers_block_fault}
 use Rattle.while_lang.proofs.block_scan.block_end.Goals as goal

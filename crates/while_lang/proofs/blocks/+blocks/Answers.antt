@@ -1,11 +1,11 @@
 use Rattle.std.proofs.Common.{◌≡◌, ◌+◌, ◌<◌, ◌≤◌, [], length, drop, Ok, Err, refl, sym, subst, arith}
-use Rattle.text_scopes.specs.declared.terminal.Terminal.TheVariants.{Separator}
-use Rattle.text_scopes.specs.declared.terminal.Keyword.TheVariants as word
-use Rattle.text_scopes.specs.declared.terminal.Separator.TheVariants.{CurlyOpen}
-use Rattle.text_scopes.specs.Lexemes.{lexemes, text_at, is_terminal}
-use Rattle.text_scopes.specs.Parsed.{Reads, wants, place_of}
-use Rattle.text_scopes.proofs.NamedFaults.{wants_named}
-use Rattle.text_scopes.proofs.Tokens.{next_drop}
+use Rattle.text_parser.specs.declared.terminal.Terminal.TheVariants.{Separator}
+use Rattle.text_parser.specs.declared.terminal.Keyword.TheVariants as word
+use Rattle.text_parser.specs.declared.terminal.Separator.TheVariants.{CurlyOpen}
+use Rattle.text_parser.specs.Lexemes.{lexemes, text_at, is_terminal}
+use Rattle.text_parser.specs.Parsed.{Reads, wants, place_of}
+use Rattle.text_parser.proofs.NamedFaults.{wants_named}
+use Rattle.text_parser.proofs.Tokens.{next_drop}
 use Rattle.while_lang.specs.Blocks.{enter, block, stmts_after, stmt_after, branch_after, cond_by, loop_by, else_by, parse_block}
 use Rattle.while_lang.specs.Working.Appending.{Appends}
 use Rattle.while_lang.proofs.BlockSteps.{stmt_after_step}

@@ -1,5 +1,5 @@
 use Rattle.std.proofs.Common.{◌≡◌, ◌+◌, ◌≤◌, length, drop, ◌-◌, ◌*◌}
-use Rattle.text_scopes.specs.Lexemes.{lexemes}
+use Rattle.text_parser.specs.Lexemes.{lexemes}
 use Rattle.while_lang.specs.Blocks.{stmts_after, parse_block}
 use Rattle.while_lang.proofs.blocks.+blocks.Given as goal
 

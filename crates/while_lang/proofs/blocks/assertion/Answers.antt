@@ -1,6 +1,6 @@
 use Rattle.std.proofs.Common.{drop, Ok}
-use Rattle.text_scopes.specs.Lexemes.{lexemes}
-use Rattle.text_scopes.specs.Parsed.{change}
+use Rattle.text_parser.specs.Lexemes.{lexemes}
+use Rattle.text_parser.specs.Parsed.{change}
 use Rattle.while_lang.specs.Blocks.{cond_by, then_semicolon}
 use Rattle.while_lang.proofs.BlockFaults.{part_stops}
 use Rattle.while_lang.proofs.BlockParts.{assert_unread, assert_ended, ended_appends}

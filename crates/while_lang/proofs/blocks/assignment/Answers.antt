@@ -1,5 +1,5 @@
 use Rattle.std.proofs.Common.{drop, Ok}
-use Rattle.text_scopes.specs.Lexemes.{lexemes}
+use Rattle.text_parser.specs.Lexemes.{lexemes}
 use Rattle.while_lang.specs.Blocks.{expr_by, assign_by}
 use Rattle.while_lang.proofs.BlockFaults.{part_stops, action_stops}
 use Rattle.while_lang.proofs.BlockParts.{assign_target, assign_unread, assign_ended, ended_appends}

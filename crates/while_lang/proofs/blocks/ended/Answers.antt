@@ -1,5 +1,5 @@
 use Rattle.std.proofs.Common.{◌≡◌, ◌+◌, ◌<◌, length, drop}
-use Rattle.text_scopes.specs.Lexemes.{lexemes}
+use Rattle.text_parser.specs.Lexemes.{lexemes}
 use Rattle.while_lang.proofs.BlockParts.{passed, ends_after}
 use Rattle.while_lang.proofs.blocks.ended.Goals as goal
 

@@ -1,8 +1,8 @@
 use Rattle.std.proofs.Common.{length, ◌≡◌, ℕ, List, Result, Ok, Err}
 use Rattle.std.specs.Result.{OnOk, OnErr}
 use Rattle.kat_model.specs.Trees.{kat_tree}
-use Rattle.text_scopes.specs.declared.fault.TextFault.{TextFault}
-use Rattle.text_scopes.specs.ScopeParts.{ScopeParts, Definition, defined}
+use Rattle.text_parser.specs.declared.fault.TextFault.{TextFault}
+use Rattle.text_parser.specs.ScopeParts.{ScopeParts, Definition, defined}
 use Rattle.problem_file.specs.Working.Numbers.{AreNumbered}
 use Rattle.problem_file.proofs.Numbering.{term_numbered}
 use Rattle.problem_file.proofs.making.ItemReaderItemReading.define.Goals as goal

@@ -1,5 +1,0 @@
-use Rattle.text_scopes.proofs.Unique.{one_phrase}
-use Rattle.text_scopes.proofs.laws.phrases_are_unique.Goals as goal
-
-pub returns : goal.returns
-returns c x p q r s = one_phrase p q r s

@@ -1,7 +1,0 @@
-use Rattle.std.proofs.Common.{sym, ◌∙◌}
-use Rattle.text_scopes.specs.TokenParts.{parts_of_tokens}
-use Rattle.text_scopes.proofs.Parentheses.{opens_is_symbol}
-use Rattle.text_scopes.proofs.terminal.is_round_open_at.Goals as goal
-
-pub returns : goal.returns
-returns c = c.is_symbol_at.ensures ∙ sym (opens_is_symbol (parts_of_tokens c.args.toks.now) c.args.i)

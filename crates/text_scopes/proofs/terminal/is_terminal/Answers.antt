@@ -1,6 +1,0 @@
-use Rattle.std.proofs.Common.{◌∙◌}
-use Rattle.text_scopes.proofs.TerminalEquality.{same_terminal}
-use Rattle.text_scopes.proofs.terminal.is_terminal.Goals as goal
-
-pub returns : goal.returns
-returns c = c.eq.ensures ∙ same_terminal c.args.wanted c.args.terminal
