@@ -10,7 +10,9 @@ ghost use Rattle.gkat_front.specs.Working.Declarations.{declare_by};
 
 use crate::item_reading::{GkatDeclared, GkatItemReading};
 use problem_file::name_at;
-use text_parser::{Keyword, Separator, Terminal, TextFault, Token, expect, is_at, syntax_fault_at, terminal_at};
+use text_parser::{
+    Keyword, Separator, Terminal, TextFault, Token, expect, is_at, syntax_fault_at, terminal_at,
+};
 
 // Declares the name at an index, and returns the index after it.
 #[tactic(auto, using(text_parser::proofs::Tokens::next_drop))]

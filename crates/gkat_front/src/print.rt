@@ -9,8 +9,8 @@ ghost use Rattle.gkat_front.specs.Printing.{is_loop, guard_text, gkat_text, gkat
 use crate::gkat::Gkat;
 use kat_model::{NoMemory, Test};
 use std::alloc::Global;
-use text_print::{put_name, put_test};
 use text_parser::{Meaning, Scope};
+use text_print::{put_name, put_test};
 
 // Appends the test in brackets.
 fn put_guard(out: &mut Vec<u8>, guard: &Test, scope: &Scope) -> Result<(), NoMemory>

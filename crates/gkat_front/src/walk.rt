@@ -5,7 +5,10 @@ ghost use Rattle.text_parser.specs.Parsed.{Reads, Goes};
 ghost use Rattle.gkat_front.specs.GkatWalks.{guard_by, tested_by, round_by, unit_by, factor_by, product_by, whole, parse_gkat};
 
 use crate::gkat_reading::GkatReading;
-use text_parser::{Separator, Terminal, TextFault, Token, expect, is_at, place_at, syntax_fault_at, terminal_at, text_at, with_end};
+use text_parser::{
+    Separator, Terminal, TextFault, Token, expect, is_at, place_at, syntax_fault_at, terminal_at,
+    text_at, with_end,
+};
 use while_lang::enter;
 
 // Reads a condition in brackets.

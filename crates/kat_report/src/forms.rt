@@ -9,8 +9,8 @@ use crate::writing::{put, put_number};
 use kat_model::NoMemory;
 use linear_forms::{Atomic, Form, Mono, Term};
 use std::alloc::Global;
-use text_print::put_name;
 use text_parser::{Meaning, Scope};
+use text_print::put_name;
 
 // Writes the text before a part of a sum, unless the part is the first.
 fn put_plus(out: &mut Vec<u8>, first: bool) -> Result<(), NoMemory>

@@ -10,8 +10,8 @@ use abstraction::{ActionRow, TestRow};
 use kat_model::NoMemory;
 use problem_file::{put_action_name, put_test_name};
 use std::alloc::Global;
-use text_print::put_name;
 use text_parser::{Meaning, Scope};
+use text_print::put_name;
 
 fn put_test_comment(
     alloc: Global,

@@ -19,16 +19,20 @@ pub use tool_check::{chain_bytes, check_bytes, replay_bytes};
 use tool_check::{ChainCommand, CheckCommand, ReplayCommand};
 use tool_commands::Command;
 pub use tool_commands::Words;
-pub use tool_decide::{batch_bytes, decide_bytes, decide_json_bytes, optimise_bytes, outline_bytes, outline_check_bytes};
-use tool_decide::{BatchCommand, DecideCommand, DecideJsonCommand, bench_reply};
+pub use tool_decide::{
+    batch_bytes, decide_bytes, decide_json_bytes, optimise_bytes, outline_bytes,
+    outline_check_bytes,
+};
+use tool_decide::{
+    BatchCommand, DecideCommand, DecideJsonCommand, OptimiseCommand, OutlineCheckCommand,
+    OutlineCommand, bench_reply,
+};
 use tool_explain::ExplainCommand;
 pub use tool_explain::explain_bytes;
 use tool_flow::FlowCommand;
 pub use tool_flow::flow_bytes;
 pub use tool_inputs::Reply;
 use tool_inputs::{EarlyEnd, into_reply, line, reply_to_file, reply_to_files, reply_to_text_file};
-use tool_decide::OptimiseCommand;
-use tool_decide::{OutlineCheckCommand, OutlineCommand};
 pub use tool_programs::{gkat_bytes, one_loop_bytes, run_bytes, show_bytes};
 use tool_programs::{GkatCommand, OneLoopCommand, RunCommand, ShowCommand};
 use tool_try::{TryCommand, TryWithCommand};

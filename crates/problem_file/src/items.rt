@@ -12,7 +12,10 @@ ghost use Rattle.problem_file.specs.Working.Walks.{measured_of, sides_of, triple
 use crate::item_reading::{Comparison, Declared, ItemReading, Setting};
 use crate::names::{lone_name, name_at, number_at};
 use crate::phrase::{Measured, MeasuredSides, MeasuredTriple};
-use text_parser::{Keyword, Separator, Terminal, TextFault, Token, expect, is_at, place_at, syntax_fault_at, terminal_at};
+use text_parser::{
+    Keyword, Separator, Terminal, TextFault, Token, expect, is_at, place_at, syntax_fault_at,
+    terminal_at,
+};
 
 // Declares the name at an index, and returns the index after it.
 fn read_name<R: ItemReading>(

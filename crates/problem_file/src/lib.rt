@@ -20,7 +20,11 @@ mod syntax;
 mod triple;
 mod writing;
 
-pub use laws::{are_in_ranges, commented_texts_read_back, files_are_scanned, have_one_answer, items_are_folded, items_are_made, named_programs_read_back, named_texts_read_back, plain_programs_read_back, plain_texts_read_back, plain_triples_read_back, printed_programs_read_back};
+pub use laws::{
+    are_in_ranges, commented_texts_read_back, files_are_scanned, have_one_answer, items_are_folded,
+    items_are_made, named_programs_read_back, named_texts_read_back, plain_programs_read_back,
+    plain_texts_read_back, plain_triples_read_back, printed_programs_read_back,
+};
 pub use names::{name_at, number_at};
 pub use print::print_prog;
 pub use program_writing::one_program_text;

@@ -28,7 +28,10 @@ use kat_model::{
     Cond, Items, Kat, MAX_HYPS, MAX_OPEN, MAX_ROUNDS, MAX_TERM_NODES, NoMemory, Width,
 };
 use std::alloc::Global;
-use text_parser::{Extent, Terminal, TextFault, Token, build_cond, build_term, measure_cond, measure_term, terminal_at};
+use text_parser::{
+    Extent, Terminal, TextFault, Token, build_cond, build_term, measure_cond, measure_term,
+    terminal_at,
+};
 use while_lang::{Goal, NamedProg, Side, build_block, measure_block, prog_meant};
 
 // Checks that an item, or a part of a goal, is within the limit of nodes; `TooLarge` at `at` past it.

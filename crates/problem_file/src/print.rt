@@ -9,8 +9,8 @@ ghost use Rattle.problem_file.specs.Working.ProgramTexts.{stmt_text, stmts_text}
 
 use kat_model::{Cond, Expr, NoMemory};
 use std::alloc::Global;
-use text_print::{print_cond, print_expr, put_name};
 use text_parser::{Meaning, Scope};
+use text_print::{print_cond, print_expr, put_name};
 use while_lang::{Prog, Stmt};
 
 fn put(out: &mut Vec<u8>, text: &[u8]) -> Result<(), NoMemory>

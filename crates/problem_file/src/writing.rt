@@ -10,8 +10,8 @@ ghost use Rattle.problem_file.specs.Questions.{plain_name, declaration_text, tes
 
 use kat_model::{Kat, NoMemory};
 use std::alloc::Global;
-use text_print::print_term;
 use text_parser::Scope;
+use text_print::print_term;
 
 pub(crate) fn put(out: &mut Vec<u8>, text: &[u8]) -> Result<(), NoMemory>
     ensures { OnOk result (out.new.items ≡ out.old.items ++ text.now) }

@@ -3,8 +3,8 @@ use gkat_front::{GkatFile, kat_of, print_gkat, read_gkat};
 use kat_model::NoMemory;
 use std::alloc::Global;
 use std::test::Fail;
-use text_print::print_term;
 use text_parser::TextFault;
+use text_print::print_term;
 
 // Prints the left side, and the term of the right side on the next line.
 fn shown(alloc: Global, file: &GkatFile) -> Result<Vec<u8>, NoMemory> {

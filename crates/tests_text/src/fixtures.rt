@@ -10,8 +10,8 @@ ghost use Rattle.text_parser.specs.ScopeParts.{is_term};
 
 use kat_model::{Kat, NoMemory};
 use std::alloc::Global;
-use text_print::print_term;
 use text_parser::{Kind, MAX_LEN, Meaning, Scope, TextFault, Token, is_keyword, tokens};
+use text_print::print_term;
 
 // Returns the tokens of a text of any length.
 pub(crate) fn cut<'a>(alloc: Global, text: &'a str) -> Result<Vec<Token<'a>>, TextFault> {

@@ -3,8 +3,8 @@ use crate::fixtures::sample;
 use kat_model::{Cond, Kat, NoMemory, all_of, any_of, seq_of, sum_of};
 use std::alloc::Global;
 use std::test::Fail;
-use text_print::{print_cond, print_term};
 use text_parser::{Scope, TextFault};
+use text_print::{print_cond, print_term};
 
 // Returns the actions p, q, p, .. .
 fn actions(alloc: Global, count: usize) -> Result<Vec<Kat>, NoMemory> {

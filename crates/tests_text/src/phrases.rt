@@ -2,8 +2,10 @@
 use crate::fixtures::{cut, is_so, sample};
 use kat_model::{Cond, Expr, Kat, NoMemory};
 use std::alloc::Global;
+use text_parser::{
+    Scope, TextFault, cond_end, expr_end, read_cond, read_expr, read_term, term_end,
+};
 use text_print::{print_cond, print_expr, print_term};
-use text_parser::{Scope, TextFault, cond_end, expr_end, read_cond, read_expr, read_term, term_end};
 use while_lang::block_end;
 
 // Returns the index after the phrase at the start of the text, with `depth` open constructs around it.

@@ -6,14 +6,14 @@ ghost use Rattle.text_parser.specs.ScopeParts.{meaning};
 ghost use Rattle.text_parser.specs.Building.{joined, variable_tree, condition_tree, name_tree, defined_tree, trees};
 
 use crate::convert::negated;
+use crate::fault::TextFault;
 use crate::meaning::Meaning;
+use crate::reading::{Context, Operator, Reading};
 use crate::scope::Scope;
 use kat_model::{
     Cond, Expr, Kat, NoMemory, Rel, Test, all_of, any_of, seq_of, sum_of, test_without_comparisons,
 };
 use std::alloc::Global;
-use crate::reading::{Context, Operator, Reading};
-use crate::fault::TextFault;
 
 // The actions that build the tree of a phrase. The phrase was measured before.
 #[derive(Clone, Copy)]

@@ -10,14 +10,14 @@ ghost use Rattle.text_parser.specs.Parsed.{Reads, Goes};
 ghost use Rattle.text_parser.specs.Conds.{after_close, begins_expr, relation, comparison, parenthesis, negation, parse_cond, disjunction, conjunction, literal};
 
 use crate::expr::parse_expr;
+use crate::fault::TextFault;
 use crate::reading::{Context, Reading, with_end};
 use crate::terminal::{
     Terminal, is_at, is_round_close_at, is_round_open_at, syntax_fault_at, terminal_at, text_at,
     then_expect,
 };
-use kat_model::Rel;
-use crate::fault::TextFault;
 use crate::token::Token;
+use kat_model::Rel;
 
 // Returns the index after the parenthesis that matches one just before `from`, or the number of tokens if there is
 // none. Compares the text of a token with one symbol: `terminal_at`, which distinguishes all terminals, took four to

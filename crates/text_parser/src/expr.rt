@@ -4,11 +4,11 @@ ghost use Rattle.text_parser.specs.Lexemes.{lexemes};
 ghost use Rattle.text_parser.specs.Parsed.{Reads, Goes};
 ghost use Rattle.text_parser.specs.Exprs.{parse_expr, sums, products, factor, operator_at, parenthesis};
 
+use crate::fault::TextFault;
 use crate::reading::{Context, Operator, Reading, with_end};
 use crate::terminal::{
     Terminal, is_at, is_sum_at, syntax_fault_at, terminal_at, text_at, then_expect,
 };
-use crate::fault::TextFault;
 use crate::token::Token;
 
 fn operator_at(toks: &[Token], i: usize) -> Operator

@@ -5,11 +5,11 @@ ghost use Rattle.text_parser.specs.ScopeParts.{meaning};
 ghost use Rattle.text_parser.specs.Measuring.{number_extent, variable_extent, condition_extent, defined_extent, name_extent, extents};
 
 use crate::extent::{Extent, cut_extent};
+use crate::fault::TextFault;
 use crate::meaning::Meaning;
+use crate::reading::{Context, Operator, Reading};
 use crate::scope::Scope;
 use kat_model::{MAX_OPEN, Rel};
-use crate::reading::{Context, Operator, Reading};
-use crate::fault::TextFault;
 
 // The actions that measure a phrase and reject what is not allowed in it.
 #[derive(Clone, Copy)]

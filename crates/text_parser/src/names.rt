@@ -2,13 +2,13 @@
 ghost use Rattle.std.specs.Prelude.{◌≡◌, IsSome, IfSome, IfNone, IfErr, OnOk, OnErr, ℕ, List};
 ghost use Rattle.std.specs.FinMap as map;
 
+use crate::fault::TextFault;
 use crate::meaning::Meaning;
+use crate::token::Token;
 use kat_model::NoMemory;
 use std::alloc::Global;
 use std::collections::BTreeMap;
 use std::marker::Model;
-use crate::fault::TextFault;
-use crate::token::Token;
 
 // A one-to-one table: each name denotes one meaning, and each meaning has at most one name.
 pub(crate) struct Names {

@@ -14,14 +14,14 @@ ghost use Rattle.text_parser.specs.Readings.{Answers, term_at, cond_at, expr_at}
 
 use crate::build::Build;
 use crate::extent::Extent;
+use crate::fault::TextFault;
 use crate::measure::Measure;
+use crate::reading::Context;
 use crate::scope::Scope;
+use crate::terminal::place_at;
+use crate::token::Token;
 use kat_model::{Cond, Expr, Kat, MAX_EXPR_NODES, MAX_TERM_NODES};
 use std::alloc::Global;
-use crate::reading::Context;
-use crate::fault::TextFault;
-use crate::token::Token;
-use crate::terminal::place_at;
 
 /// Returns the size and nesting of the term that begins at `from`, with `depth` open constructs around it, and the
 /// index after the term; or the first fault in its syntax or its names in text order. Takes no memory.

@@ -4,8 +4,8 @@ ghost use Rattle.text_parser.specs.Parsed.{Makes};
 ghost use Rattle.text_parser.specs.Ended.{with_end};
 ghost use Rattle.text_parser.specs.Actions.{Actions, context, enter, enter_not};
 
-use kat_model::{MAX_OPEN, Rel};
 use crate::fault::TextFault;
+use kat_model::{MAX_OPEN, Rel};
 
 /// An operation on numbers. A list of operations groups to the left.
 #[derive(Clone, Copy)]

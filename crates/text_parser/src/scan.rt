@@ -7,11 +7,11 @@ ghost use Rattle.text_parser.specs.Faults.{IsSyntaxFault};
 
 use crate::cond::parse_cond;
 use crate::expr::parse_expr;
+use crate::fault::TextFault;
 use crate::reading::{Context, Operator, Reading};
 use crate::term::parse_term;
-use kat_model::Rel;
-use crate::fault::TextFault;
 use crate::token::Token;
+use kat_model::Rel;
 
 /// The actions that make nothing and accept every part. A parse with them only checks the syntax.
 pub struct Scan;

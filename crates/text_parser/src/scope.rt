@@ -9,13 +9,13 @@ ghost use Rattle.text_parser.specs.ScopeParts.{meaning, IsWellFormed, IsNameOf, 
 ghost use Rattle.text_parser.specs.Definitions.{definition_of};
 
 use crate::definition::Definition;
+use crate::fault::TextFault;
 use crate::meaning::Meaning;
 use crate::names::Names;
+use crate::token::Token;
 use kat_model::Kat;
 use std::alloc::Global;
 use std::marker::Model;
-use crate::fault::TextFault;
-use crate::token::Token;
 
 /// The declared names with their meanings, and the defined terms. All kinds share one name space.
 pub struct Scope {

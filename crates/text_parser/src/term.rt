@@ -5,11 +5,11 @@ ghost use Rattle.text_parser.specs.Parsed.{Reads, Goes};
 ghost use Rattle.text_parser.specs.Terms.{parenthesis, bracket, negation, star_or_not, parse_term, choice, sequence, unit};
 
 use crate::cond::parse_cond;
+use crate::fault::TextFault;
 use crate::reading::{Context, Reading, with_end};
 use crate::terminal::{
     Terminal, expect, is_at, syntax_fault_at, terminal_at, text_at, then_expect,
 };
-use crate::fault::TextFault;
 use crate::token::Token;
 
 /// Reads the term that begins at `from`. Returns the result of the actions and the index after the term, or the first

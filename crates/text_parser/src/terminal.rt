@@ -10,9 +10,9 @@ ghost use Rattle.text_parser.specs.Working.Words.{word_of_four, word_of_five, wo
 ghost use Rattle.text_parser.specs.Lexemes.{lexemes, text_at, Sees, heads, is_terminal, is_sum};
 ghost use Rattle.text_parser.specs.Parsed.{place_of, Reads, Wants, wants, then_wants};
 
-use kat_model::Rel;
-use crate::token::{Kind, Token};
 use crate::fault::TextFault;
+use crate::token::{Kind, Token};
+use kat_model::Rel;
 
 /// A keyword, spelled as its variant in lower case. `true` and `false` are [`Terminal::True`] and [`Terminal::False`].
 #[derive(Clone, Copy, PartialEq, Eq)]

@@ -13,11 +13,11 @@ ghost use Rattle.tool_decide.specs.OutlineCheck.{SpellsNotes};
 ghost use Rattle.tool_inputs.specs.FileProblem.{Asks};
 ghost use Rattle.tool_decide.specs.Outline.{IsOutlined, OutlineHeadline, OutlineReply};
 
+use crate::decide::{count, decide_reply};
 use crate::triple::triple_in;
 use hoare_outlines::{Notes, Task, outline, write_notes};
 use kat_model::{NoMemory, Problem};
 use std::alloc::Global;
-use crate::decide::{count, decide_reply};
 use tool_inputs::{EarlyEnd, Reply, TextCommand, reply_to_text};
 
 // Shows that the numbers in notes over the tests of a problem fit in 64 bits: they are those of nodes and tests.

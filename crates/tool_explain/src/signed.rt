@@ -12,8 +12,8 @@ use abstraction::{ActionRow, TestRow};
 use kat_model::{NoMemory, Width};
 use linear_forms::{Atomic, Form, Mono, Term};
 use std::alloc::Global;
-use text_print::put_name;
 use text_parser::{Meaning, Scope};
+use text_print::put_name;
 
 // Returns half of the number of values of the width.
 fn half(width: Width) -> u64

@@ -15,8 +15,8 @@ use gkat_front::{GkatFile, kat_of, read_gkat};
 use kat_model::NoMemory;
 use problem_file::put_goal;
 use std::alloc::Global;
-use text_print::put_name;
 use text_parser::{Meaning, Scope};
+use text_print::put_name;
 use tool_inputs::{EarlyEnd, Reply, TextCommand, reply_to_text, text_fault_stop};
 
 // The kinds of names that a text of GKAT declares.

@@ -8,8 +8,8 @@ use kat_report::outcome_line;
 use std::alloc::Global;
 use std::fmt::Write;
 use store_trials::{RunEnd, Trial};
-use text_print::put_name;
 use text_parser::{Meaning, Scope};
+use text_print::put_name;
 use while_lang::Store;
 
 fn put_number(alloc: Global, out: &mut Vec<u8>, number: u64) -> Result<(), NoMemory>

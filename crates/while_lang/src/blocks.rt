@@ -8,7 +8,10 @@ ghost use Rattle.while_lang.specs.Working.Appending.{Appends, EndsAfter};
 
 use crate::block_reading::BlockReading;
 use kat_model::MAX_OPEN;
-use text_parser::{Keyword, Separator, Terminal, TextFault, Token, expect, is_at, place_at, syntax_fault_at, terminal_at, text_at};
+use text_parser::{
+    Keyword, Separator, Terminal, TextFault, Token, expect, is_at, place_at, syntax_fault_at,
+    terminal_at, text_at,
+};
 
 /// Returns the number of open constructs after one more opens at place `at`. Fails with `TooDeep` at that place if
 /// `MAX_OPEN` or more are open already.
