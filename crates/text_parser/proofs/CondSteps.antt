@@ -12,7 +12,7 @@ use Rattle.text_parser.specs.Parsed.{Parsed, ◌>>=◌, place_of, before, change
 use Rattle.text_parser.specs.Actions.{CondActions, enter, enter_not}
 use Rattle.text_parser.specs.Exprs.{parse_expr, sums}
 use Rattle.text_parser.specs.Conds.{after_close, begins_expr, CondAim, disjunction, disjunction_after, conjunction, conjunction_after, literal, CondParser, relation, comparison, parenthesis, negation, literal_by, cond_by, rank, steps, cond_within, parse_cond}
-use Rattle.text_parser.proofs.Tokens.{next_drop}
+use Rattle.text_parser.proofs.TokenPlaces.{next_drop}
 use Rattle.text_parser.proofs.PartFaults.{closed_same}
 use Rattle.text_parser.proofs.Within.{Within, bind_within, if_within, weaken, before_within, enter_within, change_within, then_wants_within, headed, bind_same, if_same, else_same, enter_same}
 use Rattle.text_parser.proofs.ExprSteps.{expr_read_short}

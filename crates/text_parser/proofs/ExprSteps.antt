@@ -10,7 +10,7 @@ use Rattle.text_parser.specs.Lexemes.{Lexeme, lexeme, heads, is_sum, is_terminal
 use Rattle.text_parser.specs.Parsed.{Parsed, ◌>>=◌, place_of, change, wants, then_wants}
 use Rattle.text_parser.specs.Actions.{ExprActions, enter}
 use Rattle.text_parser.specs.Exprs.{operator_at, ExprAim, sums, sums_after, products, products_after, factor, ExprParser, parenthesis, factor_by, expr_by, rank, steps, expr_within, parse_expr}
-use Rattle.text_parser.proofs.Tokens.{next_drop}
+use Rattle.text_parser.proofs.TokenPlaces.{next_drop}
 use Rattle.text_parser.proofs.PartFaults.{closed_same}
 use Rattle.text_parser.proofs.Within.{Within, bind_within, if_within, weaken, before_within, enter_within, change_within, then_wants_within, headed, bind_same, if_same, enter_same}
 

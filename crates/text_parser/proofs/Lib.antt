@@ -15,7 +15,7 @@ pub mod Symbols
 pub mod Words
 pub mod Numerals
 pub mod Parentheses
-pub mod Tokens
+pub mod TokenPlaces
 pub mod TerminalEquality
 pub mod Within
 pub mod ExprSteps

@@ -10,7 +10,7 @@ use Rattle.text_parser.specs.Parsed.{Parsed, ◌>>=◌, before, place_of, change
 use Rattle.text_parser.specs.Actions.{Actions, enter, enter_not}
 use Rattle.text_parser.specs.Conds.{parse_cond, disjunction}
 use Rattle.text_parser.specs.Terms.{TermAim, choice, choice_after, sequence, sequence_after, unit, TermParser, parenthesis, bracket, negation, unit_by, star_or_not, term_by, rank, steps, term_within, parse_term}
-use Rattle.text_parser.proofs.Tokens.{next_drop}
+use Rattle.text_parser.proofs.TokenPlaces.{next_drop}
 use Rattle.text_parser.proofs.PartFaults.{closed_same}
 use Rattle.text_parser.proofs.Within.{Within, bind_within, if_within, weaken, before_within, enter_within, change_within, then_wants_within, headed, bind_same, if_same, enter_same}
 use Rattle.text_parser.proofs.CondSteps.{cond_read_short}

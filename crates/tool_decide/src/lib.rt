@@ -1,4 +1,5 @@
-//! The replies of the commands that decide problems: `decide`, with or without a report, `batch` and `bench`.
+//! The replies of the commands that need the prover: `decide`, with or without a report, `batch` and `bench`; `outline`, notes
+//! that prove a triple of a program, found or checked; and `optimise`.
 #![tactic(auto)]
 
 mod batch;

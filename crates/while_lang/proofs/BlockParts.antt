@@ -12,7 +12,7 @@ use Rattle.text_parser.specs.declared.terminal.Separator.TheVariants.{Semicolon,
 use Rattle.text_parser.specs.Lexemes.{Lexeme, lexeme, heads, is_terminal}
 use Rattle.text_parser.specs.Parsed.{Parsed, ◌>>=◌, before, change, wants, place_of, Makes, Wants, Goes}
 use Rattle.text_parser.proofs.NamedFaults.{IsNamed, wants_named}
-use Rattle.text_parser.proofs.Tokens.{next_drop}
+use Rattle.text_parser.proofs.TokenPlaces.{next_drop}
 use Rattle.while_lang.specs.BlockActions.{BlockActions}
 use Rattle.while_lang.specs.Blocks.{enter, block, stmts_after, stmt_after, branch_after, cond_by, expr_by, then_semicolon, assign_by, named_by, loop_by, else_by, parse_block}
 use Rattle.while_lang.specs.Working.Appending.{Appends, EndsAfter}

@@ -1,5 +1,5 @@
 use Rattle.std.proofs.Common.{arith}
-use Rattle.text_parser.proofs.Tokens.{next_drop}
+use Rattle.text_parser.proofs.TokenPlaces.{next_drop}
 use Rattle.chain_proofs.proofs.ChainSteps.{whole_chain_step, lines_after_step}
 use Rattle.chain_proofs.proofs.walk.+chains.Goals as goal
 

@@ -1,6 +1,6 @@
 use Rattle.std.proofs.Common.{◌≡◌, ◌+◌, ◌<◌, length, drop, refl}
 use Rattle.text_parser.specs.Lexemes.{lexemes}
-use Rattle.text_parser.proofs.Tokens.{next_drop}
+use Rattle.text_parser.proofs.TokenPlaces.{next_drop}
 use Rattle.problem_file.specs.Items.{at_name}
 use Rattle.problem_file.proofs.ReadFaults.{made_ends, made_within}
 use Rattle.gkat_front.specs.Working.Declarations.{declare_by}

@@ -1,6 +1,6 @@
 use Rattle.std.proofs.Common.{◌<◌, length, drop, sym, arith, List}
 use Rattle.text_parser.specs.Lexemes.{Lexeme, lexemes}
-use Rattle.text_parser.proofs.Tokens.{next_drop}
+use Rattle.text_parser.proofs.TokenPlaces.{next_drop}
 use Rattle.problem_file.proofs.Lists.{names_go, drop_less, lexemes_length}
 use Rattle.gkat_front.specs.Working.Declarations.{declare_by}
 use Rattle.gkat_front.proofs.items.read_names.Goals as goal

@@ -4,7 +4,7 @@ use Rattle.text_parser.specs.Lexemes.{lexemes, is_terminal}
 use Rattle.text_parser.specs.Parsed.{Reads, wants, place_of}
 use Rattle.text_parser.proofs.NamedFaults.{wants_named}
 use Rattle.text_parser.proofs.PartFaults.{end_made, end_goes, memory_lacks}
-use Rattle.text_parser.proofs.Tokens.{next_drop}
+use Rattle.text_parser.proofs.TokenPlaces.{next_drop}
 use Rattle.while_lang.specs.Blocks.{enter}
 use Rattle.while_lang.proofs.BlockFaults.{enter_named, entered, part_fails, check_fails}
 use Rattle.gkat_front.specs.GkatWalks.{whole, guard_by, tested_by, round_by, unit_by, factor_by, product_by, parse_gkat}

@@ -4,7 +4,7 @@ use Rattle.text_parser.specs.declared.terminal.Separator.TheVariants.{Semicolon}
 use Rattle.text_parser.specs.Lexemes.{lexemes, is_terminal}
 use Rattle.text_parser.specs.Parsed.{wants}
 use Rattle.text_parser.proofs.NamedFaults.{wants_named}
-use Rattle.text_parser.proofs.Tokens.{next_drop}
+use Rattle.text_parser.proofs.TokenPlaces.{next_drop}
 use Rattle.problem_file.specs.Items.{triple_by, hyp_by}
 use Rattle.problem_file.specs.Working.Walks.{triple_of}
 use Rattle.problem_file.proofs.ReadFaults.{named_fault, read_fault, check_fault, fault_ends, made_ends, made_within}

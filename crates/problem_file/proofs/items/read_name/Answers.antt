@@ -1,6 +1,6 @@
 use Rattle.std.proofs.Common.{◌≡◌, ◌+◌, ◌<◌, drop, refl, length}
 use Rattle.text_parser.specs.Lexemes.{lexemes}
-use Rattle.text_parser.proofs.Tokens.{next_drop}
+use Rattle.text_parser.proofs.TokenPlaces.{next_drop}
 use Rattle.problem_file.specs.Items.{name_at, at_name}
 use Rattle.problem_file.proofs.NameWalks.{name_at_named}
 use Rattle.problem_file.proofs.ReadFaults.{named_fault, fault_ends, made_ends, made_within}

@@ -1,6 +1,6 @@
 use Rattle.std.proofs.Common.{◌≡◌, ◌+◌, ◌<◌, drop, refl, sym, length}
 use Rattle.text_parser.specs.Lexemes.{lexemes}
-use Rattle.text_parser.proofs.Tokens.{next_drop}
+use Rattle.text_parser.proofs.TokenPlaces.{next_drop}
 use Rattle.problem_file.specs.Items.{number_at, at_number}
 use Rattle.problem_file.proofs.NamedItems.{number_at_named}
 use Rattle.problem_file.proofs.ReadFaults.{named_fault, fault_ends, made_ends, made_within}

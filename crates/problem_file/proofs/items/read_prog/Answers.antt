@@ -1,6 +1,6 @@
 use Rattle.std.proofs.Common.{◌+◌, ◌<◌, ◌≤◌, drop, refl, length, arith}
 use Rattle.text_parser.specs.Lexemes.{lexemes}
-use Rattle.text_parser.proofs.Tokens.{next_drop}
+use Rattle.text_parser.proofs.TokenPlaces.{next_drop}
 use Rattle.problem_file.specs.Items.{name_at, block_by, prog_by}
 use Rattle.problem_file.specs.Numbers.{until}
 use Rattle.problem_file.specs.Working.Walks.{measured_of}

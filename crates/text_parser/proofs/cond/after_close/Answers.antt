@@ -1,6 +1,6 @@
 use Rattle.std.proofs.Common.{drop, arith}
 use Rattle.text_parser.specs.Lexemes.{lexemes}
-use Rattle.text_parser.proofs.Tokens.{next_drop}
+use Rattle.text_parser.proofs.TokenPlaces.{next_drop}
 use Rattle.text_parser.proofs.Parentheses.{inner_opened, inner_closed, other_passed}
 use Rattle.text_parser.proofs.cond.after_close.Goals as goal
 use Rattle.text_parser.proofs.cond.after_close.Goals.{then-is_round_open_at, else-is_round_open_at+then-is_round_close_at+else-open-eq0, else-is_round_open_at+else-is_round_close_at}

@@ -5,7 +5,7 @@ use Rattle.text_parser.specs.declared.terminal.Separator.TheVariants.{CurlyOpen}
 use Rattle.text_parser.specs.Lexemes.{lexemes, text_at, is_terminal}
 use Rattle.text_parser.specs.Parsed.{Reads, wants, place_of}
 use Rattle.text_parser.proofs.NamedFaults.{wants_named}
-use Rattle.text_parser.proofs.Tokens.{next_drop}
+use Rattle.text_parser.proofs.TokenPlaces.{next_drop}
 use Rattle.while_lang.specs.Blocks.{enter, block, stmts_after, stmt_after, branch_after, cond_by, loop_by, else_by, parse_block}
 use Rattle.while_lang.specs.Working.Appending.{Appends}
 use Rattle.while_lang.proofs.BlockSteps.{stmt_after_step}

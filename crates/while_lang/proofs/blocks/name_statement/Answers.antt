@@ -1,6 +1,6 @@
 use Rattle.std.proofs.Common.{◌+◌, drop, sym, subst}
 use Rattle.text_parser.specs.Lexemes.{lexemes}
-use Rattle.text_parser.proofs.Tokens.{next_drop}
+use Rattle.text_parser.proofs.TokenPlaces.{next_drop}
 use Rattle.while_lang.specs.Blocks.{named_by}
 use Rattle.while_lang.specs.Working.Appending.{Appends}
 use Rattle.while_lang.proofs.BlockParts.{named_assign, named_ended, ended_appends}
