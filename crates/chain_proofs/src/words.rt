@@ -18,7 +18,7 @@ pub(crate) fn is_word_at(toks: &[Token], i: usize, word: &str) -> bool
 }
 
 /// Returns the index after a token that must be this plain name.
-#[tactic(auto, using(text_parser::proofs::Tokens::next_drop))]
+#[tactic(auto, using(text_parser::proofs::TokenPlaces::next_drop))]
 pub(crate) fn expect_word(toks: &[Token], i: usize, word: &str) -> Result<usize, TextFault>
     ensures value { Wants (lexemes toks.now) result (wants_word word.now (drop i (lexemes toks.now))) }
     ensures goes { IfOk result (λ end. (end ≡ i + 1) × (i < length toks.now)) }

@@ -15,7 +15,7 @@ use text_parser::{
 };
 
 // Declares the name at an index, and returns the index after it.
-#[tactic(auto, using(text_parser::proofs::Tokens::next_drop))]
+#[tactic(auto, using(text_parser::proofs::TokenPlaces::next_drop))]
 fn read_name<R: GkatItemReading>(
     reading: &mut R,
     toks: &[Token],
@@ -31,7 +31,7 @@ fn read_name<R: GkatItemReading>(
 }
 
 // Declares names separated by commas.
-#[tactic(auto, using(text_parser::proofs::Tokens::next_drop))]
+#[tactic(auto, using(text_parser::proofs::TokenPlaces::next_drop))]
 fn read_names<R: GkatItemReading>(
     reading: &mut R,
     toks: &[Token],
@@ -96,7 +96,7 @@ fn read_equal<R: GkatItemReading>(
     reading.ask(at, left, right).and(Ok(end))
 }
 
-#[tactic(auto, using(text_parser::proofs::Tokens::next_drop))]
+#[tactic(auto, using(text_parser::proofs::TokenPlaces::next_drop))]
 fn read_item<R: GkatItemReading>(
     reading: &mut R,
     toks: &[Token],

@@ -44,7 +44,7 @@ fn tested<R: GkatReading>(
 
 // Reads an expression in parentheses.
 #[cycle(exprs)]
-#[tactic(auto, using(text_parser::proofs::Tokens::next_drop))]
+#[tactic(auto, using(text_parser::proofs::TokenPlaces::next_drop))]
 fn round<R: GkatReading>(
     reading: &R,
     toks: &[Token],
@@ -62,7 +62,7 @@ fn round<R: GkatReading>(
 }
 
 #[cycle(exprs)]
-#[tactic(auto, using(text_parser::proofs::Tokens::next_drop))]
+#[tactic(auto, using(text_parser::proofs::TokenPlaces::next_drop))]
 fn unit<R: GkatReading>(
     reading: &R,
     toks: &[Token],
@@ -87,7 +87,7 @@ fn unit<R: GkatReading>(
 
 // Reads a unit, or a loop over a unit.
 #[cycle(exprs)]
-#[tactic(auto, using(text_parser::proofs::Tokens::next_drop))]
+#[tactic(auto, using(text_parser::proofs::TokenPlaces::next_drop))]
 fn factor<R: GkatReading>(
     reading: &R,
     toks: &[Token],
@@ -107,7 +107,7 @@ fn factor<R: GkatReading>(
 
 // Reads factors separated by dots.
 #[cycle(exprs)]
-#[tactic(auto, using(crate::proofs::GkatSteps::gkat_step, text_parser::proofs::Tokens::next_drop))]
+#[tactic(auto, using(crate::proofs::GkatSteps::gkat_step, text_parser::proofs::TokenPlaces::next_drop))]
 fn product<R: GkatReading>(
     reading: &R,
     toks: &[Token],
@@ -133,7 +133,7 @@ fn product<R: GkatReading>(
 // `usize::MAX` after the last token), `TooDeep` at the token that exceeds `MAX_OPEN` open constructs, or the fault with
 // which the reading refuses a part.
 #[cycle(exprs)]
-#[tactic(auto, using(crate::proofs::GkatSteps::gkat_step, text_parser::proofs::Tokens::next_drop))]
+#[tactic(auto, using(crate::proofs::GkatSteps::gkat_step, text_parser::proofs::TokenPlaces::next_drop))]
 pub(crate) fn read_expr<R: GkatReading>(
     reading: &R,
     toks: &[Token],

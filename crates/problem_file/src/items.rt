@@ -35,7 +35,7 @@ fn read_name<R: ItemReading>(
 }
 
 // Declares names separated by commas, and returns the index after them.
-#[tactic(auto, using(text_parser::proofs::Tokens::next_drop))]
+#[tactic(auto, using(text_parser::proofs::TokenPlaces::next_drop))]
 fn read_names<R: ItemReading>(
     reading: &mut R,
     toks: &[Token],
@@ -114,7 +114,7 @@ fn program_at<R: ItemReading>(reading: &R, toks: &[Token], from: usize) -> Optio
 }
 
 // Measures a side of a goal: the name of a program, or a term.
-#[tactic(auto, using(text_parser::proofs::Tokens::next_drop))]
+#[tactic(auto, using(text_parser::proofs::TokenPlaces::next_drop))]
 fn side_at<R: ItemReading>(
     reading: &R,
     toks: &[Token],

@@ -20,7 +20,7 @@ fn put(out: &mut Vec<u8>, text: &[u8]) -> Result<(), NoMemory>
     Ok(())
 }
 
-#[tactic(auto, using(crate::proofs::ProgramPieces::cond_whole))]
+#[tactic(auto, using(crate::proofs::PrintedPieces::cond_whole))]
 fn put_cond(alloc: Global, out: &mut Vec<u8>, cond: &Cond, scope: &Scope) -> Result<(), NoMemory>
     ensures { OnOk result (out.new.items ≡ out.old.items ++ cond_text (name_of scope.now) (cond_tree cond.now)) }
 {
@@ -28,7 +28,7 @@ fn put_cond(alloc: Global, out: &mut Vec<u8>, cond: &Cond, scope: &Scope) -> Res
     put(out, &text)
 }
 
-#[tactic(auto, using(crate::proofs::ProgramPieces::expr_whole))]
+#[tactic(auto, using(crate::proofs::PrintedPieces::expr_whole))]
 fn put_expr(alloc: Global, out: &mut Vec<u8>, expr: &Expr, scope: &Scope) -> Result<(), NoMemory>
     ensures { OnOk result (out.new.items ≡ out.old.items ++ expr_text (name_of scope.now) (expr_tree expr.now)) }
 {
@@ -94,7 +94,7 @@ fn put_stmts(alloc: Global, out: &mut Vec<u8>, prog: &Prog, scope: &Scope) -> Re
 /// Returns the text of a program as a block: `{`, each statement after a blank, and ` }`. Statements are `skip;`,
 /// `abort;`, `assert c;`, the name of an action, `x := e;`, `if c BLOCK else BLOCK` and `while c BLOCK`; the second
 /// block is always written. Omits a number that has no name in the scope.
-#[tactic(auto, using(crate::proofs::ProgramPieces::block_printed))]
+#[tactic(auto, using(crate::proofs::PrintedPieces::block_printed))]
 pub fn print_prog(alloc: Global, prog: &Prog, scope: &Scope) -> Result<Vec<u8>, NoMemory>
     ensures { IfOk result (λ v. v.items ≡ spelled (block_pieces (name_of scope.now) prog.now [])) }
 {

@@ -22,7 +22,7 @@ use kat_model::Rel;
 // Returns the index after the parenthesis that matches one just before `from`, or the number of tokens if there is
 // none. Compares the text of a token with one symbol: `terminal_at`, which distinguishes all terminals, took four to
 // ten times as long.
-#[tactic(auto, using(crate::proofs::Parentheses::match_closed, crate::proofs::Tokens::next_drop))]
+#[tactic(auto, using(crate::proofs::Parentheses::match_closed, crate::proofs::TokenPlaces::next_drop))]
 fn after_close(toks: &[Token], from: usize) -> usize
     ensures { drop result (lexemes toks.now) ≡ after_close 0 (drop from (lexemes toks.now)) }
 {

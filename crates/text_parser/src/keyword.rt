@@ -33,7 +33,7 @@ fn is_program_word(text: &str) -> bool
 }
 
 /// Whether `text` is a keyword of the format, which cannot be declared as a name.
-#[tactic(auto, using(crate::proofs::Words::keyword_parts))]
+#[tactic(auto, using(crate::proofs::PrintedWords::keyword_parts))]
 pub fn is_keyword(text: &str) -> bool
     ensures { result ≡ is_keyword text.now }
 {

@@ -352,7 +352,7 @@ pub fn is_sum_at(toks: &[Token], i: usize) -> bool
 
 /// Returns the index after the token at `i`, which must be this terminal. Otherwise fails with `Syntax` at the place of
 /// that token, or at `usize::MAX` after the last token.
-#[tactic(auto, using(crate::proofs::Tokens::heads_wants, crate::proofs::Tokens::other_wants, crate::proofs::Tokens::next_drop))]
+#[tactic(auto, using(crate::proofs::TokenPlaces::heads_wants, crate::proofs::TokenPlaces::other_wants, crate::proofs::TokenPlaces::next_drop))]
 pub fn expect(toks: &[Token], i: usize, terminal: Terminal) -> Result<usize, TextFault>
     ensures value { Wants (lexemes toks.now) result (wants (is_terminal terminal) (drop i (lexemes toks.now))) }
     ensures goes { IfOk result (λ end. (end ≡ i + 1) × (i < length toks.now)) }
