@@ -1,7 +1,7 @@
-//! Problem files: tests, actions, variables, terms, programs, hypotheses and a goal, read from their text; and plain texts:
-//! the plainest text that asks a question, with tests `t0`, `t1`, .., actions `a0`, `a1`, .., hypotheses, and a goal
-//! `equal`; the same with other names; the plainest texts of goals about programs over variables `x0`, `x1`, ..; and the
-//! text of one program over variables of any names.
+//! Problem files: tests, actions, variables, terms, programs, hypotheses and a goal, read from their text; the texts of
+//! programs, printed; and plain texts: the plainest text that asks a question, with tests `t0`, `t1`, .., actions `a0`,
+//! `a1`, .., hypotheses, and a goal `equal`; the same with other names; the plainest texts of goals about programs over
+//! variables `x0`, `x1`, ..; and the text of one program over variables of any names.
 #![tactic(auto)]
 
 mod goal_limit;

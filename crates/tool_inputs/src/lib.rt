@@ -1,5 +1,5 @@
-//! The common steps of the replies of commands: reading a file, reading its text, and abstracting it. A step that
-//! cannot continue stops with a reply. The traits `TextCommand`, `FileCommand` and `PairCommand` give the replies to
+//! The common steps of the replies of commands: reading a file, reading its text, abstracting it, and reading evidence. A
+//! step that cannot continue stops with a reply. The traits `TextCommand`, `FileCommand` and `PairCommand` give the replies to
 //! bytes and to files from one method of a command.
 #![tactic(auto)]
 
