@@ -1,7 +1,6 @@
 -- How tests are collected with all their parts, the greatest first, and which tests a question names.
 use Rattle.std.proofs.Common.{◌≡◌, ◌<◌, ℕ, ◌⊎◌, inl, inr, ⊎_elim, true, List, [], ◌∷◌, ◌++◌, map, ◌↔◌, slice_get, Option, Some, None, refl, sym, ap, ◌∙◌, subst, arith, zero, suc, take, reverse}
 use Rattle.std.specs.List.{All, list_any}
-use Rattle.std.specs.Option.{option_to_list}
 use Rattle.std.specs.Ordering.{nat_cmp, eq_by_cmp}
 use Rattle.std.specs.Set.{IsUnion}
 use Rattle.std.specs.BTreeMap.{is_at}
@@ -19,7 +18,6 @@ use Rattle.term_nodes.specs.declared.TestNode.{TestNode}
 use Rattle.term_nodes.specs.Nodes.{test_parts}
 use Rattle.term_nodes.proofs.Parts.{IsTestOver-part}
 use Rattle.cert_checker.specs.NodeTables.{TableParts, AreTables, IsTest}
-use Rattle.cert_checker.specs.Targets.{AreEntries}
 use Rattle.cert_checker.specs.Cases.{AreAsked}
 
 -- ---- collecting tests
@@ -86,7 +84,7 @@ module _ (t : TableParts) (old pending rest next items : List ℕ) (k : ℕ) (no
 -- ---- extended sets
 
 -- an extended set has its old members and the added ones
-pub extended_has : (old added new : List ℕ) → IsUnion (eq_by_cmp nat_cmp) old added new → (k : ℕ) → Has new k ↔ (Has old k ⊎ Has added k)
+extended_has : (old added new : List ℕ) → IsUnion (eq_by_cmp nat_cmp) old added new → (k : ℕ) → Has new k ↔ (Has old k ⊎ Has added k)
 extended_has old added new e k = (
   (λ h. ⊎_elim (λ o. inl ((found old).0 o)) (λ a. inr ((found added).0 a)) (or_cases _ _ (sym (e k) ∙ (found new).1 h))),
   (λ h. (found new).0 (e k ∙ ⊎_elim (λ o. or_left _ _ ((found old).1 o)) (λ a. or_right _ _ ((found added).1 a)) h)),
@@ -101,33 +99,10 @@ extended_has old added new e k = (
 abbrev pub guards_of : List (ℕ × ℕ) → List ℕ
 guards_of es = map (λ e. e.1) es
 
-option_has : (o : Option ℕ) (k : ℕ) → Has (option_to_list o) k ↔ (o ≡ Some k)
-option_has None k = (absurd, none_some)
-  where
-    none_some : None ≡ Some k → Has [] k
-    none_some e = cc
-option_has (Some j) k = ((λ h. ⊎_elim (λ e. ap Some e) absurd h), (λ e. inl (same_Some j k e)))
-
--- extends an empty set by the test of the pair, if any, and by the guards of the targets
-module _ (own : Option ℕ) (left right : List (ℕ × ℕ)) (none first mid last : List ℕ) (empty : none ≡ []) (start : IsUnion (eq_by_cmp nat_cmp) none (option_to_list own) first) (one : IsUnion (eq_by_cmp nat_cmp) first (guards_of left) mid)
-    (two : IsUnion (eq_by_cmp nat_cmp) mid (guards_of right) last) where
-  -- the resulting set contains only tests of the tables
-  pub gathered_tests : (t : TableParts) → ((k : ℕ) → own ≡ Some k → IsTest t k) → AreEntries t left → AreEntries t right → (k : ℕ) → Has last k → IsTest t k
-  gathered_tests t is lefts rights k h = ⊎_elim (λ m. ⊎_elim before (guards left lefts) ((extended_has first (guards_of left) mid one k).0 m)) (guards right rights) ((extended_has mid (guards_of right) last two k).0 h)
-    where
-      before : Has first k → IsTest t k
-      before m = ⊎_elim (λ n. absurd (subst (λ l. Has l k) empty n)) (λ o. is k ((option_has own k).0 o)) ((extended_has none (option_to_list own) first start k).0 m)
-
-      guards : (es : List (ℕ × ℕ)) → AreEntries t es → Has (guards_of es) k → IsTest t k
-      guards es are m = let e = has_map (λ (e : ℕ × ℕ). e.1) es k m in subst (IsTest t) e.2 (are e.0 e.1).1
-
-  -- the resulting set contains every named test
-  pub gathered_all : (k : ℕ) → (own ≡ Some k) ⊎ ((e : ℕ × ℕ) × (Has left e ⊎ Has right e) × (e.1 ≡ k)) → Has last k
-  gathered_all k h =
-      ⊎_elim
-      (λ e. early k (inl ((extended_has none (option_to_list own) first start k).1 (inr ((option_has own k).1 e)))))
-      (λ m. subst (Has last) m.2 (⊎_elim (λ a. early m.0.1 (inr (map_has (λ (e : ℕ × ℕ). e.1) left m.0 a))) (λ b. (extended_has mid (guards_of right) last two m.0.1).1 (inr (map_has (λ (e : ℕ × ℕ). e.1) right m.0 b))) m.1))
-      h
-    where
-      early : (k : ℕ) → Has first k ⊎ Has (guards_of left) k → Has last k
-      early k g = (extended_has mid (guards_of right) last two k).1 (inl ((extended_has first (guards_of left) mid one k).1 g))
+-- a set that is extended by the guards of the entries
+pub guards_added : (old new : List ℕ) (es : List (ℕ × ℕ)) → IsUnion (eq_by_cmp nat_cmp) old (guards_of es) new → (k : ℕ) → Has new k ↔ (Has old k ⊎ ((e : ℕ × ℕ) × Has es e × (e.1 ≡ k)))
+guards_added old new es made k =
+    let has = extended_has old (guards_of es) new made k in (
+      (λ h. ⊎_elim inl (λ m. inr (has_map (λ (e : ℕ × ℕ). e.1) es k m)) (has.0 h)),
+      (λ h. has.1 (⊎_elim inl (λ w. inr (subst (Has (guards_of es)) w.2 (map_has (λ (e : ℕ × ℕ). e.1) es w.0 w.1))) h)),
+    )

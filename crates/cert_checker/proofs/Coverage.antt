@@ -34,30 +34,23 @@ module _ (ps : List NumberPair) where
           (λ k h set closed holds_all. subst (HoldsAll set) rights ((closed f.0 f.1).0 (subst (HoldsAll set) (sym lefts) holds_all)) k (right k h)),
         )
 
-    pub covered_brought : AreReached ps s.right.sure.items s.left.alone.items → AreReached ps s.left.sure.items s.right.alone.items → AreCovered ps universal s
-    covered_brought left right = inl (left, right)
+  -- the universal term, if there is one, is reached from both sets
+  module _ (universal : Option ℕ) (ks ls : List ℕ) where
+    pub both_none : ((u : ℕ) → universal ≡ Some u → ⊥) → (false ≡ true) ↔ IsReachedByBoth ps universal ks ls
+    both_none none = ((λ e. absurd (false≢true e)), (λ h. absurd (go universal refl h)))
+      where
+        go : (o : Option ℕ) → universal ≡ o → IsReachedByBoth ps o ks ls → ⊥
+        go None is h = h
+        go (Some u) is h = none u is
 
-    module _ (never : AreReached ps s.right.sure.items s.left.alone.items × AreReached ps s.left.sure.items s.right.alone.items → ⊥) where
-      by_both : (b : Bool) → (b ≡ true) ↔ IsReachedByBoth ps universal s.left.sure.items s.right.sure.items → (b ≡ true) ↔ AreCovered ps universal s
-      by_both b told = ((λ e. inr (told.0 e)), (λ h. ⊎_elim (λ m. absurd (never m)) told.1 h))
+    pub both_first : (u : ℕ) (a : Bool) → universal ≡ Some u → (a ≡ true) ↔ AreReached ps ks (u ∷ []) → a ≡ false → (false ≡ true) ↔ IsReachedByBoth ps universal ks ls
+    both_first u a is told off = (
+      (λ e. absurd (false≢true e)),
+      (λ h. absurd (false≢true (sym off ∙ told.1 (reached_one ks u (subst (λ (o : Option ℕ). IsReachedByBoth ps o ks ls) is h).0)))),
+    )
 
-      pub covered_none : ((u : ℕ) → universal ≡ Some u → ⊥) → (false ≡ true) ↔ AreCovered ps universal s
-      covered_none none = by_both false ((λ e. absurd (false≢true e)), (λ h. absurd (go universal refl h)))
-        where
-          go : (o : Option ℕ) → universal ≡ o → IsReachedByBoth ps o s.left.sure.items s.right.sure.items → ⊥
-          go None is h = h
-          go (Some u) is h = none u is
-
-      pub covered_first : (u : ℕ) (a : Bool) → universal ≡ Some u → (a ≡ true) ↔ AreReached ps s.left.sure.items (u ∷ []) → a ≡ false → (a ≡ true) ↔ AreCovered ps universal s
-      covered_first u a is told off =
-          by_both a (
-            (λ e. absurd (false≢true (sym off ∙ e))),
-            (λ h. told.1 (reached_one s.left.sure.items u (subst (λ (o : Option ℕ). IsReachedByBoth ps o s.left.sure.items s.right.sure.items) is h).0)),
-          )
-
-      pub covered_second : (u : ℕ) (a b : Bool) → universal ≡ Some u → (a ≡ true) ↔ AreReached ps s.left.sure.items (u ∷ []) → a ≡ true → (b ≡ true) ↔ AreReached ps s.right.sure.items (u ∷ []) → (b ≡ true) ↔ AreCovered ps universal s
-      covered_second u a b is told on told_too =
-          by_both b (
-            (λ e. subst (λ (o : Option ℕ). IsReachedByBoth ps o s.left.sure.items s.right.sure.items) (sym is) (one_reached s.left.sure.items u (told.0 on), one_reached s.right.sure.items u (told_too.0 e))),
-            (λ h. told_too.1 (reached_one s.right.sure.items u (subst (λ (o : Option ℕ). IsReachedByBoth ps o s.left.sure.items s.right.sure.items) is h).1)),
-          )
+    pub both_second : (u : ℕ) (a b : Bool) → universal ≡ Some u → (a ≡ true) ↔ AreReached ps ks (u ∷ []) → a ≡ true → (b ≡ true) ↔ AreReached ps ls (u ∷ []) → (b ≡ true) ↔ IsReachedByBoth ps universal ks ls
+    both_second u a b is told on told_too = (
+      (λ e. subst (λ (o : Option ℕ). IsReachedByBoth ps o ks ls) (sym is) (one_reached ks u (told.0 on), one_reached ls u (told_too.0 e))),
+      (λ h. told_too.1 (reached_one ls u (subst (λ (o : Option ℕ). IsReachedByBoth ps o ks ls) is h).1)),
+    )

@@ -92,21 +92,26 @@ module _ (kept hyps : List Kat) (i : ℕ) (x : Kat) (before : AreKept (map kat_t
     within = before.within;
   }
 
--- when the loop ends, the kept hypotheses are fewer
-pub fewer_at_end : (q p : ProblemParts) (kept hyps : List Kat) (i tests actions : ℕ) (left right : Kat) → AreKept (map kat_tree kept) (map kat_tree (drop i hyps)) (map kat_tree hyps) → length hyps ≤ i
-    → map kat_tree hyps ≡ q.hyps → tests ≡ q.tests → actions ≡ q.actions → kat_tree left ≡ q.left → kat_tree right ≡ q.right → p ≡ problem_parts tests actions kept left right → HasFewerHyps q p
-fewer_at_end q p kept hyps i tests actions left right keeps over all t a l r made = record {
-  hyps = map kat_tree kept;
-  is = made ∙ (λ j. record { tests = t j; actions = a j; hyps = map kat_tree kept; left = l j; right = r j });
-  longs = ap (λ (z : ProblemParts). filter is_long z.hyps) made ∙ done ∙ ap (filter is_long) all;
-  fewer = subst (IsSubset (map kat_tree kept)) all keeps.within;
-}
+-- when the loop ends, all long hypotheses are kept, and no others are
+pub kept_at_end : (all : List Term) (kept hyps : List Kat) (i : ℕ) → AreKept (map kat_tree kept) (map kat_tree (drop i hyps)) (map kat_tree hyps) → length hyps ≤ i → map kat_tree hyps ≡ all
+    → (filter is_long (map kat_tree kept) ≡ filter is_long all) × IsSubset (map kat_tree kept) all
+kept_at_end all kept hyps i keeps over same = (done ∙ ap (filter is_long) same, subst (IsSubset (map kat_tree kept)) same keeps.within)
   where
     done : filter is_long (map kat_tree kept) ≡ filter is_long (map kat_tree hyps)
     done =
         sym (append-nil (filter is_long (map kat_tree kept)))
         ∙ ap (λ l. filter is_long (map kat_tree kept) ++ filter is_long (map kat_tree l)) (sym (drop_all i hyps over))
         ∙ keeps.longs
+
+-- the problem with these hypotheses has fewer
+pub fewer_made : (q p : ProblemParts) (kept : List Kat) (tests actions : ℕ) (left right : Kat) → filter is_long (map kat_tree kept) ≡ filter is_long q.hyps → IsSubset (map kat_tree kept) q.hyps
+    → tests ≡ q.tests → actions ≡ q.actions → kat_tree left ≡ q.left → kat_tree right ≡ q.right → p ≡ problem_parts tests actions kept left right → HasFewerHyps q p
+fewer_made q p kept tests actions left right longs within t a l r made = record {
+  hyps = map kat_tree kept;
+  is = made ∙ (λ j. record { tests = t j; actions = a j; hyps = map kat_tree kept; left = l j; right = r j });
+  longs = ap (λ (z : ProblemParts). filter is_long z.hyps) made ∙ longs;
+  fewer = within;
+}
 
 -- what holds of a result holds of the value that it gives
 pub some_of_ok : {P E : Type 0} (r : Result P E) (A B : P → Type 0) → ((p : P) → A p → B p) → IfOk r A → IfSome (result_ok r) B

@@ -1,6 +1,6 @@
 -- How an index finds listed pairs.
 use Rattle.std.proofs.Common.{◌≡◌, ℕ, ◌+◌, ◌<◌, ⊎_elim, List, [], ◌∷◌, length, get_or, take, slice_get, refl, sym, ap, ◌∙◌, subst, Bool, true, false, nat_eq, ◌&&◌, Option, Some, None}
-use Rattle.std.specs.Option.{MatchOption}
+use Rattle.std.specs.Option.{MatchOption, option_map_or}
 use Rattle.std.specs.List.{ItemBy}
 use Rattle.std.specs.Cmp.Lexicographic.{pointwise}
 use Rattle.std.proofs.lemmas.Bool.{true≢false, false_from_ne_true, and_parts, and_from}
@@ -37,15 +37,26 @@ module _ (ps : List PairParts) (also : Bool) (known : List Truth) (ks ls : List 
   other_more places i low here before j h =
       ⊎_elim (before j) (λ m. ⊎_elim (λ e. subst IsOther e here) absurd m) (has_append (take i places) (get_or places i 0 ∷ []) j (subst (λ (l : List ℕ). Has l j) (take_more places i 0 low) h))
 
-  pub other_absent : (j : ℕ) → slice_get ps j ≡ None → IsOther j
-  other_absent j none p at = let f : None ≡ Some p = sym none ∙ at in absurd cc
+  -- whether the pair at the place counts and has these sets
+  abbrev pub is_found : ℕ → Bool
+  is_found j = option_map_or (λ (p : PairParts). does_count also known p && (pointwise nat_eq p.left ks && pointwise nat_eq p.right ls)) (slice_get ps j) false
 
-  pub other_pair : (j : ℕ) (q : PairParts) → slice_get ps j ≡ Some q → (does_count also known q && (pointwise nat_eq q.left ks && pointwise nat_eq q.right ls)) ≡ false → IsOther j
-  other_pair j q is off p at = subst (λ (r : PairParts). (does_count also known r && (pointwise nat_eq r.left ks && pointwise nat_eq r.right ls)) ≡ false) (same_Some q p (sym is ∙ at)) off
+  pub other_unfound : (j : ℕ) → is_found j ≡ false → IsOther j
+  other_unfound j off p at = sym (ap (λ (o : Option PairParts). option_map_or (λ (q : PairParts). does_count also known q && (pointwise nat_eq q.left ks && pointwise nat_eq q.right ls)) o false) at) ∙ off
 
-  pub one_listed : (j : ℕ) (p : PairParts) → slice_get ps j ≡ Some p → does_count also known p ≡ true → pointwise nat_eq p.left ks ≡ true → pointwise nat_eq p.right ls ≡ true → lists (counting also known ps) ks ls ≡ true
+  one_listed : (j : ℕ) (p : PairParts) → slice_get ps j ≡ Some p → does_count also known p ≡ true → pointwise nat_eq p.left ks ≡ true → pointwise nat_eq p.right ls ≡ true → lists (counting also known ps) ks ls ≡ true
   one_listed j p at on left right =
       any_has (λ (n : NumberPair). pointwise nat_eq n.left ks && pointwise nat_eq n.right ls) (counting also known ps) (only_sets p) (has_counting also known ps p (has_at ps j p at) on) (and_from (pointwise nat_eq p.left ks) (pointwise nat_eq p.right ls) left right)
+
+  pub found_listed : (j : ℕ) → is_found j ≡ true → lists (counting also known ps) ks ls ≡ true
+  found_listed j = go (slice_get ps j) refl
+    where
+      go : (o : Option PairParts) → slice_get ps j ≡ o → option_map_or (λ (p : PairParts). does_count also known p && (pointwise nat_eq p.left ks && pointwise nat_eq p.right ls)) o false ≡ true → lists (counting also known ps) ks ls ≡ true
+      go None at e = absurd (true≢false (sym e))
+      go (Some p) at e =
+          let parts = and_parts (does_count also known p) (pointwise nat_eq p.left ks && pointwise nat_eq p.right ls) e in
+          let sets = and_parts (pointwise nat_eq p.left ks) (pointwise nat_eq p.right ls) parts.1 in
+          one_listed j p at parts.0 sets.0 sets.1
 
   -- the search checked all places at which the pair can be listed
   pub none_listed : (x : IndexParts) (places : List ℕ) → AreIndexed x ps → ((j : ℕ) → Has (places_by x ks) j → Has (places_by x ls) j → Has places j) → ((j : ℕ) → Has places j → IsOther j) → lists (counting also known ps) ks ls ≡ false

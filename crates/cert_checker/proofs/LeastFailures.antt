@@ -1,5 +1,5 @@
 -- The least failure among the atoms that extend the decided tests, by cases on an additional test.
-use Rattle.std.proofs.Common.{◌≡◌, ℕ, zero, suc, ◌<◌, ◌⊎◌, inl, inr, ⊎_elim, List, [], ◌∷◌, length, set as slice_set, refl, sym, ap, ◌∙◌, subst, arith, Bool, true, false, Option, Some, None, Bor, IfSome}
+use Rattle.std.proofs.Common.{◌≡◌, ℕ, zero, suc, ◌<◌, ◌⊎◌, inl, inr, ⊎_elim, List, [], ◌∷◌, length, set as slice_set, refl, sym, ap, ◌∙◌, subst, arith, Bool, true, false, Option, Some, None, Bor, IfSome, MatchBool}
 use Rattle.std.proofs.lemmas.List.{set-set}
 use Rattle.std.specs.Option.{option_or, option_map, option_copied}
 use Rattle.std.specs.Ordering.{bool_cmp, is_le, is_some_and}
@@ -8,9 +8,6 @@ use Rattle.kat_model.specs.Steps.{Atom}
 use Rattle.cert_checker.specs.AtomOrder.{IsLess}
 use Rattle.cert_checker.specs.Cases.{Extends, IsOpen}
 use Rattle.cert_checker.specs.LeastFailures.{open_count, least_of, IsBelow, IsFirstFailure}
-use Rattle.cert_checker.specs.Working.Outcomes.{IsOutcome}
-use Rattle.cert_checker.specs.declared.matching.Outcome.{Outcome}
-use Rattle.cert_checker.specs.declared.matching.Outcome.TheVariants.{Undecided}
 
 -- ---- the order of atoms
 
@@ -26,7 +23,7 @@ less_or_not (true ∷ xs) (true ∷ ys) = less_or_not xs ys
 abbrev pub at_most : Atom → Atom → Bool
 at_most xs ys = is_some_and is_le (slice_partial_cmp (λ x y. Some (bool_cmp x y)) xs ys)
 
-pub at_most_not_less : (xs ys : Atom) → at_most xs ys ≡ true → IsLess ys xs → ⊥
+at_most_not_less : (xs ys : Atom) → at_most xs ys ≡ true → IsLess ys xs → ⊥
 at_most_not_less [] [] e h = h
 at_most_not_less [] (y ∷ ys) e h = h
 at_most_not_less (x ∷ xs) [] e h = h
@@ -35,7 +32,7 @@ at_most_not_less (false ∷ xs) (true ∷ ys) e h = h
 at_most_not_less (true ∷ xs) (false ∷ ys) e h = absurd cc
 at_most_not_less (true ∷ xs) (true ∷ ys) e h = at_most_not_less xs ys e h
 
-pub above_less : (xs ys : Atom) → length xs ≡ length ys → at_most xs ys ≡ false → IsLess ys xs
+above_less : (xs ys : Atom) → length xs ≡ length ys → at_most xs ys ≡ false → IsLess ys xs
 above_less [] [] l e = absurd cc
 above_less [] (y ∷ ys) l e = absurd cc
 above_less (x ∷ xs) [] l e = absurd (omega (arith, l))
@@ -43,6 +40,11 @@ above_less (false ∷ xs) (false ∷ ys) l e = above_less xs ys (omega (arith, l
 above_less (false ∷ xs) (true ∷ ys) l e = absurd cc
 above_less (true ∷ xs) (false ∷ ys) l e = tt
 above_less (true ∷ xs) (true ∷ ys) l e = above_less xs ys (omega (arith, l)) e
+
+-- whether a bound of the same length is at most the values
+pub past_by : (bound least : Atom) (r : Bool) → length bound ≡ length least → r ≡ at_most bound least → MatchBool r (IsLess least bound → ⊥) (IsLess least bound)
+past_by bound least true long e = at_most_not_less bound least (sym e)
+past_by bound least false long e = above_less bound least long (sym e)
 
 pub less_trans : (xs ys zs : Atom) → IsLess xs ys → IsLess ys zs → IsLess xs zs
 less_trans [] ys zs h k = absurd h
@@ -194,10 +196,6 @@ open_again (d ∷ ds) (suc k) undecided = ap (λ l. d ∷ l) (open_again ds k un
 pub restored : (ds low high : List (Option Bool)) (k : ℕ) → IsOpen ds k → low ≡ slice_set ds k (Some false) → high ≡ slice_set low k (Some true) → slice_set high k None ≡ ds
 restored ds low high k undecided e f =
     ap (λ l. slice_set l k None) (f ∙ ap (λ l. slice_set l k (Some true)) e ∙ set-set ds k (Some false) (Some true)) ∙ set-set ds k (Some true) None ∙ open_again ds k undecided
-
--- the undecided test of the outcome is open
-pub waits_open : (P : Atom → Type 0) (ds now : List (Option Bool)) (s : Outcome) (k : ℕ) → now ≡ ds → s ≡ Undecided k → IsOutcome P now s → IsOpen ds k
-waits_open P ds now s k e w told = subst (IsOutcome P ds) w (subst (λ l. IsOutcome P l s) e told)
 
 -- ---- the result of both halves of a search
 

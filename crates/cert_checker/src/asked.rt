@@ -1,8 +1,5 @@
 //! The tests that the answer to a question depends on. No other tests are evaluated.
 ghost use Rattle.std.specs.Prelude.{◌≡◌, ◌↔◌, ◌⊎◌, IfOk, OnOk, Some, ℕ};
-ghost use Rattle.std.specs.BTreeSet.{InsertsAll};
-ghost use Rattle.std.specs.List.{filter_map};
-ghost use Rattle.std.specs.Ordering.{nat_cmp};
 ghost use Rattle.kat_model.specs.Members.{Has, IsSubset};
 ghost use Rattle.term_nodes.specs.Nodes.{test_parts};
 ghost use Rattle.certificate.specs.PairParts.{PairParts};
@@ -49,11 +46,46 @@ pub(crate) fn with_parts(
     Ok(asked)
 }
 
-/// Adds the tests of the pairs.
-pub(crate) fn add_pair_tests(tests: &mut BTreeSet<usize>, pairs: &[Pair]) -> Result<(), NoMemory>
-    ensures { OnOk result (InsertsAll nat_cmp tests.old (filter_map (λ (r : PairParts). r.test) pairs.now) tests.new) }
+/// Adds the test, if there is one.
+pub(crate) fn add_test(tests: &mut BTreeSet<usize>, test: Option<usize>) -> Result<(), NoMemory>
+    ensures { OnOk result ((k : ℕ) → Has tests.new.keys k ↔ (Has tests.old.keys k ⊎ (test ≡ Some k))) }
 {
-    tests.extend(pairs.iter().filter_map(|pair| pair.test))?;
+    match test {
+        Some(test) => {
+            tests.insert(test)?;
+            Ok(())
+        }
+        None => Ok(()),
+    }
+}
+
+/// Adds the tests of the pairs.
+pub(crate) fn add_tests_of(tests: &mut BTreeSet<usize>, pairs: &[Pair]) -> Result<(), NoMemory>
+    ensures { OnOk result ((k : ℕ) → Has tests.new.keys k ↔ (Has tests.old.keys k ⊎ ((r : PairParts) × Has pairs.now r × (r.test ≡ Some k)))) }
+{
+    for pair in pairs {
+        add_test(tests, pair.test)?;
+    }
+    Ok(())
+}
+
+// Adds the tests that forbidden pairs name at the beginning of a move.
+fn add_begins(tests: &mut BTreeSet<usize>, forbidden: &[(usize, usize)]) -> Result<(), NoMemory>
+    ensures { OnOk result ((k : ℕ) → Has tests.new.keys k ↔ (Has tests.old.keys k ⊎ ((f : ℕ × ℕ) × Has forbidden.now f × (f.0 ≡ k)))) }
+{
+    for pair in forbidden {
+        tests.insert(pair.0)?;
+    }
+    Ok(())
+}
+
+// Adds the tests that forbidden pairs name at the end of a move.
+fn add_ends(tests: &mut BTreeSet<usize>, forbidden: &[(usize, usize)]) -> Result<(), NoMemory>
+    ensures { OnOk result ((k : ℕ) → Has tests.new.keys k ↔ (Has tests.old.keys k ⊎ ((f : ℕ × ℕ) × Has forbidden.now f × (f.1 ≡ k)))) }
+{
+    for pair in forbidden {
+        tests.insert(pair.1)?;
+    }
     Ok(())
 }
 
@@ -67,7 +99,7 @@ pub(crate) fn begin_tests(
     ensures named { IfOk result (λ v. (f : ℕ × ℕ) → Has forbidden.now f → Has v.items f.0) }
 {
     let mut tests = BTreeSet::new(tables.alloc());
-    tests.extend(forbidden.iter().map(|tests| tests.0))?;
+    add_begins(&mut tests, forbidden)?;
     with_parts(tables, tests)
 }
 
@@ -84,7 +116,7 @@ pub(crate) fn end_tests(
     ensures by_pairs { IfOk result (λ v. (r : PairParts) (k : ℕ) → Has pairs.now r → r.test ≡ Some k → Has v.items k) }
 {
     let mut tests = BTreeSet::new(tables.alloc());
-    tests.extend(forbidden.iter().map(|tests| tests.1))?;
-    add_pair_tests(&mut tests, pairs)?;
+    add_ends(&mut tests, forbidden)?;
+    add_tests_of(&mut tests, pairs)?;
     with_parts(tables, tests)
 }

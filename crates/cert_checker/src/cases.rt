@@ -1,8 +1,9 @@
 //! The least values of two atoms at which a question fails, by cases on tests, false first.
-ghost use Rattle.std.specs.Prelude.{◌≡◌, ◌+◌, length, IfOk, IfSome, OnOk};
+ghost use Rattle.std.specs.Prelude.{◌≡◌, ◌+◌, length, IfOk, IfSome, MatchBool, OnOk};
 ghost use Rattle.std.specs.Option.{option_map};
 ghost use Rattle.cert_checker.specs.LeastFailures.{least_of, IsBelow, IsFirstFailure};
 ghost use Rattle.cert_checker.specs.Questions.{IsPosed, MatchAt};
+ghost use Rattle.cert_checker.specs.Working.Outcomes.{IsOutcome};
 
 use crate::known::TestCase;
 use crate::matching::{Outcome, outcome_of};
@@ -16,6 +17,33 @@ fn least_values(alloc: Global, decided: &[Option<bool>]) -> Result<Vec<bool>, No
 {
     let values = decided.iter().map(|value| value.unwrap_or(false));
     Ok(values.collect(alloc)?)
+}
+
+// Whether no values that extend the decided tests are below the bound.
+fn are_past(
+    alloc: Global,
+    decided: &[Option<bool>],
+    bound: Option<&Vec<bool>>,
+) -> Result<bool, NoMemory>
+    requires { IfSome bound (λ b. length b.now.items ≡ length decided.now) }
+    ensures { IfOk result (λ past. MatchBool past (IsBelow (option_map (λ b. b.now.items) bound.entry) (least_of decided.now) → ⊥) (IsBelow (option_map (λ b. b.now.items) bound.entry) (least_of decided.now))) }
+{
+    let Some(bound) = bound else {
+        return Ok(false);
+    };
+    let least = least_values(alloc, decided)?;
+    Ok(*bound <= least)
+}
+
+// Returns what is known of the question in this case.
+fn outcome_in(question: &Question, case: &mut TestCase) -> Result<Outcome, NoMemory>
+    requires question { IsPosed question.now }
+    requires decided { length case.old.decided.items ≡ question.now.tables.width + question.now.tables.width }
+    ensures outcome { IfOk result (IsOutcome (MatchAt question.now.tables question.now) case.old.decided.items) }
+    ensures decided { case.new.decided ≡ case.old.decided }
+{
+    case.evaluate(question)?;
+    outcome_of(question, case)
 }
 
 /// Returns the least values of two atoms, those of the first atom followed by those of the second, that extend the
@@ -32,21 +60,19 @@ pub(crate) fn least_failure(
     ensures decided { OnOk result (case.new.decided.items ≡ case.old.decided.items) }
 {
     let alloc = question.tables.alloc();
-    if let Some(bound) = bound {
-        if *bound <= least_values(alloc, &case.decided)? {
-            return Ok(None);
-        }
+    let past = are_past(alloc, &case.decided, bound)?;
+    if past {
+        return Ok(None);
     }
-    case.evaluate(question)?;
-    let test = match outcome_of(question, case)? {
+    let test = match outcome_in(question, case)? {
         Outcome::Holds => return Ok(None),
         Outcome::Fails => return Ok(Some(least_values(alloc, &case.decided)?)),
         Outcome::Undecided(test) => test,
     };
-    case.decided[test] = Some(false);
+    case.decide(test, Some(false));
     let low = least_failure(question, case, bound)?;
-    case.decided[test] = Some(true);
+    case.decide(test, Some(true));
     let high = least_failure(question, case, low.as_ref().or(bound))?;
-    case.decided[test] = None;
+    case.decide(test, None);
     Ok(high.or(low))
 }

@@ -1,6 +1,8 @@
 //! The checker.
-ghost use Rattle.std.specs.Prelude.{◌≡◌, ◌↔◌, ◌<◌, ℕ, MatchOption, IfOk, IfSome};
-ghost use Rattle.kat_model.specs.Members.{Has};
+ghost use Rattle.std.specs.Prelude.{◌≡◌, ◌↔◌, ◌<◌, ℕ, filter, map, MatchOption, IfOk, IfSome};
+ghost use Rattle.kat_model.specs.Members.{Has, IsSubset};
+ghost use Rattle.kat_model.specs.Trees.{kat_tree};
+ghost use Rattle.kat_model.specs.Degrees.{is_long};
 ghost use Rattle.term_nodes.specs.declared.TestNode.TheVariants.{Prim};
 ghost use Rattle.term_nodes.specs.declared.TermNode.TheVariants.{Act};
 ghost use Rattle.certificate.specs.Accepted.{IsAccepted};
@@ -20,7 +22,7 @@ use crate::range::{action_out, test_out};
 use crate::relevant::asked_tests;
 use certificate::{Cert, Evidence, Style};
 use hypothesis_kinds::{asks_only, is_short};
-use kat_model::{Items, NoMemory, Problem};
+use kat_model::{Items, Kat, NoMemory, Problem};
 use std::alloc::Global;
 use string_tables::{Finding, verdict};
 
@@ -63,19 +65,29 @@ fn pairs_reason(alloc: Global, problem: &Problem, cert: &Cert) -> Result<Option<
     pass_reason(&mut pass, cert.style())
 }
 
+// Returns the long hypotheses and those short ones that depend, after each action or without one, only on these tests.
+// Which short ones are left out affects only speed.
+fn kept_hyps(alloc: Global, problem: &Problem, known: &[usize]) -> Result<Vec<Kat>, NoMemory>
+    ensures longs { IfOk result (λ v. filter is_long (map kat_tree v.items) ≡ filter is_long problem.now.hyps) }
+    ensures fewer { IfOk result (λ v. IsSubset (map kat_tree v.items) problem.now.hyps) }
+{
+    let mut hyps = Vec::new(alloc);
+    for hyp in problem.hyps() {
+        if !is_short(hyp) || asks_only(hyp, known, hyp.acts() == 0) {
+            hyps.push(hyp.copy(alloc)?)?;
+        }
+    }
+    Ok(hyps)
+}
+
 // Returns the problem with its long hypotheses and with those short ones that depend, after each action or without one,
-// only on tests that the tests of pairs name. Which short ones are left out affects only speed.
+// only on tests that the tests of pairs name.
 fn fewer_hyps(alloc: Global, problem: &Problem, cert: &Cert) -> Result<Option<Problem>, NoMemory>
     requires { (k : ℕ) → Has cert.now.test_nodes (Prim k) → k < problem.now.tests }
     ensures { IfOk result (λ o. IfSome o (HasFewerHyps problem.now)) }
 {
     let known = asked_tests(alloc, cert, problem.tests())?;
-    let mut hyps = Vec::new(alloc);
-    for hyp in problem.hyps() {
-        if !is_short(hyp) || asks_only(hyp, &known, hyp.acts() == 0) {
-            hyps.push(hyp.copy(alloc)?)?;
-        }
-    }
+    let hyps = kept_hyps(alloc, problem, &known)?;
     let left = problem.left().copy(alloc)?;
     let right = problem.right().copy(alloc)?;
     Ok(Problem::new(problem.tests(), problem.actions(), hyps, left, right).ok())

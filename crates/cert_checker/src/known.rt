@@ -1,6 +1,6 @@
 //! What is known of tests when some primitive tests of two atoms are decided (three-valued logic, Kleene 1938). The
 //! primitive tests of both atoms have numbers in one list: first those of the first atom, then those of the second.
-ghost use Rattle.std.specs.Prelude.{◌≡◌, ◌≤◌, ◌+◌, ℕ, length, IfOk, OnOk};
+ghost use Rattle.std.specs.Prelude.{◌≡◌, ◌<◌, ◌≤◌, ◌+◌, ℕ, length, slice_set, IfOk, OnOk};
 ghost use Rattle.kat_model.specs.Members.{Has};
 ghost use Rattle.term_nodes.specs.Nodes.{IsTestOver};
 ghost use Rattle.cert_checker.specs.NodeTables.{IsWithin};
@@ -144,6 +144,14 @@ impl TestCase {
             begin: Vec::new(alloc),
             end: Vec::new(alloc),
         })
+    }
+
+    /// Decides the test or, without a value, leaves it open.
+    pub fn decide(&mut self, test: usize, value: Option<bool>)
+        requires { test < length self.old.decided.items }
+        ensures { self.new.decided.items ≡ slice_set self.old.decided.items test value }
+    {
+        self.decided[test] = value;
     }
 
     /// Computes what is known of the tests that the question names, after making room for all tests.

@@ -1,12 +1,15 @@
 //! Whether the listed pairs match the sets that an action leads to, as far as the decided tests determine it.
-ghost use Rattle.std.specs.Prelude.{◌≡◌, ◌↔◌, ◌&&◌, false, None, IsTrue, IfOk};
+ghost use Rattle.std.specs.Prelude.{◌≡◌, ◌↔◌, ◌⊎◌, ◌&&◌, nat_eq, false, None, slice_get, IsTrue, IfOk};
+ghost use Rattle.std.specs.Cmp.Lexicographic.{pointwise};
 ghost use Rattle.std.specs.Option.{option_map_or};
 ghost use Rattle.kat_model.specs.Members.{IsSubset};
+ghost use Rattle.certificate.specs.PairParts.{PairParts};
 ghost use Rattle.cert_checker.specs.Questions.{IsPosed, IsTestCase, MatchAt};
 ghost use Rattle.cert_checker.specs.Sides.{AreTargetSides, is_sure as is_sure'};
 ghost use Rattle.cert_checker.specs.Moves.{IsMoveStatus};
 ghost use Rattle.cert_checker.specs.Working.Outcomes.{IsOutcome};
-ghost use Rattle.cert_checker.specs.Working.Matching.{lists, AreCovered, AreSurelyMatched};
+ghost use Rattle.cert_checker.specs.Working.Matching.{does_count, lists, AreCovered, AreSurelyMatched};
+ghost use Rattle.cert_checker.specs.Working.Reaching.{AreReached, IsReachedByBoth};
 ghost use Rattle.cert_checker.specs.Working.Rounds.{counting_in, IsIndexed};
 
 use crate::known::{TestCase, Truth};
@@ -15,7 +18,7 @@ use crate::question::Question;
 use crate::saturation::{Counted, counts, reaches};
 use crate::sides::{TargetSides, is_sure, side_of};
 use crate::waiting::{waiting_guard, waiting_pair};
-use certificate::Style;
+use certificate::{Pair, Style};
 use kat_model::NoMemory;
 
 /// What is known of a question at all values of two atoms that extend the decided tests.
@@ -28,6 +31,35 @@ pub(crate) enum Outcome {
     Undecided(usize),
 }
 
+// Whether the pair has exactly these terms as its sets.
+fn has_both(pair: &Pair, left: &[usize], right: &[usize]) -> bool
+    ensures { result ≡ (pointwise nat_eq pair.now.left left.now && pointwise nat_eq pair.now.right right.now) }
+{
+    pair.left.as_slice() == left && pair.right.as_slice() == right
+}
+
+// Whether the pair at the place counts and has exactly these terms as its sets.
+fn has_sets(counted: &Counted, place: usize, left: &[usize], right: &[usize]) -> bool
+    ensures { result ≡ option_map_or (λ (p : PairParts). does_count counted.now.also_open counted.now.known.now p && (pointwise nat_eq p.left left.now && pointwise nat_eq p.right right.now)) (slice_get counted.now.action_pass.now.pairs place) false }
+{
+    let action_pass = counted.action_pass;
+    let Some(pair) = action_pass.pairs.get(place) else {
+        return false;
+    };
+    counts(counted, pair) && has_both(pair, left, right)
+}
+
+// Returns the shorter of two lists of places.
+fn shorter<'a>(lefts: &'a [usize], rights: &'a [usize]) -> &'a [usize]
+    ensures { (result.now ≡ lefts.now) ⊎ (result.now ≡ rights.now) }
+{
+    if rights.len() < lefts.len() {
+        rights
+    } else {
+        lefts
+    }
+}
+
 // Whether some pair that counts has exactly the surely present terms as its sets. Looks only at pairs that the index
 // has under the last member of a set, of the two sets the one with fewer pairs, and compares these whole.
 fn are_listed(counted: &Counted, sides: &TargetSides) -> bool
@@ -38,22 +70,41 @@ fn are_listed(counted: &Counted, sides: &TargetSides) -> bool
     let (left, right) = (sides.left.sure.as_slice(), sides.right.sure.as_slice());
     let lefts = action_pass.index.places(left.last().copied());
     let rights = action_pass.index.places(right.last().copied());
-    let places = if rights.len() < lefts.len() {
-        rights
-    } else {
-        lefts
-    };
+    let places = shorter(lefts, rights);
     for place in places {
-        if let Some(pair) = action_pass.pairs.get(*place) {
-            if counts(counted, pair)
-                && pair.left.as_slice() == left
-                && pair.right.as_slice() == right
-            {
-                return true;
-            }
+        if has_sets(counted, *place, left, right) {
+            return true;
         }
     }
     false
+}
+
+// Whether the pairs that count make each open term reachable from the surely present terms of the other set.
+fn are_joined(counted: &Counted, sides: &TargetSides) -> Result<bool, NoMemory>
+    requires { IsIndexed counted.now }
+    ensures { IfOk result (λ b. IsTrue b ↔ (AreReached (counting_in counted.now) sides.now.right.sure.items sides.now.left.alone.items × AreReached (counting_in counted.now) sides.now.left.sure.items sides.now.right.alone.items)) }
+{
+    let left = reaches(counted, &sides.right.sure, &sides.left.alone)?;
+    if !left {
+        return Ok(false);
+    }
+    reaches(counted, &sides.left.sure, &sides.right.alone)
+}
+
+// Whether there is a universal term, and the pairs that count make it reachable from both sets.
+fn reach_universal(counted: &Counted, sides: &TargetSides) -> Result<bool, NoMemory>
+    requires { IsIndexed counted.now }
+    ensures { IfOk result (λ b. IsTrue b ↔ IsReachedByBoth (counting_in counted.now) counted.now.action_pass.now.universal sides.now.left.sure.items sides.now.right.sure.items) }
+{
+    let action_pass = counted.action_pass;
+    let Some(term) = action_pass.universal else {
+        return Ok(false);
+    };
+    let left = reaches(counted, &sides.left.sure, &[term])?;
+    if !left {
+        return Ok(false);
+    }
+    reaches(counted, &sides.right.sure, &[term])
 }
 
 // Whether the pairs that count make each open term reachable from the surely present terms of the other set, or the
@@ -67,19 +118,11 @@ fn are_covered(counted: &Counted, sides: &TargetSides) -> Result<bool, NoMemory>
     if are_listed(counted, sides) {
         return Ok(true);
     }
-    if reaches(counted, &sides.right.sure, &sides.left.alone)?
-        && reaches(counted, &sides.left.sure, &sides.right.alone)?
-    {
+    let joined = are_joined(counted, sides)?;
+    if joined {
         return Ok(true);
     }
-    let action_pass = counted.action_pass;
-    let Some(term) = action_pass.universal else {
-        return Ok(false);
-    };
-    Ok(
-        reaches(counted, &sides.left.sure, &[term])?
-            && reaches(counted, &sides.right.sure, &[term])?,
-    )
+    reach_universal(counted, sides)
 }
 
 // Whether the pairs that count surely match the sets.

@@ -1,5 +1,5 @@
 //! The first place at which the pairs of a certificate fail.
-ghost use Rattle.std.specs.Prelude.{◌≡◌, ◌<◌, ◌+◌, IfOk, OnOk};
+ghost use Rattle.std.specs.Prelude.{◌≡◌, ◌<◌, ◌≤◌, ◌+◌, length, take, drop, IfOk, OnOk};
 ghost use Rattle.std.specs.Option.{option_map};
 ghost use Rattle.kat_model.specs.Members.{Has};
 ghost use Rattle.cert_checker.specs.Cases.{undecided};
@@ -14,6 +14,7 @@ use crate::pass::Pass;
 use crate::question::{ActionPass, Question};
 use certificate::Pair;
 use kat_model::NoMemory;
+use std::alloc::Global;
 
 /// A pair and an atom at which the pair fails: without an action, its sets do not accept alike; with an action, the
 /// sets that the action leads to are not matched at the atom after it. Places are ordered by pair, atom, action and the
@@ -59,6 +60,52 @@ fn pair_failure(
     least_failure(&question, case, None)
 }
 
+// Returns the place of a pair that fails at these values of two atoms. The first atom has `width` values.
+fn place_of(
+    alloc: Global,
+    width: usize,
+    pair: usize,
+    action: Option<usize>,
+    values: &[bool],
+) -> Result<Place, NoMemory>
+    requires { width ≤ length values.now }
+    ensures { IfOk result (λ p. (p.pair ≡ pair) × (p.action ≡ action) × (p.atom.items ≡ take width values.now) × (p.to.items ≡ drop width values.now)) }
+{
+    let (first, second) = values.split_at(width);
+    let atom = first.to_vec(alloc)?;
+    let to = second.to_vec(alloc)?;
+    Ok(Place {
+        pair,
+        atom,
+        action,
+        to,
+    })
+}
+
+// Returns the first pair that fails in the pass, with its least atoms.
+fn failure_in(
+    pass: &mut Pass,
+    action_pass: &ActionPass,
+    case: &mut TestCase,
+) -> Result<Option<Place>, NoMemory>
+    requires pass { IsPass pass.old }
+    requires action_pass { IsActionPass pass.old action_pass.now }
+    requires action { turn_number action_pass.now.action < pass.old.problem.actions + 1 }
+    requires undecided { case.old.decided.items ≡ undecided (pass.old.tables.width + pass.old.tables.width) }
+    ensures first { IfOk result (λ o. IsFirstOf pass.old.problem pass.old.cert (λ n. n ≡ turn_number action_pass.now.action) (option_map (place_reason pass.old.cert.style) o)) }
+    ensures grows { PassGrows pass.old pass.new }
+{
+    let (alloc, width) = (pass.tables.alloc(), pass.tables.width());
+    let cert = pass.cert;
+    for (pair, sets) in cert.pairs().iter().enumerate() {
+        if let Some(values) = pair_failure(pass, action_pass, case, sets)? {
+            let place = place_of(alloc, width, pair, action_pass.action, &values)?;
+            return Ok(Some(place));
+        }
+    }
+    Ok(None)
+}
+
 // Returns the first pair that fails by its outputs or by the action, with its least atom.
 fn first_failure(pass: &mut Pass, action: Option<usize>) -> Result<Option<Place>, NoMemory>
     requires pass { IsPass pass.old }
@@ -67,21 +114,9 @@ fn first_failure(pass: &mut Pass, action: Option<usize>) -> Result<Option<Place>
     ensures grows { PassGrows pass.old pass.new }
 {
     let (alloc, width) = (pass.tables.alloc(), pass.tables.width());
-    let cert = pass.cert;
     let action_pass = pass.action_pass(action)?;
     let mut case = TestCase::new(alloc, width)?;
-    for (pair, sets) in cert.pairs().iter().enumerate() {
-        if let Some(values) = pair_failure(pass, &action_pass, &mut case, sets)? {
-            let (first, second) = values.split_at(width);
-            return Ok(Some(Place {
-                pair,
-                atom: first.to_vec(alloc)?,
-                action,
-                to: second.to_vec(alloc)?,
-            }));
-        }
-    }
-    Ok(None)
+    failure_in(pass, &action_pass, &mut case)
 }
 
 /// Returns the first place at which the pairs fail. Checks outputs and each action separately.

@@ -1,5 +1,11 @@
 //! The conditions on pairs.
-use crate::asked::with_parts;
+ghost use Rattle.std.specs.Prelude.{◌≡◌, ◌↔◌, ◌⊎◌, Some, IfOk, OnOk, ℕ};
+ghost use Rattle.kat_model.specs.Members.{Has};
+ghost use Rattle.cert_checker.specs.NodeTables.{IsTest};
+ghost use Rattle.cert_checker.specs.Cases.{AreAsked};
+ghost use Rattle.cert_checker.specs.Targets.{AreEntries};
+
+use crate::asked::{add_test, with_parts};
 use crate::derivatives::Targets;
 use crate::index::PairIndex;
 use crate::tables::Tables;
@@ -88,6 +94,33 @@ impl<'a> Model for Question<'a> {
     ghost view = { λ q. record { tables = q.tables.now; action_pass = q.action_pass.now; pair_test = q.pair_test; left = q.left.entries; right = q.right.entries; asked = q.asked.items } };
 }
 
+// Adds the guards of the targets.
+fn add_guards(tests: &mut BTreeSet<usize>, targets: &Targets) -> Result<(), NoMemory>
+    ensures { OnOk result ((k : ℕ) → Has tests.new.keys k ↔ (Has tests.old.keys k ⊎ ((e : ℕ × ℕ) × Has targets.now.entries e × (e.1 ≡ k)))) }
+{
+    Ok(tests.extend(targets.values())?)
+}
+
+// Returns the test of the pair and the tests that the targets name, with their parts.
+fn named_tests(
+    tables: &Tables,
+    pair_test: Option<usize>,
+    left: &Targets,
+    right: &Targets,
+) -> Result<Vec<usize>, NoMemory>
+    requires pair_test { (k : ℕ) → pair_test ≡ Some k → IsTest tables.now k }
+    requires left { AreEntries tables.now left.now.entries }
+    requires right { AreEntries tables.now right.now.entries }
+    ensures asked { IfOk result (λ v. AreAsked tables.now v.items) }
+    ensures named { IfOk result (λ v. (k : ℕ) → (pair_test ≡ Some k) ⊎ ((e : ℕ × ℕ) × (Has left.now.entries e ⊎ Has right.now.entries e) × (e.1 ≡ k)) → Has v.items k) }
+{
+    let mut named = BTreeSet::new(tables.alloc());
+    add_test(&mut named, pair_test)?;
+    add_guards(&mut named, left)?;
+    add_guards(&mut named, right)?;
+    with_parts(tables, named)
+}
+
 impl<'a> Question<'a> {
     ghost use Rattle.std.specs.Prelude.{◌≡◌, ℕ, IfOk};
     ghost use Rattle.cert_checker.specs.NodeTables.{IsTest};
@@ -108,17 +141,14 @@ impl<'a> Question<'a> {
         ensures question { IfOk result (IsAskedOf tables.now action_pass.now pair_test left.entries right.entries) }
         ensures named { IfOk result (λ q. AreNamed tables.now q q.asked) }
     {
-        let mut named = BTreeSet::new(tables.alloc());
-        named.extend(pair_test)?;
-        named.extend(left.values())?;
-        named.extend(right.values())?;
+        let asked = named_tests(tables, pair_test, &left, &right)?;
         Ok(Question {
             tables,
             action_pass,
             pair_test,
             left,
             right,
-            asked: with_parts(tables, named)?,
+            asked,
         })
     }
 }

@@ -3,7 +3,7 @@
 ghost use Rattle.std.specs.Prelude.{◌≡◌};
 ghost use Rattle.cert_checker.specs.NodeTables.{ArePrimsBelow, tables_of};
 
-use crate::asked::{add_pair_tests, with_parts};
+use crate::asked::{add_tests_of, with_parts};
 use crate::tables::Tables;
 use certificate::{Cert, TestNode};
 use kat_model::NoMemory;
@@ -26,7 +26,7 @@ fn asked_prims(tables: &Tables, cert: &Cert) -> Result<Vec<usize>, NoMemory>
     requires { tables.now ≡ tables_of tables.now.width cert.now }
 {
     let mut tests = BTreeSet::new(tables.alloc());
-    add_pair_tests(&mut tests, cert.pairs())?;
+    add_tests_of(&mut tests, cert.pairs())?;
     let asked = with_parts(tables, tests)?;
     prims_among(tables.alloc(), cert.test_nodes(), &asked)
 }

@@ -1,40 +1,16 @@
-use Rattle.std.proofs.Common.{List, map, not, refl, sym, ap, ◌∙◌, subst, arith, add-one}
+use Rattle.std.proofs.Common.{sym, ◌∙◌, subst}
 use Rattle.std.specs.Option.{IfSome}
-use Rattle.kat_model.specs.declared.tree.Kat.{Kat}
-use Rattle.kat_model.specs.Trees.{kat_tree}
 use Rattle.cert_checker.specs.Working.Relevant.{HasFewerHyps}
-use Rattle.cert_checker.proofs.FewerHyps.{AreKept, kept_more, kept_same, fewer_at_end, some_of_ok}
+use Rattle.cert_checker.proofs.FewerHyps.{fewer_made, some_of_ok}
 use Rattle.cert_checker.proofs.checking.fewer_hyps.Goals as goal
-use Rattle.cert_checker.proofs.checking.fewer_hyps.Goals.{then-not-is_short+in_ok-copy+in_ok-push, else-not-is_short+else-asks_only}
-
-pub loop-hyp-preserved : goal.loop-hyp-preserved
-loop-hyp-preserved c =
-    let kept = c.loop-hyp.hyps.items in
-    let items = c.hyps-hyp-items.result.now in
-    let i = c.loop-hyp.hyp-index in
-    let x = c.hyp-item.result in
-    elim c.if-not-is_short.branch [
-      | then-not-is_short+in_ok-copy+in_ok-push w ↦
-          rw (add-one, w.hyps-is, w.in_ok-push.ensures.items)
-          (kept_more kept items i x c.loop-hyp.invariant (omega arith) c.hyp-item.is w.in_ok-copy.field-0 w.in_ok-copy.ensures)
-      | else-not-is_short+else-asks_only w ↦
-          rw (add-one, w.hyps-is)
-          (kept_same kept items i x c.loop-hyp.invariant (omega arith) c.hyp-item.is (ap not (sym c.is_short.ensures ∙ w.if-not-is_short.false)))
-    ]
-
-pub loop-hyp-init : goal.loop-hyp-init
-loop-hyp-init c =
-    let all = map kat_tree c.hyps-hyp-items.result.now in
-    subst (λ (l : List Kat). AreKept (map kat_tree l) all all) (sym c.new-hyps.ensures.items) (record { longs = refl; within = λ h m. absurd m })
 
 pub returns : goal.returns
 returns c =
     let q = c.args.problem.now in
-    let kept = c.loop-hyp.hyps.items in
-    let items = c.hyps-hyp-items.result.now in
     let left = c.in_ok-left.left in
     let right = c.in_ok-right.right in
+    let kept = c.in_ok-hyps.ensures in
     subst (λ o. IfSome o (HasFewerHyps q)) (sym c.ok.ensures.value)
     (some_of_ok c.new.result _ _
-    (λ p made. fewer_at_end q p kept items c.loop-hyp.hyp-index c.tests-2.result c.actions.result left right c.loop-hyp.invariant c.loop-hyp-test.false c.hyps-hyp-items.ensures.value c.tests-2.ensures.value c.actions.ensures.value (c.in_ok-left.ensures ∙ c.left.ensures.value) (c.in_ok-right.ensures ∙ c.right.ensures.value) made)
+    (λ p made. fewer_made q p c.in_ok-hyps.hyps.items c.tests-2.result c.actions.result left right kept.longs kept.fewer c.tests-2.ensures.value c.actions.ensures.value (c.in_ok-left.ensures ∙ c.left.ensures.value) (c.in_ok-right.ensures ∙ c.right.ensures.value) made)
     c.new.ensures.made)

@@ -5,7 +5,6 @@ use Rattle.certificate.specs.declared.nodes.Style.TheVariants.{Plain, UpTo, Unde
 use Rattle.certificate.specs.Certs.{HasItsTest}
 use Rattle.certificate.specs.PairParts.{PairParts}
 use Rattle.cert_checker.specs.NodeTables.{TableParts, IsTest}
-use Rattle.cert_checker.proofs.NamedTests.{named_by_pairs}
 use Rattle.cert_checker.proofs.relevant.asked_prims.Goals as goal
 
 -- the test of a pair is a test node
@@ -22,4 +21,4 @@ with_parts-requires c =
     (⊎_elim
     (λ was. absurd (subst (λ (l : List ℕ). Has l k) c.new-tests.ensures.empty was))
     (λ m. test_below cert.style (length cert.test_nodes) m.0.test (c.pairs.ensures.rules.pairs m.0 (subst (λ (l : List PairParts). Has l m.0) c.pairs.ensures.value m.1)).test k m.2)
-    (named_by_pairs c.new-tests.result c.add_pair_tests.new.tests c.pairs.result.now c.in_ok-add_pair_tests.ensures k h))
+    ((c.in_ok-add_tests_of.ensures k).0 h))
