@@ -63,7 +63,7 @@ listed_next all ks rest new k up before inserted =
 
 -- ---- lists mapped element by element
 
-pub mapped_next : {Y : Type 0} (f : ℕ → Y) (ids : List ℕ) (i x : ℕ) (y : Y) (ys new all : List Y) → i < length ids → x ≡ get_or ids i x → y ≡ f x → new ≡ ys ++ y ∷ [] → ys ++ map f (drop i ids) ≡ all → new ++ map f (drop (i + 1) ids) ≡ all
+pub mapped_next : {X Y : Type 0} (f : X → Y) (ids : List X) (i : ℕ) (x : X) (y : Y) (ys new all : List Y) → i < length ids → x ≡ get_or ids i x → y ≡ f x → new ≡ ys ++ y ∷ [] → ys ++ map f (drop i ids) ≡ all → new ++ map f (drop (i + 1) ids) ≡ all
 mapped_next f ids i x y ys new all lt is own pushed before =
     ap (λ l. l ++ map f (drop (i + 1) ids)) pushed
     ∙ append_assoc ys (y ∷ []) (map f (drop (i + 1) ids))

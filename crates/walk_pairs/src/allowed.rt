@@ -11,7 +11,7 @@ ghost use Rattle.walk_pairs.specs.Allowance.{action_count, IsAllowance, IsWithin
 use crate::asking::bars_of;
 use crate::bars::Bars;
 use crate::outputs::true_atom;
-use kat_model::NoMemory;
+use kat_model::{NoMemory, append};
 use partial_derivs::Derivatives;
 use std::alloc::Global;
 use term_store::{Store, TermId};
@@ -65,7 +65,7 @@ impl AllowedMoves {
         let mut list = Vec::new(alloc);
         for act in 0..actions {
             let bars = bars_of(alloc, store, diagrams, derivatives, &steps.moves, act)?;
-            list.push(bars)?;
+            append(&mut list, bars)?;
         }
         Ok(AllowedMoves {
             allowed,

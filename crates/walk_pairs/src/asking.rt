@@ -11,7 +11,7 @@ ghost use Rattle.walk_pairs.specs.Bars.{AreSoundBars};
 ghost use Rattle.walk_pairs.specs.Working.Asking.{IsUnaskedTest, Asks, AreFreshTests, IsBarOf, AreBarsOf};
 
 use crate::bars::{Bar, Bars, depends_on};
-use kat_model::NoMemory;
+use kat_model::{NoMemory, append};
 use partial_derivs::{Derivatives, Guarded};
 use std::alloc::Global;
 use term_store::{Store, TermId};
@@ -128,7 +128,7 @@ fn moves_by(alloc: Global, moves: &[Guarded], act: usize) -> Result<Vec<Guarded>
     let mut own = Vec::new(alloc);
     for guarded in moves {
         if guarded.act == act {
-            own.push(*guarded)?;
+            append(&mut own, *guarded)?;
         }
     }
     Ok(own)
@@ -155,7 +155,7 @@ fn collected_bars(
     let mut bars = Vec::new(alloc);
     for guarded in moves {
         let bar = bar_of(alloc, store, diagrams, derivatives, guarded, asked)?;
-        bars.push(bar)?;
+        append(&mut bars, bar)?;
     }
     let unasked = unasked_tests(alloc, asked)?;
     Ok(Bars::new(alloc, bars, unasked))

@@ -12,7 +12,7 @@ ghost use Rattle.term_nodes.specs.declared.TermNode.{TermNode};
 use crate::needed::{Terms, Tests, needed_terms, needed_tests};
 use crate::pair::StoredPair;
 use certificate::{Cert, Pair, Style, TermNode, TestNode};
-use kat_model::{Items, NoMemory};
+use kat_model::{Items, NoMemory, append};
 use std::alloc::Global;
 use term_store::{Shape, Store, TermId, TestId, TestShape};
 
@@ -72,7 +72,7 @@ fn test_nodes(alloc: Global, store: &Store, tests: &Tests) -> Result<Vec<TestNod
     let mut nodes = Vec::new(alloc);
     let ids = tests.as_slice();
     for test in ids {
-        nodes.push(test_node(tests, store.test_shape(*test)))?;
+        append(&mut nodes, test_node(tests, store.test_shape(*test)))?;
     }
     Ok(nodes)
 }
@@ -91,7 +91,7 @@ fn term_nodes(
     let mut nodes = Vec::new(alloc);
     let ids = terms.as_slice();
     for term in ids {
-        nodes.push(term_node(tests, terms, store.shape(*term)))?;
+        append(&mut nodes, term_node(tests, terms, store.shape(*term)))?;
     }
     Ok(nodes)
 }
@@ -134,7 +134,7 @@ fn number_pairs(
         let left = numbers(alloc, terms, pair.left.as_slice())?;
         let right = numbers(alloc, terms, pair.right.as_slice())?;
         let test = pair_test_number(tests, pair.test);
-        list.push(Pair { left, right, test })?;
+        append(&mut list, Pair { left, right, test })?;
     }
     Ok(list)
 }

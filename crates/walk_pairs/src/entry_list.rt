@@ -15,9 +15,15 @@ use term_store::TermId;
 const KEYS: usize = 4_096;
 
 // Places of pairs.
-#[derive(Drop)]
 struct PlaceList {
     places: Vec<usize>,
+}
+
+// Explicit, so that it is proved once and not at each end of each function that owns one.
+impl Drop for PlaceList {
+    fn drop(self) {
+        let PlaceList { places: _places } = self;
+    }
 }
 
 impl Model for PlaceList {

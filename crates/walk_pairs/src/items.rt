@@ -7,7 +7,7 @@ ghost use Rattle.test_diagrams.specs.Reduced.{IsReduced};
 ghost use Rattle.walk_pairs.specs.Items.{guard_of, guard_beyond, with_guard as with_guard', opposite_of, item_in, AddsMoves, AddsTargets, AreKeyed, items_in, AreItemsOf, AreLedTo};
 ghost use Rattle.walk_pairs.specs.Items.{AreEnds};
 
-use kat_model::NoMemory;
+use kat_model::{NoMemory, append};
 use partial_derivs::Guarded;
 use std::alloc::Global;
 use std::collections::BTreeMap;
@@ -129,7 +129,7 @@ fn item_list(alloc: Global, items: &ByTarget) -> Result<Vec<Item>, NoMemory>
 {
     let mut list = Vec::new(alloc);
     for (_, item) in items.iter() {
-        list.push(*item)?;
+        append(&mut list, *item)?;
     }
     Ok(list)
 }

@@ -11,7 +11,7 @@ use crate::entry::Entry;
 use crate::entry_list::EntryList;
 use crate::outputs::and_not;
 use crate::reaching::{mark_all, reached_at, saturate};
-use kat_model::NoMemory;
+use kat_model::{NoMemory, append};
 use std::alloc::Global;
 use term_store::TermId;
 use test_diagrams::{DiagramId, Diagrams};
@@ -100,7 +100,7 @@ fn add_alike(
         return Ok(());
     }
     let copy = entry.copy(alloc)?;
-    list.push(copy)?;
+    append(list, copy)?;
     Ok(())
 }
 

@@ -12,7 +12,7 @@ use crate::entry_list::EntryList;
 use crate::listing::{alike_entries, has_sets};
 use crate::pair::StoredPair;
 use crate::test_table::TestTable;
-use kat_model::{Items, NoMemory};
+use kat_model::{Items, NoMemory, append};
 use std::alloc::Global;
 use term_store::{Store, TermId, TestId};
 use test_diagrams::{DiagramId, Diagrams};
@@ -155,7 +155,7 @@ pub fn merged_pairs(
     for (place, entry) in all.iter().enumerate() {
         if !has_earlier(entries, place, entry) {
             let pair = merged_pair(alloc, store, diagrams, &mut table, entries, entry)?;
-            pairs.push(pair)?;
+            append(&mut pairs, pair)?;
         }
     }
     Ok(pairs)

@@ -3,7 +3,7 @@
 ghost use Rattle.std.specs.Prelude.{◌≡◌, ◌<◌, ◌↔◌, ℕ, IfOk, map};
 ghost use Rattle.kat_model.specs.Members.{Has};
 
-use kat_model::NoMemory;
+use kat_model::{NoMemory, append};
 use partial_derivs::Guarded;
 use std::alloc::Global;
 
@@ -24,7 +24,7 @@ fn action_counts(
     let mut list = Vec::new(alloc);
     for act in 0..actions {
         let count = count_of(left, act).saturating_add(count_of(right, act));
-        list.push((count, act))?;
+        append(&mut list, (count, act))?;
     }
     Ok(list)
 }

@@ -13,7 +13,7 @@ ghost use Rattle.walk_pairs.specs.Parts.{with_if, IsRegionWhere, IsPart, ArePart
 
 use crate::items::Item;
 use crate::outputs::{and_not, difference};
-use kat_model::NoMemory;
+use kat_model::{NoMemory, append};
 use std::alloc::Global;
 use term_store::TermId;
 use test_diagrams::{DiagramId, Diagrams};
@@ -153,7 +153,7 @@ fn add_case(
     if case.region == diagrams.constant(false) {
         return Ok(());
     }
-    parts.push(case)?;
+    append(parts, case)?;
     Ok(())
 }
 
@@ -263,7 +263,7 @@ pub fn parts_of(
         right: Vec::new(alloc),
     };
     let mut parts = Vec::new(alloc);
-    parts.push(whole)?;
+    append(&mut parts, whole)?;
     for item in items {
         parts = split_parts(alloc, diagrams, &parts, item)?;
     }

@@ -30,8 +30,8 @@ bar_of-requires-clause-to c =
 pub returns-in_err-bar-clause-kept : goal.returns-in_err-bar-clause-kept
 returns-in_err-bar-clause-kept c = Keeps-trans _ _ _ _ _ _ c.loop-guarded.invariant.kept c.in_err-bar.ensures.kept
 
-pub returns-in_err-push-clause-kept : goal.returns-in_err-push-clause-kept
-returns-in_err-push-clause-kept c = Keeps-trans _ _ _ _ _ _ c.loop-guarded.invariant.kept c.in_ok-bar.ensures.kept
+pub returns-in_err-append-clause-kept : goal.returns-in_err-append-clause-kept
+returns-in_err-append-clause-kept c = Keeps-trans _ _ _ _ _ _ c.loop-guarded.invariant.kept c.in_ok-bar.ensures.kept
 
 pub loop-guarded-preserved : goal.loop-guarded-preserved
 loop-guarded-preserved c =
@@ -45,7 +45,7 @@ loop-guarded-preserved c =
     record {
       kept = Keeps-trans _ _ _ _ _ _ before.kept kept;
       right = c.in_ok-bar.ensures.right;
-      so_far = subst (λ l. AreBarsSoFar c.bar_of.new.store c.bar_of.new.diagrams moves (c.loop-guarded.guarded-index + 1) l c.bar_of.new.asked) (sym c.in_ok-push.ensures.items)
+      so_far = subst (λ l. AreBarsSoFar c.bar_of.new.store c.bar_of.new.diagrams moves (c.loop-guarded.guarded-index + 1) l c.bar_of.new.asked) (sym c.in_ok-append.ensures)
           (so_far_more c.loop-guarded.store c.bar_of.new.store c.loop-guarded.diagrams c.bar_of.new.diagrams kept moves c.loop-guarded.diagrams.tests targets c.loop-guarded.guarded-index c.loop-guarded.bars.items c.loop-guarded.asked before.so_far m c.loop-guarded-test.true c.guarded-item.is
           c.bar_of.new.asked c.bar_of.auto.asked c.in_ok-bar.bar (subst (IsDiagramId c.bar_of.new.diagrams) (sym c.in_ok-bar.ensures.bar.from) guard) c.in_ok-bar.ensures.bar c.in_ok-bar.ensures.fresh);
     }
@@ -69,8 +69,8 @@ bar_of-requires-clause-right c = c.loop-guarded.invariant.right
 pub returns-in_err-bar-clause-right : goal.returns-in_err-bar-clause-right
 returns-in_err-bar-clause-right c = c.in_err-bar.ensures.right
 
-pub returns-in_err-push-clause-right : goal.returns-in_err-push-clause-right
-returns-in_err-push-clause-right c = c.in_ok-bar.ensures.right
+pub returns-in_err-append-clause-right : goal.returns-in_err-append-clause-right
+returns-in_err-append-clause-right c = c.in_ok-bar.ensures.right
 
 pub returns-in_err-unasked-clause-right : goal.returns-in_err-unasked-clause-right
 returns-in_err-unasked-clause-right c = c.loop-guarded.invariant.right

@@ -4,7 +4,7 @@ use Rattle.std.proofs.lemmas.List.{take_all}
 use Rattle.partial_derivs.specs.declared.moves.Guarded.{Guarded}
 use Rattle.walk_pairs.proofs.BarLists.{move_kept, move_skipped}
 use Rattle.walk_pairs.proofs.asking.moves_by.Goals as goal
-use Rattle.walk_pairs.proofs.asking.moves_by.Goals.{then-guarded-act+in_ok-push, else-guarded-act}
+use Rattle.walk_pairs.proofs.asking.moves_by.Goals.{then-guarded-act+in_ok-append, else-guarded-act}
 
 pub loop-guarded-init : goal.loop-guarded-init
 loop-guarded-init c = c.new-own.ensures.items
@@ -12,9 +12,9 @@ loop-guarded-init c = c.new-own.ensures.items
 pub loop-guarded-preserved : goal.loop-guarded-preserved
 loop-guarded-preserved c =
     elim c.if-guarded-act.branch [
-      | then-guarded-act+in_ok-push w ↦
+      | then-guarded-act+in_ok-append w ↦
           move_kept c.args.act c.args.moves.now c.loop-guarded.guarded-index c.guarded-item.result c.loop-guarded-test.true c.guarded-item.is c.loop-guarded.own.items c.if-guarded-act.own.items c.loop-guarded.invariant
-          w.if-guarded-act.true (ap (λ (v : Vec Guarded Global). v.items) w.own-is ∙ w.in_ok-push.ensures.items)
+          w.if-guarded-act.true (ap (λ (v : Vec Guarded Global). v.items) w.own-is ∙ w.in_ok-append.ensures)
       | else-guarded-act w ↦
           move_skipped c.args.act c.args.moves.now c.loop-guarded.guarded-index c.guarded-item.result c.loop-guarded-test.true c.guarded-item.is c.loop-guarded.own.items c.if-guarded-act.own.items c.loop-guarded.invariant
           w.if-guarded-act.false (ap (λ (v : Vec Guarded Global). v.items) w.own-is)

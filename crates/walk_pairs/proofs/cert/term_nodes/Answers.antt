@@ -26,10 +26,10 @@ term_node-requires-clause-terms c =
 
 pub loop-term-preserved : goal.loop-term-preserved
 loop-term-preserved c =
-    mapped_next (λ i. term_node_of c.args.tests.now.keys c.args.terms.now.keys (get_or c.args.store.now.terms i Zero)) c.as_slice-ids.result.now c.loop-term.term-index c.term-item.result c.term_node.result c.loop-term.nodes.items c.push.new.self.items _
+    mapped_next (λ i. term_node_of c.args.tests.now.keys c.args.terms.now.keys (get_or c.args.store.now.terms i Zero)) c.as_slice-ids.result.now c.loop-term.term-index c.term-item.result c.term_node.result c.loop-term.nodes.items c.append.new.list.items _
     c.loop-term-test.true c.term-item.is
     (c.term_node.ensures ∙ ap (term_node_of c.args.tests.now.keys c.args.terms.now.keys) (sym (get_or_from_slice_get c.args.store.now.terms c.term-item.result c.shape.result Zero c.shape.ensures.value)))
-    c.in_ok-push.ensures.items c.loop-term.invariant
+    c.in_ok-append.ensures c.loop-term.invariant
 
 pub returns : goal.returns
 returns c =

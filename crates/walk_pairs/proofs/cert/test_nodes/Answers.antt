@@ -21,10 +21,10 @@ test_node-requires c =
 
 pub loop-test-preserved : goal.loop-test-preserved
 loop-test-preserved c =
-    mapped_next (λ i. test_node_of c.args.tests.now.keys (get_or c.args.store.now.tests i test.False)) c.as_slice-ids.result.now c.loop-test.test-index c.test-item.result c.test_node.result c.loop-test.nodes.items c.push.new.self.items _
+    mapped_next (λ i. test_node_of c.args.tests.now.keys (get_or c.args.store.now.tests i test.False)) c.as_slice-ids.result.now c.loop-test.test-index c.test-item.result c.test_node.result c.loop-test.nodes.items c.append.new.list.items _
     c.loop-test-test.true c.test-item.is
     (c.test_node.ensures ∙ ap (test_node_of c.args.tests.now.keys) (sym (get_or_from_slice_get c.args.store.now.tests c.test-item.result c.test_shape.result test.False c.test_shape.ensures.value)))
-    c.in_ok-push.ensures.items c.loop-test.invariant
+    c.in_ok-append.ensures c.loop-test.invariant
 
 pub returns : goal.returns
 returns c =

@@ -37,7 +37,7 @@ returns c =
     let old : List EntryParts = c.args.list.now.items in
     let copy : EntryParts = c.in_ok-copy.copy in
     let copied : copy ≡ own = c.in_ok-copy.ensures in
-    let items : c.push.new.self.items ≡ old ++ copy ∷ [] = c.in_ok-push.ensures.items in
+    let items : c.append.new.list.items ≡ old ++ copy ∷ [] = c.in_ok-append.ensures in
     record {
       kept = λ e h. subst (λ (l : List EntryParts). Has l e) (sym items) (has_left old (copy ∷ []) e h);
       added = λ e at l r. subst (λ (xs : List EntryParts). Has xs e) (sym items) (has_right old (copy ∷ []) e (inl (copied ∙ same_Some own e (sym here ∙ at))));

@@ -8,7 +8,7 @@ use Rattle.walk_pairs.specs.Entries.{EntryParts}
 use Rattle.walk_pairs.specs.Merging.{IsMergedPair, HasPairOf}
 use Rattle.walk_pairs.proofs.MergedIds.{pair_was, pair_kept, firsts_more, covered_more, covered_with, first_new, pair_new, each_more, covered_all, early_later, early_more, no_pair, pair_of_earlier}
 use Rattle.walk_pairs.proofs.merging.merged_pairs.Goals as goal
-use Rattle.walk_pairs.proofs.merging.merged_pairs.Goals.{then-not-has_earlier+in_ok-pair+in_ok-push, else-not-has_earlier}
+use Rattle.walk_pairs.proofs.merging.merged_pairs.Goals.{then-not-has_earlier+in_ok-pair+in_ok-append, else-not-has_earlier}
 
 pub merged_pair-requires-clause-tests : goal.merged_pair-requires-clause-tests
 merged_pair-requires-clause-tests c e h = c.loop-place.invariant.kept.ids e.test (c.requires.tests e h)
@@ -16,8 +16,8 @@ merged_pair-requires-clause-tests c e h = c.loop-place.invariant.kept.ids e.test
 pub returns-in_err-pair-clause-grows : goal.returns-in_err-pair-clause-grows
 returns-in_err-pair-clause-grows c = Grows-trans _ _ _ c.loop-place.invariant.grows c.in_err-pair.ensures.grows
 
-pub returns-in_err-push-clause-grows : goal.returns-in_err-push-clause-grows
-returns-in_err-push-clause-grows c = Grows-trans _ _ _ c.loop-place.invariant.grows c.in_ok-pair.ensures.grows
+pub returns-in_err-append-clause-grows : goal.returns-in_err-append-clause-grows
+returns-in_err-append-clause-grows c = Grows-trans _ _ _ c.loop-place.invariant.grows c.in_ok-pair.ensures.grows
 
 pub loop-place-preserved : goal.loop-place-preserved
 loop-place-preserved c =
@@ -33,12 +33,12 @@ loop-place-preserved c =
     let there : slice_get all k ≡ Some e = slice_get-get_or all k e c.loop-place-test.true ∙ ap (λ (x : EntryParts). Some x) (sym c.index-all-place.is) in
     let at : slice_get es k ≡ Some e = subst (λ (l : List EntryParts). slice_get l k ≡ Some e) c.as_slice-all.ensures there in
     elim c.if-not-has_earlier.branch [
-      | then-not-has_earlier+in_ok-pair+in_ok-push w ↦
+      | then-not-has_earlier+in_ok-pair+in_ok-append w ↦
           let t = w.merged_pair.new.store in
           let p : PairParts = w.in_ok-pair.pair in
           let own = w.in_ok-pair.ensures in
           let fresh : HasPairOf ps e → ⊥ = no_pair es ps k e before.early (λ h. both_ways c.has_earlier.result w.if-not-has_earlier.true (c.has_earlier.ensures.1 h)) in
-          let items : w.push.new.self.items ≡ ps ++ p ∷ [] = w.in_ok-push.ensures.items in
+          let items : w.append.new.list.items ≡ ps ++ p ∷ [] = w.in_ok-append.ensures in
           rw (w.store-is, w.diagrams-is, w.table-is, w.pairs-is, items)
           (record {
             grows = Grows-trans c.args.store.now s t before.grows own.grows;

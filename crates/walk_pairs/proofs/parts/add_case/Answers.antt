@@ -20,16 +20,16 @@ returns-then-eq-clause-covers c atom fits h =
 pub returns-clause-parts : goal.returns-clause-parts
 returns-clause-parts c items whole part parts =
     let differ : c.in_ok-case.case.region ≢ c.constant.result = eqb-false c.in_ok-case.case.region c.constant.result (sym c.eq.ensures ∙ c.if-eq.false) in
-    parts_pushed c.part_where.new.diagrams _ whole c.args.parts.now.items c.push.new.self.items c.in_ok-case.case c.in_ok-push.ensures.items (parts_kept c.args.diagrams.now c.part_where.new.diagrams c.in_ok-case.ensures.kept _ whole c.args.parts.now.items parts) (c.in_ok-case.ensures.part items whole part)
+    parts_pushed c.part_where.new.diagrams _ whole c.args.parts.now.items c.append.new.list.items c.in_ok-case.case c.in_ok-append.ensures (parts_kept c.args.diagrams.now c.part_where.new.diagrams c.in_ok-case.ensures.kept _ whole c.args.parts.now.items parts) (c.in_ok-case.ensures.part items whole part)
     (region_somewhere c.part_where.new.diagrams c.constant.ensures.reduced c.constant.result c.in_ok-case.case.region c.constant.ensures.function c.in_ok-case.ensures.id differ)
 
 pub returns-clause-ids : goal.returns-clause-ids
 returns-clause-ids c =
-    part_ids_pushed c.part_where.new.diagrams c.args.parts.now.items c.push.new.self.items c.in_ok-case.case c.in_ok-push.ensures.items (part_ids_kept c.args.diagrams.now c.part_where.new.diagrams c.in_ok-case.ensures.kept c.args.parts.now.items c.requires.ids) c.in_ok-case.ensures.id
+    part_ids_pushed c.part_where.new.diagrams c.args.parts.now.items c.append.new.list.items c.in_ok-case.case c.in_ok-append.ensures (part_ids_kept c.args.diagrams.now c.part_where.new.diagrams c.in_ok-case.ensures.kept c.args.parts.now.items c.requires.ids) c.in_ok-case.ensures.id
 
 pub returns-clause-covers : goal.returns-clause-covers
 returns-clause-covers c atom fits h =
-    part_at_pushed c.part_where.new.diagrams c.args.parts.now.items c.push.new.self.items c.in_ok-case.case atom c.in_ok-push.ensures.items
+    part_at_pushed c.part_where.new.diagrams c.args.parts.now.items c.append.new.list.items c.in_ok-case.case atom c.in_ok-append.ensures
     (⊎_elim
     (λ old. inl (part_at_kept c.args.diagrams.now c.part_where.new.diagrams c.in_ok-case.ensures.kept c.args.parts.now.items atom c.requires.ids old))
     (λ k. inr (c.in_ok-case.ensures.there atom fits k))

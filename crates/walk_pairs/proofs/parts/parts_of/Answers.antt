@@ -13,7 +13,7 @@ pub loop-item-init : goal.loop-item-init
 loop-item-init c =
     let d = c.args.diagrams.now in
     let whole : Part = record { region = c.args.region; left = c.new.result; right = c.new-2.result } in
-    let first = first_parts d c.args.region whole c.push.new.self.items c.new-parts.result.items c.in_ok-push.ensures.items c.new-parts.ensures.items refl c.new.ensures.items c.new-2.ensures.items c.requires.region c.requires.somewhere in
+    let first = first_parts d c.args.region whole c.append.new.list.items c.new-parts.result.items c.in_ok-append.ensures c.new-parts.ensures.items refl c.new.ensures.items c.new-2.ensures.items c.requires.region c.requires.somewhere in
     record { kept = KeepsFunctions-itself d; parts = first.0; covers = λ atom fits h. first.1 atom h }
 
 pub split_parts-requires-clause-left : goal.split_parts-requires-clause-left

@@ -1,8 +1,10 @@
 use Rattle.std.proofs.Common.{length, map, refl, sym, ap, subst, arith}
+use Rattle.std.proofs.lemmas.List.{length-append}
 use Rattle.term_nodes.specs.NodeTrees.{tree_at}
 use Rattle.partial_derivs.specs.Moves.{AreGuards, AreTargets}
 use Rattle.partial_derivs.proofs.Kept.{Keeps-itself, Keeps-trans, Keeps-functions, AreGuards-kept, AreTargets-kept}
 use Rattle.partial_derivs.proofs.Tables.{AreRight-kept}
+use Rattle.walk_pairs.specs.declared.bars.Bars.{Bars}
 use Rattle.walk_pairs.specs.Working.Asking.{AreBarsOf}
 use Rattle.walk_pairs.proofs.Allowances.{AreActionBars, action_bars_none, action_bars_more, allowance}
 use Rattle.walk_pairs.proofs.allowed.AllowedMoves.of_hyps.Goals as goal
@@ -30,8 +32,8 @@ returns-in_err-bars-clause-kept c =
     Keeps-trans _ _ _ _ _ _ c.in_ok-steps.ensures.kept
     (Keeps-trans _ _ _ _ _ _ (Keeps-functions c.step.new.store c.step.new.diagrams c.not.new.self c.in_ok-allowed.ensures.kept) (Keeps-trans _ _ _ _ _ _ c.loop-act.invariant.kept c.in_err-bars.ensures.kept))
 
-pub returns-in_err-push-clause-kept : goal.returns-in_err-push-clause-kept
-returns-in_err-push-clause-kept c =
+pub returns-in_err-append-clause-kept : goal.returns-in_err-append-clause-kept
+returns-in_err-append-clause-kept c =
     Keeps-trans _ _ _ _ _ _ c.in_ok-steps.ensures.kept
     (Keeps-trans _ _ _ _ _ _ (Keeps-functions c.step.new.store c.step.new.diagrams c.not.new.self c.in_ok-allowed.ensures.kept) (Keeps-trans _ _ _ _ _ _ c.loop-act.invariant.kept c.in_ok-bars.ensures.kept))
 
@@ -50,8 +52,8 @@ loop-act-preserved c =
     record {
       kept = Keeps-trans _ _ _ _ _ _ before.kept c.in_ok-bars.ensures.kept;
       right = c.in_ok-bars.ensures.right;
-      count = omega (arith, c.in_ok-push.ensures.len, before.count);
-      bars = subst (AreActionBars c.bars_of.new.store c.bars_of.new.diagrams moves) (sym c.in_ok-push.ensures.items)
+      count = omega (arith, ap length c.in_ok-append.ensures, length-append {A = Bars}, before.count);
+      bars = subst (AreActionBars c.bars_of.new.store c.bars_of.new.diagrams moves) (sym c.in_ok-append.ensures)
           (action_bars_more c.loop-act.store c.bars_of.new.store c.loop-act.diagrams c.bars_of.new.diagrams c.in_ok-bars.ensures.kept c.loop-act.diagrams.tests moves c.loop-act.list.items c.loop-act.act c.in_ok-bars.bars targets before.count before.bars c.in_ok-bars.ensures.sound are);
     }
 
@@ -89,8 +91,8 @@ bars_of-requires-clause-right c = c.loop-act.invariant.right
 pub returns-in_err-bars-clause-right : goal.returns-in_err-bars-clause-right
 returns-in_err-bars-clause-right c = c.in_err-bars.ensures.right
 
-pub returns-in_err-push-clause-right : goal.returns-in_err-push-clause-right
-returns-in_err-push-clause-right c = c.in_ok-bars.ensures.right
+pub returns-in_err-append-clause-right : goal.returns-in_err-append-clause-right
+returns-in_err-append-clause-right c = c.in_ok-bars.ensures.right
 
 pub returns-clause-right : goal.returns-clause-right
 returns-clause-right c = c.loop-act.invariant.right
