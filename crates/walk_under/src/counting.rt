@@ -22,12 +22,23 @@ use term_store::{Store, TermId};
 const PAIR_LIMIT: usize = 2_000;
 
 /// A short hypothesis, its id, and the tests and actions that occur in it.
-#[derive(Drop)]
 pub(crate) struct ShortHyp {
     pub hyp: Kat,
     pub term: TermId,
     pub tests: Vec<bool>,
     pub acts: Vec<bool>,
+}
+
+// Explicit, so that it is proved once and not at each end of each function that owns one.
+impl Drop for ShortHyp {
+    fn drop(self) {
+        let ShortHyp {
+            hyp: _hyp,
+            term: _,
+            tests: _tests,
+            acts: _acts,
+        } = self;
+    }
 }
 
 // Sets the flag of each test that occurs in the test.

@@ -7,7 +7,7 @@ ghost use Rattle.test_diagrams.specs.Functions.{IsDiagramId};
 use crate::counting::{ShortHyp, mark_tests};
 use crate::walk::FoundString;
 use hypothesis_kinds::{accepts_atom, accepts_move};
-use kat_model::{Items, MAX_TESTS, NoMemory};
+use kat_model::{Items, MAX_TESTS, NoMemory, append};
 use std::alloc::Global;
 use string_tables::{GString, Move};
 use test_diagrams::{DiagramId, Diagrams};
@@ -270,10 +270,8 @@ pub(crate) fn smoothed(
             after: rest.get(place + 1),
         };
         let next = better_atom(alloc, diagrams, hyps, counts, &site, m.atom.as_slice())?;
-        moves.push(Move {
-            act: m.act,
-            atom: Items::of(next),
-        })?;
+        let atom = Items::of(next);
+        append(&mut moves, Move { act: m.act, atom })?;
     }
     Ok(GString {
         first: Items::of(first),

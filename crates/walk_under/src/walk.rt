@@ -1,5 +1,5 @@
 //! The walk over pairs under tests.
-ghost use Rattle.std.specs.Prelude.{◌≡◌, ◌<◌, ◌+◌, ◌^◌, ℕ, List, map, length, slice_get, All, Some, MatchOption, IfOk, IfSome, IsSome, OnOk, IsTrue};
+ghost use Rattle.std.specs.Prelude.{◌≡◌, ◌<◌, ◌+◌, ◌^◌, ◌∷◌, [], ℕ, List, map, length, slice_get, All, Some, MatchOption, IfOk, IfSome, IsSome, OnOk, IsTrue};
 ghost use Rattle.kat_model.specs.Trees.{Term};
 ghost use Rattle.kat_model.specs.Members.{Has};
 ghost use Rattle.kat_model.specs.Problems.{ProblemParts};
@@ -18,7 +18,7 @@ ghost use Rattle.walk_pairs.specs.Merging.{AreMergedIds};
 ghost use Rattle.walk_under.specs.Working.Walking.{WalkContext, walk_context, first_ids, new_ids, AreClosedIds, IsUnderWay, IsAtSource, IsOpenAt, IsVisited, AreNextItems, IsTaking, IsTakenPair, HasStepped, IsDifference, TellApart, AcceptAlike, IsRunEnd};
 ghost use Rattle.walk_under.specs.declared.walk.RunEnd.TheVariants.{Full};
 
-use kat_model::{Items, NoMemory};
+use kat_model::{Items, NoMemory, append};
 use partial_derivs::Derivatives;
 use std::alloc::Global;
 use std::mem;
@@ -151,6 +151,16 @@ fn first_entry(alloc: Global, sides: &ClosedIds, test: DiagramId) -> Result<Entr
     })
 }
 
+// Returns a list of only the pair of the closed sides, at the atoms of `test`.
+fn first_list(alloc: Global, sides: &ClosedIds, test: DiagramId) -> Result<EntryList, NoMemory>
+    ensures { IfOk result (λ l. l.items ≡ first_ids sides.now test ∷ []) }
+{
+    let entry = first_entry(alloc, sides, test)?;
+    let mut entries = EntryList::new(alloc);
+    entries.push(alloc, entry)?;
+    Ok(entries)
+}
+
 // Returns the pair of the part, at the atoms of `test`.
 fn entry_of(
     alloc: Global,
@@ -248,9 +258,7 @@ impl TestedWorklist {
             shorts,
             actions,
         )?;
-        let entry = first_entry(alloc, sides, moves.allowed)?;
-        let mut entries = EntryList::new(alloc);
-        entries.push(alloc, entry)?;
+        let entries = first_list(alloc, sides, moves.allowed)?;
         self.listing = Listing {
             entries,
             universal: sides.universal,
@@ -547,10 +555,8 @@ impl TestedWorklist {
                 after,
             )?;
             let atom = Items::of(mem::replace(&mut first, before));
-            moves.push(Move {
-                act: origin.act,
-                atom,
-            })?;
+            let act = origin.act;
+            append(&mut moves, Move { act, atom })?;
             place = self.place_at(origin.place, first.as_slice());
             regions.push(origin.region)?;
         }

@@ -272,7 +272,7 @@ loop-origin-preserved c =
     let found = source_found v o.region o.act first c.as_slice-after.result.now before c.as_slice-after.ensures.value c.in_ok-before.ensures.source in
     let first_is : c.replace.new.dest.items ≡ before = ap (λ x. x.items) c.replace.ensures.after in
     let was : c.of-atom.result ≡ first = c.of-atom.ensures ∙ ap (λ x. x.items) c.replace.ensures.value in
-    let moves_are : c.push.new.self.items ≡ moves ++ record { act = o.act; atom = first } ∷ [] = c.in_ok-push.ensures.items ∙ ap (λ (a : List Bool). moves ++ record { act = o.act; atom = a } ∷ []) was in
+    let moves_are : c.append.new.list.items ≡ moves ++ record { act = o.act; atom = first } ∷ [] = c.in_ok-append.ensures ∙ ap (λ (a : List Bool). moves ++ record { act = o.act; atom = a } ∷ []) was in
     let placed = placed_by w v d o.place c.place_at-place.result c.as_slice.result.now c.replace.new.dest.items c.as_slice.ensures.value b.listing c.place_at-place.ensures in
     let region : IsDiagramId d o.region = later.ids o.region (origin_region s w c.args.place f.2 f.1 k first moves f.3 e.0 e.1 o is) in
     record {
@@ -284,9 +284,9 @@ loop-origin-preserved c =
           ⊎_elim
           (λ old. c.in_ok-before.ensures.kept.ids id (b.regions id old))
           (λ last. subst (IsDiagramId d) last region)
-          (has_pushed c.loop-origin.regions.items o.region id (subst (λ l. Has l id) c.in_ok-push-2.ensures.items h));
-      some = (s, f.1, f.2, go_on s w v c.args.place f.1 k b.kept b.same f.2 first moves f.3 e.0 e.1 o is before found d later c.replace.new.dest.items first_is c.place_at-place.result placed c.push.new.self.items moves_are);
-      each = λ z u x. go_on z w v c.args.place x.from.level k b.kept b.same u first moves (b.each z u x) e.0 e.1 o is before found d later c.replace.new.dest.items first_is c.place_at-place.result placed c.push.new.self.items moves_are;
+          (has_pushed c.loop-origin.regions.items o.region id (subst (λ l. Has l id) c.in_ok-push.ensures.items h));
+      some = (s, f.1, f.2, go_on s w v c.args.place f.1 k b.kept b.same f.2 first moves f.3 e.0 e.1 o is before found d later c.replace.new.dest.items first_is c.place_at-place.result placed c.append.new.list.items moves_are);
+      each = λ z u x. go_on z w v c.args.place x.from.level k b.kept b.same u first moves (b.each z u x) e.0 e.1 o is before found d later c.replace.new.dest.items first_is c.place_at-place.result placed c.append.new.list.items moves_are;
     }
 
 pub returns-clause-shortest : goal.returns-clause-shortest
