@@ -1,6 +1,7 @@
-use Rattle.std.proofs.Common.{◌≡◌, ◌+◌, ◌++◌, ◌∷◌, [], List, map, drop, sym, ap, ◌∙◌, subst, ⊎_elim}
+use Rattle.std.proofs.Common.{◌≡◌, ◌+◌, ◌++◌, ◌∷◌, [], List, map, drop, refl, sym, ap, ◌∙◌, subst, ⊎_elim, append-nil}
 use Rattle.std.specs.List.{filter}
-use Rattle.std.proofs.lemmas.List.{map-append}
+use Rattle.std.proofs.lemmas.List.{map-append, drop_all}
+use Rattle.kat_model.specs.declared.tree.Kat.{Kat}
 use Rattle.kat_model.specs.Trees.{Term, kat_tree}
 use Rattle.kat_model.specs.Members.{Has}
 use Rattle.kat_model.specs.Problems.{HasTestsBelow}
@@ -8,7 +9,7 @@ use Rattle.kat_model.specs.Degrees.{is_short}
 use Rattle.kat_model.proofs.Lists.{map_has, has_pushed}
 use Rattle.kat_model.proofs.Ranges.{IsInRange-HasTestsBelow}
 use Rattle.term_nodes.specs.NodeTrees.{tree_at}
-use Rattle.term_nodes.proofs.Growing.{Grows-trans}
+use Rattle.term_nodes.proofs.Growing.{Grows-itself, Grows-trans}
 use Rattle.partial_derivs.specs.Moves.{IsTermOf}
 use Rattle.partial_derivs.proofs.Kept.{IsTermOf-trees}
 use Rattle.walk_under.specs.declared.counting.ShortHyp.{ShortHyp}
@@ -55,3 +56,29 @@ loop-hyp-preserved c =
             terms = before.terms;
           })
     ]
+
+pub loop-hyp-init : goal.loop-hyp-init
+loop-hyp-init c = record {
+  kept = Grows-itself c.args.store.now;
+  trees = rw c.new-shorts.ensures.items refl;
+  terms = λ h m. absurd (subst (λ (l : List ShortHyp). Has l h) c.new-shorts.ensures.items m);
+}
+
+pub returns-clause-hyps : goal.returns-clause-hyps
+returns-clause-hyps c =
+    let shorts = c.loop-hyp.shorts.items in
+    let hyps = c.hyps-hyp-items.result.now in
+    record {
+      trees = sym (append-nil (map tree_of shorts)) ∙ ap (λ (l : List Kat). map tree_of shorts ++ filter is_short (map kat_tree l)) (sym (drop_all c.loop-hyp.hyp-index hyps c.loop-hyp-test.false)) ∙ c.loop-hyp.invariant.trees
+          ∙ ap (filter is_short) c.hyps-hyp-items.ensures.value;
+      terms = c.loop-hyp.invariant.terms;
+    }
+
+pub returns-clause-kept : goal.returns-clause-kept
+returns-clause-kept c = c.loop-hyp.invariant.kept
+
+pub returns-in_err-short_hyp-clause-kept : goal.returns-in_err-short_hyp-clause-kept
+returns-in_err-short_hyp-clause-kept c = Grows-trans c.args.store.now c.loop-hyp.store c.short_hyp.new.store c.loop-hyp.invariant.kept c.in_err-short_hyp.ensures.kept
+
+pub returns-in_err-push-clause-kept : goal.returns-in_err-push-clause-kept
+returns-in_err-push-clause-kept c = Grows-trans c.args.store.now c.loop-hyp.store c.short_hyp.new.store c.loop-hyp.invariant.kept c.in_ok-short_hyp.ensures.kept
