@@ -5,7 +5,7 @@ ghost use Rattle.walk_pairs.specs.Items.{AreItems};
 ghost use Rattle.walk_pairs.specs.Items.{AreEnds};
 ghost use Rattle.walk_up_to.specs.Cases.{IsOpen, least_of, AreItemsWith, IsCase};
 
-use kat_model::NoMemory;
+use kat_model::{NoMemory, append};
 use std::alloc::Global;
 use test_diagrams::{DiagramId, Diagrams};
 use walk_pairs::{Ends, Item};
@@ -82,11 +82,12 @@ fn items_with(
         let right = right_fixed(diagrams, item, left, test, value)?;
         if left != ends.never || right != ends.never {
             let target = item.target;
-            list.push(Item {
+            let fixed = Item {
                 target,
                 left,
                 right,
-            })?;
+            };
+            append(&mut list, fixed)?;
         }
     }
     Ok(list)

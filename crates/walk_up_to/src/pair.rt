@@ -2,7 +2,7 @@
 ghost use Rattle.std.specs.Prelude.{◌≡◌, map, IfOk};
 ghost use Rattle.walk_up_to.specs.Listings.{untested_of};
 
-use kat_model::{Items, NoMemory};
+use kat_model::{Items, NoMemory, append};
 use std::alloc::Global;
 use std::marker::Model;
 use term_store::TermId;
@@ -113,7 +113,7 @@ pub(crate) fn stored_pairs_of(
 {
     let mut list = Vec::new(alloc);
     for pair in pairs {
-        list.push(stored_pair_of(alloc, pair)?)?;
+        append(&mut list, stored_pair_of(alloc, pair)?)?;
     }
     Ok(list)
 }

@@ -4,7 +4,7 @@ ghost use Rattle.walk_up_to.specs.Walks.{StepOrigin as StepOrigin', after_trail}
 ghost use Rattle.walk_up_to.specs.Listings.{AreTraced, LeadsBack, origin_of};
 
 use crate::pair::{ListedPair, StepOrigin};
-use kat_model::{Items, NoMemory};
+use kat_model::{Items, NoMemory, append};
 use std::alloc::Global;
 use std::mem;
 use string_tables::{GString, Move};
@@ -36,10 +36,8 @@ pub(crate) fn string_to(
     while let Some(origin) = origin_at(pairs, place) {
         let before = origin.atom.as_slice().to_vec(alloc)?;
         let atom = Items::of(mem::replace(&mut first, before));
-        moves.push(Move {
-            act: origin.act,
-            atom,
-        })?;
+        let act = origin.act;
+        append(&mut moves, Move { act, atom })?;
         place = origin.place;
     }
     moves.reverse();

@@ -6,7 +6,7 @@ use Rattle.partial_derivs.proofs.Items.{has_item}
 use Rattle.walk_pairs.specs.declared.items.Item.{Item}
 use Rattle.walk_up_to.specs.Cases.{AreItemsWith}
 use Rattle.walk_up_to.proofs.FixedItems.{with_kept, fixed_later, fixed_before, with_item, with_unreached}
-use Rattle.walk_up_to.proofs.cases.items_with.Goals.{then-ne+in_ok-push, else-ne+else-ne-2}
+use Rattle.walk_up_to.proofs.cases.items_with.Goals.{then-ne+in_ok-append, else-ne+else-ne-2}
 use Rattle.walk_up_to.proofs.cases.items_with.Goals as goal
 
 pub fix-requires-clause-id : goal.fix-requires-clause-id
@@ -31,8 +31,8 @@ returns-in_err-left-clause-kept c = KeepsFunctions-trans _ _ _ c.loop-item.invar
 pub returns-in_err-right-clause-kept : goal.returns-in_err-right-clause-kept
 returns-in_err-right-clause-kept c = KeepsFunctions-trans _ _ _ c.loop-item.invariant.kept (KeepsFunctions-trans _ _ _ c.fix.ensures.kept c.right_fixed.ensures.kept)
 
-pub returns-in_err-push-clause-kept : goal.returns-in_err-push-clause-kept
-returns-in_err-push-clause-kept c = KeepsFunctions-trans _ _ _ c.loop-item.invariant.kept (KeepsFunctions-trans _ _ _ c.fix.ensures.kept c.right_fixed.ensures.kept)
+pub returns-in_err-append-clause-kept : goal.returns-in_err-append-clause-kept
+returns-in_err-append-clause-kept c = KeepsFunctions-trans _ _ _ c.loop-item.invariant.kept (KeepsFunctions-trans _ _ _ c.fix.ensures.kept c.right_fixed.ensures.kept)
 
 pub loop-item-preserved : goal.loop-item-preserved
 loop-item-preserved c =
@@ -56,11 +56,11 @@ loop-item-preserved c =
     let right = fixed_before d mid end second test value before item.right c.in_ok-right.right (c.requires.items.rights item member) c.in_ok-right.ensures.function in
     let gathered = with_kept d now end (KeepsFunctions-trans now mid end first second) test value (take i items) list c.loop-item.invariant.gathered in
     elim c.if-ne.branch [
-      | then-ne+in_ok-push w ↦
+      | then-ne+in_ok-append w ↦
           let reached : Item = record { target = item.target; left = c.in_ok-left.left; right = c.in_ok-right.right } in
           record {
             kept = kept;
-            gathered = subst (λ l. AreItemsWith d end (take (i + 1) items) test value l) (sym (ap (λ v. v.items) w.list-is ∙ w.in_ok-push.ensures.items))
+            gathered = subst (λ l. AreItemsWith d end (take (i + 1) items) test value l) (sym (ap (λ v. v.items) w.list-is ∙ w.in_ok-append.ensures))
                 (with_item d end kept.tests test value items c.requires.items.ascending i item c.loop-item-test.true c.item-item.is list gathered reached refl left right);
           }
       | else-ne+else-ne-2 w ↦

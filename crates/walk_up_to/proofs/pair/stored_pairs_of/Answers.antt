@@ -13,7 +13,7 @@ loop-pair-preserved c =
     let pairs : List IdEntry = c.args.pairs.now in
     let pair : IdEntry = c.pair-item.result in
     let place = c.loop-pair.pair-index in
-    c.in_ok-push.ensures.items ∙ ap₂ (λ l s. l ++ s ∷ []) c.loop-pair.invariant c.in_ok-stored_pair_of.ensures ∙ sym (map-append untested_of (take place pairs) (pair ∷ []))
+    c.in_ok-append.ensures ∙ ap₂ (λ l s. l ++ s ∷ []) c.loop-pair.invariant c.in_ok-stored_pair_of.ensures ∙ sym (map-append untested_of (take place pairs) (pair ∷ []))
     ∙ ap (map untested_of) (sym (take_item pairs place pair c.loop-pair-test.true c.pair-item.is))
 
 pub returns : goal.returns

@@ -13,9 +13,9 @@ loop-origin-preserved c =
     let atom : c.replace.new.dest.items ≡ o.atom = ap (λ v. v.items) c.replace.ensures.after ∙ copied ∙ c.as_slice.ensures ∙ ap (λ (p : StepOrigin). p.atom) view in
     let before : c.of-atom.result ≡ c.loop-origin.first.items = c.of-atom.ensures ∙ ap (λ v. v.items) c.replace.ensures.value in
     spelling_goes_on c.args.pairs.now c.args.place c.args.last.items c.loop-origin.place c.loop-origin.first.items moves o c.requires.traced c.loop-origin.invariant c.in-Some.ensures
-    c.origin.inside.place c.replace.new.dest.items c.push.new.self.items
+    c.origin.inside.place c.replace.new.dest.items c.append.new.list.items
     (ap (λ (p : StepOrigin). p.place) view) atom
-    (c.in_ok-push.ensures.items
+    (c.in_ok-append.ensures
     ∙ ap (λ (a : ℕ). moves ++ record { act = a; atom = c.of-atom.result } ∷ []) (ap (λ (p : StepOrigin). p.act) view)
     ∙ ap (λ (t : List Bool). moves ++ record { act = o.act; atom = t } ∷ []) before)
 
