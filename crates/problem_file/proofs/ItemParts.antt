@@ -7,7 +7,7 @@ use Rattle.text_parser.specs.declared.terminal.Keyword.{Keyword as KeywordOf}
 use Rattle.text_parser.specs.declared.terminal.Keyword.TheVariants as word
 use Rattle.text_parser.specs.declared.terminal.Separator.TheVariants.{Semicolon, Equals}
 use Rattle.text_parser.specs.Lexemes.{Lexeme, lexeme, is_terminal}
-use Rattle.text_parser.specs.Parsed.{Parsed, before, wants}
+use Rattle.text_parser.specs.Parsed.{Parsed, before, then_wants}
 use Rattle.text_parser.specs.Phrases.{Leaf}
 use Rattle.problem_file.specs.declared.item_reading.Declared.TheVariants as what
 use Rattle.problem_file.specs.declared.item_reading.Setting.TheVariants as setting
@@ -40,40 +40,29 @@ module _ {S X : Type 0} (g : ItemActions S X) (s : S) (at : ℕ) (ts us : List L
     pub definition_old : (e : TextFault) → g.check_new s l.at l.text ≡ Err e → definition_by g s at ts ≡ Err e
     definition_old e h = rw (n, h) refl
 
+-- term "=" "0" ";"
+abbrev pub zero_phrase : {S X : Type 0} → ItemActions S X → S → List Lexeme → Parsed (Measurement X)
+zero_phrase g s ts = then_wants (is_terminal (Separator Semicolon)) (then_wants (is_terminal Zero) (then_wants (is_terminal (Separator Equals)) (term_by g s ts)))
+
+-- a hypothesis that a term is 0, by that phrase
 module _ {S X : Type 0} (g : ItemActions S X) (s : S) (at : ℕ) (ts : List Lexeme) where
-  pub zero_unmeasured : (e : TextFault) → term_by g s ts ≡ Err e → zero_by g s at ts ≡ Err e
-  zero_unmeasured e h = rw (h) refl
+  pub zero_unread : (e : TextFault) → zero_phrase g s ts ≡ Err e → zero_by g s at ts ≡ Err e
+  zero_unread e h = rw (h) refl
 
-  module _ (x : Measurement X × List Lexeme) (m : term_by g s ts ≡ Ok x) where
-    pub zero_unequal : (e : TextFault) → wants (is_terminal (Separator Equals)) x.1 ≡ Err e → zero_by g s at ts ≡ Err e
-    zero_unequal e h = rw (m, h) refl
+  pub zero_ended : (x : Measurement X × List Lexeme) → zero_phrase g s ts ≡ Ok x → zero_by g s at ts ≡ before x.1 (g.state_zero s at x.0)
+  zero_ended x k = rw (k) refl
 
-    module _ (us : List Lexeme) (equals : wants (is_terminal (Separator Equals)) x.1 ≡ Ok us) where
-      pub zero_other : (e : TextFault) → wants (is_terminal Zero) us ≡ Err e → zero_by g s at ts ≡ Err e
-      zero_other e h = rw (m, equals, h) refl
-
-      module _ (vs : List Lexeme) (zero : wants (is_terminal Zero) us ≡ Ok vs) where
-        pub zero_open : (e : TextFault) → wants (is_terminal (Separator Semicolon)) vs ≡ Err e → zero_by g s at ts ≡ Err e
-        zero_open e h = rw (m, equals, zero, h) refl
-
-        pub zero_ended : (ws : List Lexeme) → wants (is_terminal (Separator Semicolon)) vs ≡ Ok ws → zero_by g s at ts ≡ before ws (g.state_zero s at x.0)
-        zero_ended ws end = rw (m, equals, zero, end) refl
-
--- a question, by the parts that it is about
+-- a question, by the parts that it is about and the semicolon after them
 module _ {S X M : Type 0} (g : ItemActions S X) (s : S) (ts : List Lexeme) (f : M → Result S TextFault) (m : Parsed M) where
-  pub ask_unmeasured : (e : TextFault) → m ≡ Err e → then_ask g s ts f m ≡ Err e
-  ask_unmeasured e h = rw (h) refl
+  pub ask_unread : (e : TextFault) → then_wants (is_terminal (Separator Semicolon)) m ≡ Err e → then_ask g s ts f m ≡ Err e
+  ask_unread e h = rw (h) refl
 
-  module _ (x : M × List Lexeme) (k : m ≡ Ok x) where
-    pub ask_open : (e : TextFault) → wants (is_terminal (Separator Semicolon)) x.1 ≡ Err e → then_ask g s ts f m ≡ Err e
-    ask_open e h = rw (k, h) refl
+  module _ (x : M × List Lexeme) (k : then_wants (is_terminal (Separator Semicolon)) m ≡ Ok x) where
+    pub ask_wide : (e : TextFault) → g.check_numbers s (until ts x.1) ≡ Err e → then_ask g s ts f m ≡ Err e
+    ask_wide e h = rw (k, h) refl
 
-    module _ (us : List Lexeme) (end : wants (is_terminal (Separator Semicolon)) x.1 ≡ Ok us) where
-      pub ask_wide : (e : TextFault) → g.check_numbers s (until ts us) ≡ Err e → then_ask g s ts f m ≡ Err e
-      ask_wide e h = rw (k, end, h) refl
-
-      pub ask_ended : (v : Unit {0}) → g.check_numbers s (until ts us) ≡ Ok v → then_ask g s ts f m ≡ before us (f x.0)
-      ask_ended v narrow = rw (k, end, narrow) refl
+    pub ask_ended : (v : Unit {0}) → g.check_numbers s (until ts x.1) ≡ Ok v → then_ask g s ts f m ≡ before x.1 (f x.0)
+    ask_ended v narrow = rw (k, narrow) refl
 
 -- an item, by its keyword
 module _ {S X : Type 0} (g : ItemActions S X) (s : S) (at : ℕ) (text : List ℕ) (ts us : List Lexeme) (t : Terminal) (seen : ts ≡ lexeme t at text ∷ us) (k : KeywordOf) (is : t ≡ Keyword k) where

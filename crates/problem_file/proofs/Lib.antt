@@ -25,6 +25,7 @@ pub mod Results
 pub mod NameWalks
 pub mod ReadFaults
 pub mod ItemParts
+pub mod FollowedParts
 pub mod PhraseFronts
 pub mod Appends
 pub mod FoundItems

@@ -10,7 +10,7 @@ use Rattle.text_print.specs.Printing.{expr_text, cond_text, expr_pieces, cond_pi
 use Rattle.text_print.proofs.PieceTexts.{expr_spells, cond_spells}
 use Rattle.while_lang.specs.Programs.{ProgTree, empty, skip_then, abort_then, assert_then, act_then, assign_then, branch_then, loop_then}
 use Rattle.problem_file.specs.ProgramPrinting.{keyword_pieces, in_curly, stmts_pieces, block_pieces}
-use Rattle.problem_file.specs.Working.ProgramTexts.{stmts_text}
+use Rattle.problem_file.specs.Working.ProgramTexts.{stmts_text, block_text}
 
 -- the pieces spell `text` before the pieces that follow
 abbrev Spell : (List Piece → List Piece) → List ℕ → Type 0
@@ -59,7 +59,7 @@ module _ (names : Meaning → List ℕ) where
       ∙ sym (simp append_assoc)
 
   -- a block written to an empty buffer is spelled by its pieces
-  pub block_printed : (p : ProgTree) (old opened inside new : List ℕ) → old ≡ [] → opened ≡ old ++ codes "{" → inside ≡ opened ++ stmts_text names p → new ≡ inside ++ codes " }" → new ≡ spelled (block_pieces names p [])
-  block_printed p old opened inside new e f g h =
-      let text : spelled (block_pieces names p []) ≡ codes "{" ++ (stmts_text names p ++ codes " }") = ap (λ (l : List ℕ). codes "{" ++ l) (stmts_spell p (gap 32 ∷ symbol (codes "}") ∷ [])) in
-      rw (h, g, f, e, text) (append_assoc (codes "{") (stmts_text names p) (codes " }"))
+  pub block_printed : (p : ProgTree) (old new : List ℕ) → old ≡ [] → new ≡ old ++ block_text names p → new ≡ spelled (block_pieces names p [])
+  block_printed p old new e h =
+      let text : spelled (block_pieces names p []) ≡ block_text names p = ap (λ (l : List ℕ). codes "{" ++ l) (stmts_spell p (gap 32 ∷ symbol (codes "}") ∷ [])) in
+      rw (h, e, text) refl

@@ -5,3 +5,4 @@ pub mod Walks
 pub mod States
 pub mod NumberSteps
 pub mod Files
+pub mod Followed

@@ -1,6 +1,6 @@
 //! The items of a problem file, read once by any reading.
-ghost use Rattle.std.specs.Prelude.{◌≡◌, ◌+◌, ◌<◌, ◌≤◌, length, drop, IfOk, IfSome};
-ghost use Rattle.text_parser.specs.Lexemes.{lexemes};
+ghost use Rattle.std.specs.Prelude.{◌≡◌, ◌+◌, ◌<◌, ◌≤◌, ℕ, length, drop, IfOk, IfSome};
+ghost use Rattle.text_parser.specs.Lexemes.{lexemes, is_terminal};
 ghost use Rattle.problem_file.specs.Tokens.{AreTokens};
 ghost use Rattle.problem_file.specs.Items.{at_name, over_names, at_number, term_by, block_by, program_by, side_by};
 ghost use Rattle.problem_file.specs.Items.{braced_by, middle_by, triple_by, sides_by, declaration_by, meaning_by};
@@ -8,6 +8,7 @@ ghost use Rattle.problem_file.specs.Items.{definition_by, prog_by, zero_by, hyp_
 ghost use Rattle.problem_file.specs.Items.{triple_goal_by, goal_by};
 ghost use Rattle.problem_file.specs.Items.{item_by, items_by};
 ghost use Rattle.problem_file.specs.Working.Walks.{measured_of, sides_of, triple_of, Tells, Steps, Does};
+ghost use Rattle.problem_file.specs.Working.Followed.{Follows};
 
 use crate::item_reading::{Comparison, Declared, ItemReading, Setting};
 use crate::names::{lone_name, name_at, number_at};
@@ -72,6 +73,21 @@ fn read_declaration<R: ItemReading>(
 {
     let end = read_names(reading, toks, from, what)?;
     expect(toks, end, Terminal::Separator(Separator::Semicolon))
+}
+
+// Reads the token after a part, which must be this terminal. Returns the part and the index after the token, or the
+// first fault.
+fn expect_after<T: Copy>(
+    part: Result<(T, usize), TextFault>,
+    toks: &[Token],
+    terminal: Terminal,
+) -> Result<(T, usize), TextFault>
+    ensures value { Follows (lexemes toks.now) (is_terminal terminal) part result }
+    ensures goes { (from : ℕ) → IfOk part (λ x. (from < x.1) × (x.1 ≤ length toks.now)) → IfOk result (λ x. (from < x.1) × (x.1 ≤ length toks.now)) }
+{
+    let (value, end) = part?;
+    let end = expect(toks, end, terminal)?;
+    Ok((value, end))
 }
 
 fn term_at<R: ItemReading>(
@@ -169,8 +185,8 @@ fn sides_at<R: ItemReading>(
     ensures value { Tells sides_of toks.now from result (sides_by R.actions (R.state reading.now)) }
     ensures goes { IfOk result (λ x. (from < x.1) × (x.1 ≤ length toks.now)) }
 {
-    let (left, end) = side_at(reading, toks, from)?;
-    let end = expect(toks, end, Terminal::Separator(Separator::Comma))?;
+    let left = side_at(reading, toks, from);
+    let (left, end) = expect_after(left, toks, Terminal::Separator(Separator::Comma))?;
     let (right, end) = side_at(reading, toks, end)?;
     Ok((MeasuredSides { left, right }, end))
 }
@@ -197,9 +213,8 @@ fn meaning_at<R: ItemReading>(
     ensures goes { IfOk result (λ x. (from < x.1) × (x.1 ≤ length toks.now)) }
 {
     let from = expect(toks, from, Terminal::Separator(Separator::Equals))?;
-    let (term, end) = term_at(reading, toks, from)?;
-    let end = expect(toks, end, Terminal::Separator(Separator::Semicolon))?;
-    Ok((term, end))
+    let term = term_at(reading, toks, from);
+    expect_after(term, toks, Terminal::Separator(Separator::Semicolon))
 }
 
 fn read_definition<R: ItemReading>(
@@ -250,10 +265,10 @@ fn read_zero<R: ItemReading>(
         ) }
     ensures goes { IfOk result (λ end. (from < end) × (end ≤ length toks.now)) }
 {
-    let (term, end) = term_at(reading, toks, from)?;
-    let end = expect(toks, end, Terminal::Separator(Separator::Equals))?;
-    let end = expect(toks, end, Terminal::Zero)?;
-    let end = expect(toks, end, Terminal::Separator(Separator::Semicolon))?;
+    let term = term_at(reading, toks, from);
+    let equated = expect_after(term, toks, Terminal::Separator(Separator::Equals));
+    let zero = expect_after(equated, toks, Terminal::Zero);
+    let (term, end) = expect_after(zero, toks, Terminal::Separator(Separator::Semicolon))?;
     reading.state_zero(toks, at, term).and(Ok(end))
 }
 
@@ -272,8 +287,8 @@ fn read_hyp<R: ItemReading>(
     if !is_at(toks, from, Terminal::Keyword(Keyword::Triple)) {
         return read_zero(reading, toks, from, at);
     }
-    let (triple, end) = triple_at(reading, toks, from + 1, false)?;
-    let end = expect(toks, end, Terminal::Separator(Separator::Semicolon))?;
+    let triple = triple_at(reading, toks, from + 1, false);
+    let (triple, end) = expect_after(triple, toks, Terminal::Separator(Separator::Semicolon))?;
     reading.state_triple(toks, at, triple).and(Ok(end))
 }
 
@@ -323,8 +338,8 @@ fn read_comparison<R: ItemReading>(
         ) }
     ensures goes { IfOk result (λ end. (from < end) × (end ≤ length toks.now)) }
 {
-    let (sides, end) = sides_at(reading, toks, from)?;
-    let end = expect(toks, end, Terminal::Separator(Separator::Semicolon))?;
+    let sides = sides_at(reading, toks, from);
+    let (sides, end) = expect_after(sides, toks, Terminal::Separator(Separator::Semicolon))?;
     reading.check_numbers(toks, from, end)?;
     reading.ask_sides(toks, at, comparison, sides).and(Ok(end))
 }
@@ -340,8 +355,8 @@ fn read_triple_goal<R: ItemReading>(
         ) }
     ensures goes { IfOk result (λ end. (from < end) × (end ≤ length toks.now)) }
 {
-    let (triple, end) = triple_at(reading, toks, from, true)?;
-    let end = expect(toks, end, Terminal::Separator(Separator::Semicolon))?;
+    let triple = triple_at(reading, toks, from, true);
+    let (triple, end) = expect_after(triple, toks, Terminal::Separator(Separator::Semicolon))?;
     reading.check_numbers(toks, from, end)?;
     reading.ask_triple(toks, at, triple).and(Ok(end))
 }

@@ -1,24 +1,18 @@
 //! Prints programs as text.
-ghost use Rattle.std.specs.Prelude.{◌≡◌, [], ◌++◌, OnOk, IfOk};
+ghost use Rattle.std.specs.Prelude.{◌≡◌, [], ◌++◌, codes, OnOk, IfOk};
 ghost use Rattle.kat_model.specs.Expressions.{expr_tree, cond_tree};
 ghost use Rattle.text_parser.specs.Pieces.{spelled};
 ghost use Rattle.text_print.specs.Printing.{name_of, expr_text, cond_text};
 ghost use Rattle.while_lang.specs.ProgramViews.{stmt_tree};
 ghost use Rattle.problem_file.specs.ProgramPrinting.{block_pieces};
-ghost use Rattle.problem_file.specs.Working.ProgramTexts.{stmt_text, stmts_text};
+ghost use Rattle.problem_file.specs.Working.ProgramTexts.{stmt_text, block_text};
 
+use crate::writing::put;
 use kat_model::{Cond, Expr, NoMemory};
 use std::alloc::Global;
 use text_parser::{Meaning, Scope};
 use text_print::{print_cond, print_expr, put_name};
 use while_lang::{Prog, Stmt};
-
-fn put(out: &mut Vec<u8>, text: &[u8]) -> Result<(), NoMemory>
-    ensures { OnOk result (out.new.items ≡ out.old.items ++ text.now) }
-{
-    out.extend_from_slice(text)?;
-    Ok(())
-}
 
 #[tactic(auto, using(crate::proofs::PrintedPieces::cond_whole))]
 fn put_cond(alloc: Global, out: &mut Vec<u8>, cond: &Cond, scope: &Scope) -> Result<(), NoMemory>
@@ -36,6 +30,36 @@ fn put_expr(alloc: Global, out: &mut Vec<u8>, expr: &Expr, scope: &Scope) -> Res
     put(out, &text)
 }
 
+// Appends a condition between two texts.
+fn put_guard(
+    alloc: Global,
+    out: &mut Vec<u8>,
+    before: &[u8],
+    cond: &Cond,
+    after: &[u8],
+    scope: &Scope,
+) -> Result<(), NoMemory>
+    ensures { OnOk result (out.new.items ≡ out.old.items ++ (before.now ++ (cond_text (name_of scope.now) (cond_tree cond.now) ++ after.now))) }
+{
+    put(out, before)?;
+    put_cond(alloc, out, cond, scope)?;
+    put(out, after)
+}
+
+// Appends a blank, a name and a text.
+fn put_named(
+    out: &mut Vec<u8>,
+    scope: &Scope,
+    meaning: Meaning,
+    after: &[u8],
+) -> Result<(), NoMemory>
+    ensures { OnOk result (out.new.items ≡ out.old.items ++ (codes " " ++ (name_of scope.now meaning ++ after.now))) }
+{
+    put(out, b" ")?;
+    put_name(out, scope, meaning)?;
+    put(out, after)
+}
+
 // Appends a blank and the statement.
 #[cycle(prints)]
 fn put_stmt(alloc: Global, out: &mut Vec<u8>, stmt: &Stmt, scope: &Scope) -> Result<(), NoMemory>
@@ -44,51 +68,36 @@ fn put_stmt(alloc: Global, out: &mut Vec<u8>, stmt: &Stmt, scope: &Scope) -> Res
     match stmt {
         Stmt::Skip => put(out, b" skip;"),
         Stmt::Abort => put(out, b" abort;"),
-        Stmt::Assert(b) => {
-            put(out, b" assert ")?;
-            put_cond(alloc, out, b, scope)?;
-            put(out, b";")
-        }
-        Stmt::Act(a) => {
-            put(out, b" ")?;
-            put_name(out, scope, Meaning::Action(*a))?;
-            put(out, b";")
-        }
+        Stmt::Assert(b) => put_guard(alloc, out, b" assert ", b, b";", scope),
+        Stmt::Act(a) => put_named(out, scope, Meaning::Action(*a), b";"),
         Stmt::Assign(x, e) => {
-            put(out, b" ")?;
-            put_name(out, scope, Meaning::Var(*x))?;
-            put(out, b" := ")?;
+            put_named(out, scope, Meaning::Var(*x), b" := ")?;
             put_expr(alloc, out, e, scope)?;
             put(out, b";")
         }
         Stmt::If(b, p, q) => {
-            put(out, b" if ")?;
-            put_cond(alloc, out, b, scope)?;
-            put(out, b" {")?;
-            put_stmts(alloc, out, p, scope)?;
-            put(out, b" } else {")?;
-            put_stmts(alloc, out, q, scope)?;
-            put(out, b" }")
+            put_guard(alloc, out, b" if ", b, b" ", scope)?;
+            put_block(alloc, out, p, scope)?;
+            put(out, b" else ")?;
+            put_block(alloc, out, q, scope)
         }
         Stmt::While(b, p) => {
-            put(out, b" while ")?;
-            put_cond(alloc, out, b, scope)?;
-            put(out, b" {")?;
-            put_stmts(alloc, out, p, scope)?;
-            put(out, b" }")
+            put_guard(alloc, out, b" while ", b, b" ", scope)?;
+            put_block(alloc, out, p, scope)
         }
     }
 }
 
-// Appends the statements of a program, each after a blank.
+// Appends a program as a block, with a blank before each statement and before the closing brace.
 #[cycle(prints)]
-fn put_stmts(alloc: Global, out: &mut Vec<u8>, prog: &Prog, scope: &Scope) -> Result<(), NoMemory>
-    ensures { OnOk result (out.new.items ≡ out.old.items ++ stmts_text (name_of scope.now) prog.now) }
+fn put_block(alloc: Global, out: &mut Vec<u8>, prog: &Prog, scope: &Scope) -> Result<(), NoMemory>
+    ensures { OnOk result (out.new.items ≡ out.old.items ++ block_text (name_of scope.now) prog.now) }
 {
+    put(out, b"{")?;
     for stmt in &prog.list {
         put_stmt(alloc, out, stmt, scope)?;
     }
-    Ok(())
+    put(out, b" }")
 }
 
 /// Returns the text of a program as a block: `{`, each statement after a blank, and ` }`. Statements are `skip;`,
@@ -99,8 +108,6 @@ pub fn print_prog(alloc: Global, prog: &Prog, scope: &Scope) -> Result<Vec<u8>, 
     ensures { IfOk result (λ v. v.items ≡ spelled (block_pieces (name_of scope.now) prog.now [])) }
 {
     let mut out = Vec::new(alloc);
-    put(&mut out, b"{")?;
-    put_stmts(alloc, &mut out, prog, scope)?;
-    put(&mut out, b" }")?;
+    put_block(alloc, &mut out, prog, scope)?;
     Ok(out)
 }

@@ -34,6 +34,10 @@ stmts_text names (assign_then x e rest) = assign_text names (names (Var x)) e ++
 stmts_text names (branch_then b p q rest) = branch_text names b (stmts_text names p) (stmts_text names q) ++ stmts_text names rest
 stmts_text names (loop_then b p rest) = loop_text names b (stmts_text names p) ++ stmts_text names rest
 
+-- a block, with a blank before the closing brace
+abbrev pub block_text : (Meaning → List ℕ) → ProgTree → List ℕ
+block_text names p = codes "{" ++ (stmts_text names p ++ codes " }")
+
 -- a statement after a blank
 abbrev pub stmt_text : (Meaning → List ℕ) → StmtTree → List ℕ
 stmt_text names skip = codes " skip;"

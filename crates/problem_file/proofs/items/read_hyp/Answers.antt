@@ -1,13 +1,13 @@
-use Rattle.std.proofs.Common.{◌+◌, ◌<◌, ◌≤◌, drop, false, refl, length, arith}
+use Rattle.std.proofs.Common.{◌≡◌, ◌+◌, ◌<◌, ◌≤◌, drop, false, Ok, Err, refl, length, arith}
 use Rattle.text_parser.specs.declared.terminal.Terminal.TheVariants.{Separator}
 use Rattle.text_parser.specs.declared.terminal.Separator.TheVariants.{Semicolon}
 use Rattle.text_parser.specs.Lexemes.{lexemes, is_terminal}
-use Rattle.text_parser.specs.Parsed.{wants}
-use Rattle.text_parser.proofs.NamedFaults.{wants_named}
+use Rattle.text_parser.specs.Parsed.{then_wants}
 use Rattle.text_parser.proofs.TokenPlaces.{next_drop}
 use Rattle.problem_file.specs.Items.{triple_by, hyp_by}
 use Rattle.problem_file.specs.Working.Walks.{triple_of}
-use Rattle.problem_file.proofs.ReadFaults.{named_fault, read_fault, check_fault, fault_ends, made_ends, made_within}
+use Rattle.problem_file.proofs.FollowedParts.{followed_reads}
+use Rattle.problem_file.proofs.ReadFaults.{read_fault, check_fault, fault_ends, made_ends, made_within}
 use Rattle.problem_file.proofs.items.read_hyp.Goals as goal
 
 pub returns-in_err-begin_hyp-clause-value : goal.returns-in_err-begin_hyp-clause-value
@@ -29,21 +29,12 @@ returns-in_err-triple-clause-value g c =
     let s = g.R.ItemReading.state c.args.reading.now in
     let all = lexemes c.args.toks.now in
     let ts = drop c.args.from all in
-    let told = read_fault (triple_of all) all (triple_by a s false (drop (c.args.from + 1) all)) c.in_err-triple.field-0.0 c.in_err-triple.ensures.value in
-    fault_ends g.R.ItemReading.memory all s (hyp_by a s c.args.at ts) c.in_err-triple.field-0.0 c.from_residual-in_err-triple.result c.from_residual-in_err-triple.ensures.1 told.0
-    (rw (c.in_ok-begin_hyp.ensures, ← c.if-not-is_at.ensures.value, next_drop c.args.from all, told.1) refl)
-
-pub returns-in_err-end-clause-value : goal.returns-in_err-end-clause-value
-returns-in_err-end-clause-value g c =
-    let a = g.R.ItemReading.actions in
-    let s = g.R.ItemReading.state c.args.reading.now in
-    let all = lexemes c.args.toks.now in
-    let ts = drop c.args.from all in
+    let e = c.in_err-triple.field-0.0 in
     let p = is_terminal (Separator Semicolon) in
-    let us = drop c.in_ok-triple.end all in
-    let told = named_fault (wants p us) c.in_err-end.field-0.0 (wants_named p us) c.in_err-end.ensures.value in
-    fault_ends g.R.ItemReading.memory all s (hyp_by a s c.args.at ts) c.in_err-end.field-0.0 c.from_residual-in_err-end.result c.from_residual-in_err-end.ensures.1 told.0
-    (rw (c.in_ok-begin_hyp.ensures, ← c.if-not-is_at.ensures.value, next_drop c.args.from all, c.in_ok-triple.ensures.value, told.1) refl)
+    let m = triple_by a s false (drop (c.args.from + 1) all) in
+    let told = read_fault (triple_of all) all (then_wants p m) e (followed_reads (triple_of all) all p c.triple_at-triple.result (Err e) m c.triple_at-triple.ensures.value c.in_err-triple.ensures.value) in
+    fault_ends g.R.ItemReading.memory all s (hyp_by a s c.args.at ts) e c.from_residual-in_err-triple.result c.from_residual-in_err-triple.ensures.1 told.0
+    (rw (c.in_ok-begin_hyp.ensures, ← c.if-not-is_at.ensures.value, next_drop c.args.from all, told.1) refl)
 
 pub returns-clause-value : goal.returns-clause-value
 returns-clause-value g c =
@@ -51,8 +42,15 @@ returns-clause-value g c =
     let s = g.R.ItemReading.state c.args.reading.now in
     let all = lexemes c.args.toks.now in
     let ts = drop c.args.from all in
-    made_ends g.R.ItemReading.memory all (g.R.ItemReading.state c.state_triple.new.self) c.in_ok-end.end c.state_triple.result c.and.result (a.state_triple s c.args.at (triple_of all c.in_ok-triple.triple)) (hyp_by a s c.args.at ts) c.and.ensures c.state_triple.ensures
-    (rw (c.in_ok-begin_hyp.ensures, ← c.if-not-is_at.ensures.value, next_drop c.args.from all, c.in_ok-triple.ensures.value, c.in_ok-end.ensures.value) refl)
+    let end = c.in_ok-triple.end in
+    let x = triple_of all c.in_ok-triple.triple in
+    let p = is_terminal (Separator Semicolon) in
+    let m = triple_by a s false (drop (c.args.from + 1) all) in
+    let read : then_wants p m ≡ Ok (x, drop end all) = followed_reads (triple_of all) all p c.triple_at-triple.result (Ok (c.in_ok-triple.triple, end)) m c.triple_at-triple.ensures.value c.in_ok-triple.ensures.value in
+    made_ends g.R.ItemReading.memory all (g.R.ItemReading.state c.state_triple.new.self) end c.state_triple.result c.and.result (a.state_triple s c.args.at x) (hyp_by a s c.args.at ts) c.and.ensures c.state_triple.ensures
+    (rw (c.in_ok-begin_hyp.ensures, ← c.if-not-is_at.ensures.value, next_drop c.args.from all, read) refl)
 
 pub returns-clause-goes : goal.returns-clause-goes
-returns-clause-goes g c = made_within (λ end. (c.args.from < end) × (end ≤ length c.args.toks.now)) c.in_ok-end.end c.state_triple.result c.and.result c.and.ensures (omega (arith, c.in_ok-triple.ensures.goes.0, c.in_ok-end.ensures.goes.0), omega (arith, c.in_ok-end.ensures.goes.0, c.in_ok-end.ensures.goes.1))
+returns-clause-goes g c =
+    let ends = c.in_ok-triple.ensures.goes (c.args.from + 1) c.triple_at-triple.ensures.goes in
+    made_within (λ end. (c.args.from < end) × (end ≤ length c.args.toks.now)) c.in_ok-triple.end c.state_triple.result c.and.result c.and.ensures (omega (arith, ends.0), ends.1)

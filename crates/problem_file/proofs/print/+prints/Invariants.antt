@@ -5,6 +5,6 @@ use Rattle.problem_file.specs.Working.ProgramTexts.{stmts_text}
 use Rattle.problem_file.proofs.print.+prints.Given as goal
 
 -- the text so far and that of the remaining statements are the whole text
-abbrev pub invariant-put_stmts-loop-stmt : goal.invariant-put_stmts-loop-stmt
-invariant-put_stmts-loop-stmt l =
+abbrev pub invariant-put_block-loop-stmt : goal.invariant-put_block-loop-stmt
+invariant-put_block-loop-stmt l =
     l.out.items ++ stmts_text (name_of l.scope) (list_tree (drop l.stmt-index l.stmt-items)) ≡ l.initial.out.items ++ stmts_text (name_of l.scope) (list_tree l.stmt-items)
