@@ -58,8 +58,9 @@ module _ (names : Meaning → List ℕ) where
       (codes " {" ++ (stmts_text names p ++ (codes " }" ++ (stmts_text names rest ++ spelled ps)))) (ap (λ (l : List ℕ). codes " {" ++ l) body))
       ∙ sym (simp append_assoc)
 
+  pub block_spelled : (p : ProgTree) → spelled (block_pieces names p []) ≡ block_text names p
+  block_spelled p = ap (λ (l : List ℕ). codes "{" ++ l) (stmts_spell p (gap 32 ∷ symbol (codes "}") ∷ []))
+
   -- a block written to an empty buffer is spelled by its pieces
   pub block_printed : (p : ProgTree) (old new : List ℕ) → old ≡ [] → new ≡ old ++ block_text names p → new ≡ spelled (block_pieces names p [])
-  block_printed p old new e h =
-      let text : spelled (block_pieces names p []) ≡ block_text names p = ap (λ (l : List ℕ). codes "{" ++ l) (stmts_spell p (gap 32 ∷ symbol (codes "}") ∷ [])) in
-      rw (h, e, text) refl
+  block_printed p old new e h = rw (h, e, block_spelled p) refl

@@ -90,7 +90,12 @@ fn put_stmt(alloc: Global, out: &mut Vec<u8>, stmt: &Stmt, scope: &Scope) -> Res
 
 // Appends a program as a block, with a blank before each statement and before the closing brace.
 #[cycle(prints)]
-fn put_block(alloc: Global, out: &mut Vec<u8>, prog: &Prog, scope: &Scope) -> Result<(), NoMemory>
+pub(crate) fn put_block(
+    alloc: Global,
+    out: &mut Vec<u8>,
+    prog: &Prog,
+    scope: &Scope,
+) -> Result<(), NoMemory>
     ensures { OnOk result (out.new.items ≡ out.old.items ++ block_text (name_of scope.now) prog.now) }
 {
     put(out, b"{")?;

@@ -4,7 +4,7 @@ ghost use Rattle.std.specs.Prelude.{◌≡◌, ◌++◌, OnOk, IfOk};
 ghost use Rattle.text_print.specs.Printing.{name_of};
 ghost use Rattle.problem_file.specs.ProgramTexts.{width_text, vars_text, prog_text, equal_text, one_program_text};
 
-use crate::print::print_prog;
+use crate::print::put_block;
 use crate::writing::put;
 use kat_model::{NoMemory, Width};
 use std::alloc::Global;
@@ -37,8 +37,7 @@ fn put_vars(out: &mut Vec<u8>, scope: &Scope, count: usize) -> Result<(), NoMemo
         put(out, b", ")?;
         put_name(out, scope, Meaning::Var(k))?;
     }
-    put(out, b";\n")?;
-    Ok(())
+    put(out, b";\n")
 }
 
 fn put_prog(
@@ -53,8 +52,7 @@ fn put_prog(
     put(out, b"prog ")?;
     put(out, name.as_bytes())?;
     put(out, b" ")?;
-    let block = print_prog(alloc, prog, scope)?;
-    put(out, &block)?;
+    put_block(alloc, out, prog, scope)?;
     put(out, b"\n")
 }
 

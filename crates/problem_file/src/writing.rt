@@ -62,8 +62,7 @@ fn put_declaration(
         put(out, b", ")?;
         put_name(alloc, out, letter, k)?;
     }
-    put(out, b";\n")?;
-    Ok(())
+    put(out, b";\n")
 }
 
 /// Appends the line `test t0, t1;` for `count` tests, or nothing if there are none.

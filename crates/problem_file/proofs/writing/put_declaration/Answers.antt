@@ -1,5 +1,6 @@
 use Rattle.std.proofs.Common.{◌∷◌, arith}
 use Rattle.std.specs.Fmt.{decimal}
+use Rattle.std.proofs.lemmas.Result.{on_ok_weaker}
 use Rattle.problem_file.proofs.PlainWritten.{name_more, declaration_written}
 use Rattle.problem_file.proofs.writing.put_declaration.Goals as goal
 
@@ -10,5 +11,7 @@ loop-k-preserved c =
 
 pub returns : goal.returns
 returns c =
-    declaration_written (λ k. c.args.letter ∷ decimal k) c.args.keyword.now c.args.out.now.items c.put.new.out.items c.put-2.new.out.items c.put_name.new.out.items c.loop-k.out.items c.put-3.new.out.items c.loop-k.k c.args.count
-    (omega arith) (omega arith) c.in_ok-put.ensures c.in_ok-put-2.ensures c.in_ok-put_name.ensures c.loop-k.invariant c.in_ok-put-4.ensures
+    on_ok_weaker c.put-3.result
+    (declaration_written (λ k. c.args.letter ∷ decimal k) c.args.keyword.now c.args.out.now.items c.put.new.out.items c.put-2.new.out.items c.put_name.new.out.items c.loop-k.out.items c.put-3.new.out.items c.loop-k.k c.args.count
+    (omega arith) (omega arith) c.in_ok-put.ensures c.in_ok-put-2.ensures c.in_ok-put_name.ensures c.loop-k.invariant)
+    c.put-3.ensures
