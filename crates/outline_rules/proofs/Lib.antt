@@ -20,3 +20,4 @@ pub mod NodeTests
 pub mod NodeSets
 pub mod Against
 pub mod Soundness
+pub mod StatementChecks

@@ -51,8 +51,7 @@ fn push_implied<'a>(
         ≡ map condition_of checks.old.items ++ implies from (guard_tree guard.entry) (suc previous) ∷ []) }
 {
     let to = next_place(previous)?;
-    push_check(checks, Check::Implies(from, guard, to))?;
-    Ok(to)
+    push_check(checks, Check::Implies(from, guard, to)).and(Ok(to))
 }
 
 // Appends the check that the action leads from the note at `from` to the note at the next place, and returns that place.
@@ -62,8 +61,7 @@ fn push_led(checks: &mut Vec<Check<'_>>, from: usize, action: usize) -> Result<u
         ≡ map condition_of checks.old.items ++ leads from action (suc from) ∷ []) }
 {
     let to = next_place(from)?;
-    push_check(checks, Check::Leads(from, action, to))?;
-    Ok(to)
+    push_check(checks, Check::Leads(from, action, to)).and(Ok(to))
 }
 
 // Appends the checks of a statement that begins at `place`, and returns the place after it.

@@ -1,0 +1,40 @@
+-- The checks of statements, from the lists that each step leaves.
+use Rattle.std.proofs.Common.{◌≡◌, ℕ, suc, List, [], ◌∷◌, ◌++◌, Result, Ok, Err, append_assoc}
+use Rattle.std.specs.Result.{IfOk, OnOk, result_and}
+use Rattle.kat_model.specs.Trees.{TestTree, top, complement}
+use Rattle.while_lang.specs.Flows.{FlowTree, branch, loop}
+use Rattle.outline_rules.specs.Places.{last_place}
+use Rattle.outline_rules.specs.Follows.{Condition, implies, conditions_from}
+use Rattle.outline_rules.specs.Working.Checks.{conditions_of_stmt}
+
+branch_lists : {X : Type 0} (m f g : List X) (a b c d : X) → ((((((m ++ (a ∷ [])) ++ f) ++ (b ∷ [])) ++ g) ++ (c ∷ [])) ++ (d ∷ [])) ≡ m ++ (a ∷ (f ++ (b ∷ (g ++ (c ∷ (d ∷ []))))))
+branch_lists m f g a b c d = simp append_assoc
+
+loop_lists : {X : Type 0} (m f : List X) (a b c d : X) → (((((m ++ (a ∷ [])) ++ (b ∷ [])) ++ f) ++ (c ∷ [])) ++ (d ∷ [])) ≡ m ++ (a ∷ (b ∷ (f ++ (c ∷ (d ∷ [])))))
+loop_lists m f a b c d = simp append_assoc
+
+pub branch_checked : (b : TestTree) (f g : FlowTree) (n first first_end second second_end : ℕ) (m0 m1 m2 m3 m4 m5 m6 : List Condition) → first ≡ suc n → first_end ≡ last_place f first → second ≡ suc first_end → second_end ≡ last_place g second
+    → m1 ≡ m0 ++ implies n b (suc n) ∷ [] → m2 ≡ m1 ++ conditions_from f first → m3 ≡ m2 ++ implies n (complement b) (suc first_end) ∷ [] → m4 ≡ m3 ++ conditions_from g second
+    → m5 ≡ m4 ++ implies first_end top (suc second_end) ∷ [] → m6 ≡ m5 ++ implies second_end top (suc second_end) ∷ [] → m6 ≡ m0 ++ conditions_of_stmt (branch b f g) n
+branch_checked b f g n first first_end second second_end m0 m1 m2 m3 m4 m5 m6 p1 p2 p3 p4 e1 e2 e3 e4 e5 e6 =
+    let k = last_place f (suc n) in
+    let l = last_place g (suc k) in
+    rw (e6, e5, e4, e3, e2, e1, p4, p3, p2, p1)
+    (branch_lists m0 (conditions_from f (suc n)) (conditions_from g (suc k)) (implies n b (suc n)) (implies n (complement b) (suc k)) (implies k top (suc l)) (implies l top (suc l)))
+
+pub loop_checked : (b : TestTree) (f : FlowTree) (n invariant body body_end : ℕ) (m0 m1 m2 m3 m4 m5 : List Condition) → invariant ≡ suc n → body ≡ suc invariant → body_end ≡ last_place f body
+    → m1 ≡ m0 ++ implies n top (suc n) ∷ [] → m2 ≡ m1 ++ implies invariant b (suc invariant) ∷ [] → m3 ≡ m2 ++ conditions_from f body → m4 ≡ m3 ++ implies body_end top invariant ∷ []
+    → m5 ≡ m4 ++ implies invariant (complement b) (suc body_end) ∷ [] → m5 ≡ m0 ++ conditions_of_stmt (loop b f) n
+loop_checked b f n invariant body body_end m0 m1 m2 m3 m4 m5 p1 p2 p3 e1 e2 e3 e4 e5 =
+    let k = last_place f (suc (suc n)) in
+    rw (e5, e4, e3, e2, e1, p3, p2, p1)
+    (loop_lists m0 (conditions_from f (suc (suc n))) (implies n top (suc n)) (implies (suc n) b (suc (suc n))) (implies k top (suc n)) (implies (suc n) (complement b) (suc k)))
+
+-- a place that is returned after a check was appended
+pub and_place : {E : Type 0} (P : ℕ → Type 0) (to : ℕ) (made : Result (Unit {0}) E) (r : Result ℕ E) → r ≡ result_and made (Ok to) → P to → IfOk r P
+and_place P to (Ok u) r is h = rw (is) h
+and_place P to (Err e) r is h = rw (is) tt
+
+pub and_checks : {E : Type 0} (Q : Type 0) (to : ℕ) (made : Result (Unit {0}) E) (r : Result ℕ E) → r ≡ result_and made (Ok to) → OnOk made Q → OnOk r Q
+and_checks Q to (Ok u) r is h = rw (is) h
+and_checks Q to (Err e) r is h = rw (is) tt
