@@ -38,3 +38,13 @@ and_place P to (Err e) r is h = rw (is) tt
 pub and_checks : {E : Type 0} (Q : Type 0) (to : ℕ) (made : Result (Unit {0}) E) (r : Result ℕ E) → r ≡ result_and made (Ok to) → OnOk made Q → OnOk r Q
 and_checks Q to (Ok u) r is h = rw (is) h
 and_checks Q to (Err e) r is h = rw (is) tt
+
+-- the value of the second of two steps, and what both leave
+pub and_second : {A B E : Type 0} (P : B → Type 0) (first : Result A E) (second r : Result B E) → r ≡ result_and first second → IfOk second P → IfOk r P
+and_second P (Ok x) second r is h = rw (is) h
+and_second P (Err e) second r is h = rw (is) tt
+
+pub and_both : {A B E P Q R : Type 0} (first : Result A E) (second r : Result B E) → r ≡ result_and first second → OnOk first P → OnOk second Q → (P → Q → R) → OnOk r R
+and_both (Ok x) (Ok y) r is p q k = rw (is) (k p q)
+and_both (Ok x) (Err e) r is p q k = rw (is) tt
+and_both (Err e) second r is p q k = rw (is) tt

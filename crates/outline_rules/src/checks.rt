@@ -85,15 +85,15 @@ fn push_stmt_checks<'a>(
             let first_end = push_checks(checks, f, first)?;
             let second = push_implied(checks, place, Guard::Fails(b), first_end)?;
             let second_end = push_checks(checks, g, second)?;
-            push_implied(checks, first_end, Guard::Always, second_end)?;
-            push_implied(checks, second_end, Guard::Always, second_end)
+            let joined = push_implied(checks, first_end, Guard::Always, second_end);
+            joined.and(push_implied(checks, second_end, Guard::Always, second_end))
         }
         Flow::While(b, f) => {
             let invariant = push_implied(checks, place, Guard::Always, place)?;
             let body = push_implied(checks, invariant, Guard::Holds(b), invariant)?;
             let body_end = push_checks(checks, f, body)?;
-            push_check(checks, Check::Implies(body_end, Guard::Always, invariant))?;
-            push_implied(checks, invariant, Guard::Fails(b), body_end)
+            let again = push_check(checks, Check::Implies(body_end, Guard::Always, invariant));
+            again.and(push_implied(checks, invariant, Guard::Fails(b), body_end))
         }
     }
 }
