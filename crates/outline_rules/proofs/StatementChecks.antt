@@ -1,11 +1,14 @@
 -- The checks of statements, from the lists that each step leaves.
-use Rattle.std.proofs.Common.{◌≡◌, ℕ, suc, List, [], ◌∷◌, ◌++◌, Result, Ok, Err, append_assoc}
+use Rattle.std.proofs.Common.{◌≡◌, ◌+◌, ◌<◌, ℕ, suc, List, [], ◌∷◌, ◌++◌, length, drop, get_or, Result, Ok, Err, refl, sym, ap, ◌∙◌, append_assoc}
+use Rattle.std.proofs.lemmas.List.{drop_more}
 use Rattle.std.specs.Result.{IfOk, OnOk, result_and}
 use Rattle.kat_model.specs.Trees.{TestTree, top, complement}
-use Rattle.while_lang.specs.Flows.{FlowTree, branch, loop}
+use Rattle.while_lang.specs.Flows.{FlowTree, FlowStmt, skip, abort, assert, act, branch, loop, with_stmt}
+use Rattle.while_lang.specs.FlowViews.{flow_stmt, flows_tree}
+use Rattle.while_lang.specs.declared.flow.Flow.{Flow}
 use Rattle.outline_rules.specs.Places.{last_place}
 use Rattle.outline_rules.specs.Follows.{Condition, implies, conditions_from}
-use Rattle.outline_rules.specs.Working.Checks.{conditions_of_stmt}
+use Rattle.outline_rules.specs.Working.Checks.{place_after, conditions_of_stmt}
 
 branch_lists : {X : Type 0} (m f g : List X) (a b c d : X) → ((((((m ++ (a ∷ [])) ++ f) ++ (b ∷ [])) ++ g) ++ (c ∷ [])) ++ (d ∷ [])) ≡ m ++ (a ∷ (f ++ (b ∷ (g ++ (c ∷ (d ∷ []))))))
 branch_lists m f g a b c d = simp append_assoc
@@ -48,3 +51,47 @@ pub and_both : {A B E P Q R : Type 0} (first : Result A E) (second r : Result B 
 and_both (Ok x) (Ok y) r is p q k = rw (is) (k p q)
 and_both (Ok x) (Err e) r is p q k = rw (is) tt
 and_both (Err e) second r is p q k = rw (is) tt
+
+-- ---- lists of statements
+
+place_of_first : (s : FlowStmt) (rest : FlowTree) (n : ℕ) → last_place (with_stmt s rest) n ≡ last_place rest (place_after s n)
+place_of_first skip rest n = refl
+place_of_first abort rest n = refl
+place_of_first (assert b) rest n = refl
+place_of_first (act a) rest n = refl
+place_of_first (branch b f g) rest n = refl
+place_of_first (loop b f) rest n = refl
+
+branch_before : {X : Type 0} (f g rest : List X) (a b c d : X) → (a ∷ (f ++ (b ∷ (g ++ (c ∷ (d ∷ rest)))))) ≡ (a ∷ (f ++ (b ∷ (g ++ (c ∷ (d ∷ [])))))) ++ rest
+branch_before f g rest a b c d = sym (simp append_assoc)
+
+loop_before : {X : Type 0} (f rest : List X) (a b c d : X) → (a ∷ (b ∷ (f ++ (c ∷ (d ∷ rest))))) ≡ (a ∷ (b ∷ (f ++ (c ∷ (d ∷ []))))) ++ rest
+loop_before f rest a b c d = sym (simp append_assoc)
+
+conditions_of_first : (s : FlowStmt) (rest : FlowTree) (n : ℕ) → conditions_from (with_stmt s rest) n ≡ conditions_of_stmt s n ++ conditions_from rest (place_after s n)
+conditions_of_first skip rest n = refl
+conditions_of_first abort rest n = refl
+conditions_of_first (assert b) rest n = refl
+conditions_of_first (act a) rest n = refl
+conditions_of_first (branch b f g) rest n = branch_before (conditions_from f (suc n)) _ (conditions_from rest (place_after (branch b f g) n)) _ _ _ _
+conditions_of_first (loop b f) rest n = loop_before (conditions_from f (suc (suc n))) (conditions_from rest (place_after (loop b f) n)) _ _ _ _
+
+module _ (items : List Flow) (i : ℕ) (x : Flow) (lt : i < length items) (is : x ≡ get_or items i x) where
+  first_left : flows_tree (drop i items) ≡ with_stmt (flow_stmt x) (flows_tree (drop (i + 1) items))
+  first_left = ap flows_tree (drop_more items i x lt) ∙ ap (λ (s : Flow). with_stmt (flow_stmt s) (flows_tree (drop (i + 1) items))) (sym is)
+
+  pub place_more : (at next last : ℕ) → next ≡ place_after (flow_stmt x) at → last_place (flows_tree (drop i items)) at ≡ last → last_place (flows_tree (drop (i + 1) items)) next ≡ last
+  place_more at next last e inv =
+      let rest = flows_tree (drop (i + 1) items) in
+      ap (last_place rest) e ∙ sym (place_of_first (flow_stmt x) rest at) ∙ ap (λ (f : FlowTree). last_place f at) (sym first_left) ∙ inv
+
+  pub checks_more : (old new whole : List Condition) (at next : ℕ) → next ≡ place_after (flow_stmt x) at → new ≡ old ++ conditions_of_stmt (flow_stmt x) at → old ++ conditions_from (flows_tree (drop i items)) at ≡ whole
+      → new ++ conditions_from (flows_tree (drop (i + 1) items)) next ≡ whole
+  checks_more old new whole at next e pushed inv =
+      let rest = flows_tree (drop (i + 1) items) in
+      ap (λ (n : ℕ). new ++ conditions_from rest n) e
+      ∙ ap (λ (l : List Condition). l ++ conditions_from rest (place_after (flow_stmt x) at)) pushed
+      ∙ append_assoc old (conditions_of_stmt (flow_stmt x) at) (conditions_from rest (place_after (flow_stmt x) at))
+      ∙ ap (λ (l : List Condition). old ++ l) (sym (conditions_of_first (flow_stmt x) rest at))
+      ∙ ap (λ (f : FlowTree). old ++ conditions_from f at) (sym first_left)
+      ∙ inv

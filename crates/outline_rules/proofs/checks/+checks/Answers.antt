@@ -1,6 +1,6 @@
 use Rattle.std.proofs.Common.{◌≡◌, suc}
 use Rattle.kat_model.specs.Trees.{test_tree}
-use Rattle.outline_rules.proofs.StatementChecks.{branch_checked, loop_checked, and_second, and_both}
+use Rattle.outline_rules.proofs.StatementChecks.{branch_checked, loop_checked, and_second, and_both, place_more, checks_more}
 use Rattle.outline_rules.proofs.checks.+checks.Goals as goal
 
 pub push_stmt_checks-returns-in_ok-second_end-in-If-clause-place : goal.push_stmt_checks-returns-in_ok-second_end-in-If-clause-place
@@ -28,3 +28,13 @@ push_stmt_checks-returns-in_ok-body_end-in-While-clause-checks t c =
     (loop_checked (test_tree c.in-While.b) c.in-While.f c.args.place c.in_ok-invariant-in-While.invariant c.in_ok-body-in-While.body c.in_ok-body_end-in-While.body_end _ _ _ _ _ _
     c.in_ok-invariant-in-While.ensures.place c.in_ok-body-in-While.ensures.place c.in_ok-body_end-in-While.ensures.place
     c.in_ok-invariant-in-While.ensures.checks c.in_ok-body-in-While.ensures.checks c.in_ok-body_end-in-While.ensures.checks))
+
+pub push_checks-loop-stmt-preserved : goal.push_checks-loop-stmt-preserved
+push_checks-loop-stmt-preserved t c =
+    let items = c.deref-stmt-items.result.now in
+    let i = c.loop-stmt.stmt-index in
+    let next = c.in_ok-at.ensures.place in
+    record {
+      place = place_more items i c.stmt-item.result c.loop-stmt-test.true c.stmt-item.is c.loop-stmt.at c.in_ok-at.at _ next c.loop-stmt.invariant.place;
+      checks = checks_more items i c.stmt-item.result c.loop-stmt-test.true c.stmt-item.is _ _ _ c.loop-stmt.at c.in_ok-at.at next c.in_ok-at.ensures.checks c.loop-stmt.invariant.checks;
+    }
