@@ -26,6 +26,7 @@ pub mod NameWalks
 pub mod ReadFaults
 pub mod ItemParts
 pub mod FollowedParts
+pub mod PrintedStatements
 pub mod PhraseFronts
 pub mod Appends
 pub mod FoundItems

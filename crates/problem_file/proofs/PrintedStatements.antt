@@ -1,0 +1,29 @@
+-- The text of statements, as one more of them is written.
+use Rattle.std.proofs.Common.{◌≡◌, ◌+◌, ◌<◌, ℕ, List, ◌++◌, length, drop, get_or, refl, sym, ap, ◌∙◌, append_assoc}
+use Rattle.std.proofs.lemmas.List.{drop_more}
+use Rattle.text_parser.specs.declared.meaning.Meaning.{Meaning}
+use Rattle.while_lang.specs.Programs.{ProgTree, StmtTree, skip, abort, assert, act, assign, branch, loop, with_stmt}
+use Rattle.while_lang.specs.ProgramViews.{stmt_tree, list_tree}
+use Rattle.while_lang.specs.declared.prog.Stmt.{Stmt}
+use Rattle.problem_file.specs.Working.ProgramTexts.{stmts_text, stmt_text}
+
+module _ (names : Meaning → List ℕ) where
+  text_of_first : (s : StmtTree) (rest : ProgTree) → stmts_text names (with_stmt s rest) ≡ stmt_text names s ++ stmts_text names rest
+  text_of_first skip rest = refl
+  text_of_first abort rest = refl
+  text_of_first (assert b) rest = refl
+  text_of_first (act a) rest = refl
+  text_of_first (assign x e) rest = refl
+  text_of_first (branch b p q) rest = refl
+  text_of_first (loop b p) rest = refl
+
+  pub text_more : (items : List Stmt) (i : ℕ) (x : Stmt) → i < length items → x ≡ get_or items i x → (old new whole : List ℕ) → new ≡ old ++ stmt_text names (stmt_tree x) → old ++ stmts_text names (list_tree (drop i items)) ≡ whole
+      → new ++ stmts_text names (list_tree (drop (i + 1) items)) ≡ whole
+  text_more items i x lt is old new whole written inv =
+      let rest = list_tree (drop (i + 1) items) in
+      let left : list_tree (drop i items) ≡ with_stmt (stmt_tree x) rest = ap list_tree (drop_more items i x lt) ∙ ap (λ (s : Stmt). with_stmt (stmt_tree s) rest) (sym is) in
+      ap (λ (l : List ℕ). l ++ stmts_text names rest) written
+      ∙ append_assoc old (stmt_text names (stmt_tree x)) (stmts_text names rest)
+      ∙ ap (λ (l : List ℕ). old ++ l) (sym (text_of_first (stmt_tree x) rest))
+      ∙ ap (λ (p : ProgTree). old ++ stmts_text names p) (sym left)
+      ∙ inv
