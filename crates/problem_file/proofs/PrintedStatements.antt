@@ -1,4 +1,4 @@
--- The text of statements, as one more of them is written.
+-- The text of statements, as an additional statement is written.
 use Rattle.std.proofs.Common.{◌≡◌, ◌+◌, ◌<◌, ℕ, List, ◌++◌, length, drop, get_or, refl, sym, ap, ◌∙◌, append_assoc}
 use Rattle.std.proofs.lemmas.List.{drop_more}
 use Rattle.text_parser.specs.declared.meaning.Meaning.{Meaning}
