@@ -7,11 +7,10 @@ pub mod ValuesMade
 pub mod MovesMade
 pub mod ReaderExamples
 pub mod KeptValues
-mod Words
-mod Symbols
 pub mod GrammarExamples
 pub mod Reversed
 mod RowLists
+mod MarkLists
 pub mod TokensTaken
 pub mod Stacked
 pub mod Taken

@@ -1,6 +1,6 @@
 //! From a text to its derivation.
 ghost use Rattle.std.specs.Prelude.{◌≡◌, ◌≤◌, length, map, IfOk, IfErr};
-ghost use Rattle.text_parser.specs.TokenParts.{parts_of_tokens};
+ghost use Rattle.text_parser.specs.TokenParts.{parts_of_token, parts_of_tokens};
 ghost use Rattle.flow_syntax.specs.Derivations.{Derives, IsReaderFault};
 ghost use Rattle.flow_syntax.specs.declared.phrase.TheConstants.{FILE};
 ghost use Rattle.flow_syntax.specs.Terminals.{mark_of};
@@ -11,19 +11,25 @@ use crate::phrase::FILE;
 use crate::reading::read;
 use crate::rule::{Mark, Step};
 use crate::terminal::terminal_of;
-use kat_model::NoMemory;
+use kat_model::{NoMemory, append};
 use std::alloc::Global;
 use text_parser::{TextFault, Token};
+
+fn mark_of(token: &Token) -> Mark
+    ensures { result ≡ mark_of (parts_of_token token.now) }
+{
+    Mark {
+        terminal: terminal_of(token),
+        at: token.at,
+    }
+}
 
 fn marks(alloc: Global, toks: &[Token]) -> Result<Vec<Mark>, NoMemory>
     ensures { IfOk result (λ ms. ms.items ≡ map mark_of (parts_of_tokens toks.now)) }
 {
     let mut marks = Vec::new(alloc);
     for token in toks {
-        marks.push(Mark {
-            terminal: terminal_of(token),
-            at: token.at,
-        })?;
+        append(&mut marks, mark_of(token))?;
     }
     Ok(marks)
 }

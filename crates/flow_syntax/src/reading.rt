@@ -1,11 +1,11 @@
 //! The reader.
-ghost use Rattle.std.specs.Prelude.{◌≡◌, ◌<◌, ◌≤◌, ◌+◌, [], ◌∷◌, ◌++◌, length, drop, reverse, None, Some, IfOk, IfErr, IfSome, IfNone, OnOk};
+ghost use Rattle.std.specs.Prelude.{◌≡◌, ◌+◌, List, [], ◌∷◌, ◌++◌, length, drop, reverse, None, Some, IfOk, IfErr, IfSome, IfNone, OnOk};
 ghost use Rattle.kat_model.specs.declared.limits.TheConstants.{MAX_OPEN};
 ghost use Rattle.flow_syntax.specs.Rules.{parts_of_rule, parts_of_rules, first_terminal, after_close, starts_with, begins, suits, applies, chosen};
-ghost use Rattle.flow_syntax.specs.Moves.{state, place_of, mismatch, taking, opening, move, predicted};
+ghost use Rattle.flow_syntax.specs.Moves.{state, place_of, mismatch, taking, opening, stepped, move, predicted};
 ghost use Rattle.flow_syntax.specs.Derivations.{Derives, IsReaderFault};
 ghost use Rattle.flow_syntax.specs.Weights.{AreLight};
-ghost use Rattle.flow_syntax.specs.Working.Reading.{Sees, Takes, Makes};
+ghost use Rattle.flow_syntax.specs.Working.Reading.{Sees, Makes};
 
 use crate::rule::{
     CLOSE_ROUND, END_OF_TEXT, Grammar, Mark, NUMBER, OPEN_ROUND, Part, Rule, Start, Step,
@@ -150,10 +150,16 @@ fn mismatch(wanted: usize, mark: Mark) -> TextFault
     TextFault::Syntax(mark.at)
 }
 
-// Returns the index after a token of this terminal, or its fault.
-fn take(marks: &[Mark], at: usize, wanted: usize, end: usize) -> Result<usize, TextFault>
-    ensures value { Takes marks.now result (taking end wanted (drop at marks.now)) }
-    ensures goes { IfOk result (λ next. (next ≡ at + 1) × (at < length marks.now)) }
+// Makes a step that takes a token of this terminal, or its fault. Returns the step, the next index and the depth.
+fn take(
+    step: Step,
+    marks: &[Mark],
+    at: usize,
+    wanted: usize,
+    depth: usize,
+    end: usize,
+) -> Result<(Step, usize, usize), TextFault>
+    ensures { (ps : List Part) → Makes marks.now ps result (stepped step (λ rest. state depth ps rest) (taking end wanted (drop at marks.now))) }
 {
     match mark_at(marks, at) {
         None => Err(TextFault::Syntax(end)),
@@ -161,21 +167,21 @@ fn take(marks: &[Mark], at: usize, wanted: usize, end: usize) -> Result<usize, T
             if mark.terminal != wanted {
                 return Err(mismatch(wanted, mark));
             }
-            Ok(at + 1)
+            Ok((step, at + 1, depth))
         }
     }
 }
 
 // Likewise, for a token that opens a construct inside `depth` others.
 fn take_opening(
+    step: Step,
     marks: &[Mark],
     at: usize,
     wanted: usize,
     depth: usize,
     end: usize,
-) -> Result<usize, TextFault>
-    ensures value { Takes marks.now result (opening end depth wanted (drop at marks.now)) }
-    ensures goes { IfOk result (λ next. (next ≡ at + 1) × (at < length marks.now) × (depth < MAX_OPEN)) }
+) -> Result<(Step, usize, usize), TextFault>
+    ensures { (ps : List Part) → Makes marks.now ps result (stepped step (λ rest. state (depth + 1) ps rest) (opening end depth wanted (drop at marks.now))) }
 {
     match mark_at(marks, at) {
         None => Err(TextFault::Syntax(end)),
@@ -186,7 +192,7 @@ fn take_opening(
             if depth >= MAX_OPEN {
                 return Err(TextFault::TooDeep(mark.at));
             }
-            Ok(at + 1)
+            Ok((step, at + 1, depth + 1))
         }
     }
 }
@@ -217,6 +223,26 @@ fn push_parts(stack: &mut Vec<Part>, parts: &[Part]) -> Result<(), NoMemory>
     Ok(())
 }
 
+// Reads the start of a rule, before its parts are pushed.
+fn start(
+    rule: &Rule,
+    number: usize,
+    marks: &[Mark],
+    end: usize,
+    at: usize,
+    depth: usize,
+) -> Result<(Step, usize, usize), TextFault>
+    ensures { (ps : List Part) → Makes marks.now (rule.now.parts.items ++ ps) result (predicted end depth ps (drop at marks.now) (Some (number, parts_of_rule rule.now))) }
+{
+    let shift = Step::Shift(number);
+    match rule.start {
+        Start::Take(wanted) => take(shift, marks, at, wanted, depth, end),
+        Start::Open(wanted) => take_opening(shift, marks, at, wanted, depth, end),
+        Start::Group(_) => take_opening(shift, marks, at, OPEN_ROUND, depth, end),
+        Start::Otherwise => Ok((Step::Apply(number), at, depth)),
+    }
+}
+
 // Reads the start of a rule and pushes its parts.
 fn begin(
     rule: &Rule,
@@ -229,27 +255,9 @@ fn begin(
 ) -> Result<(Step, usize, usize), TextFault>
     ensures value { Makes marks.now (reverse stack.new.items) result (predicted end depth (reverse stack.old.items) (drop at marks.now) (Some (number, parts_of_rule rule.now))) }
 {
-    match rule.start {
-        Start::Take(wanted) => {
-            let next = take(marks, at, wanted, end)?;
-            push_parts(stack, &rule.parts)?;
-            Ok((Step::Shift(number), next, depth))
-        }
-        Start::Open(wanted) => {
-            let next = take_opening(marks, at, wanted, depth, end)?;
-            push_parts(stack, &rule.parts)?;
-            Ok((Step::Shift(number), next, depth + 1))
-        }
-        Start::Group(_) => {
-            let next = take_opening(marks, at, OPEN_ROUND, depth, end)?;
-            push_parts(stack, &rule.parts)?;
-            Ok((Step::Shift(number), next, depth + 1))
-        }
-        Start::Otherwise => {
-            push_parts(stack, &rule.parts)?;
-            Ok((Step::Apply(number), at, depth))
-        }
-    }
+    let made = start(rule, number, marks, end, at, depth)?;
+    push_parts(stack, &rule.parts)?;
+    Ok(made)
 }
 
 // Reads one part, which was taken from the stack.
@@ -265,14 +273,8 @@ fn advance(
     ensures value { Makes marks.now (reverse stack.new.items) result (move (parts_of_rules rules.now) end (state depth (part ∷ reverse stack.old.items) (drop at marks.now))) }
 {
     match part {
-        Part::Token(wanted) => {
-            let next = take(marks, at, wanted, end)?;
-            Ok((Step::Match, next, depth))
-        }
-        Part::Opening(wanted) => {
-            let next = take_opening(marks, at, wanted, depth, end)?;
-            Ok((Step::Match, next, depth + 1))
-        }
+        Part::Token(wanted) => take(Step::Match, marks, at, wanted, depth, end),
+        Part::Opening(wanted) => take_opening(Step::Match, marks, at, wanted, depth, end),
         Part::Closing => Ok((Step::Close, at, depth.saturating_sub(1))),
         Part::Phrase(phrase) => match chosen(rules, phrase, marks, at) {
             None => Err(TextFault::Syntax(place_at(marks, at, end))),
@@ -281,33 +283,33 @@ fn advance(
     }
 }
 
-// Reads the parts until none is left. `weights` shows that the steps end.
+// Reads the parts on a stack until none is left, and appends their steps. `weights` shows that the steps end.
 #[tactic(auto, using(crate::proofs::Leading::leads_push, crate::proofs::MovesMade::refused_by))]
 fn read_parts(
-    alloc: Global,
     rules: &[Rule],
     weights: &[usize],
     marks: &[Mark],
     phrase: usize,
     end: usize,
-) -> Result<Vec<Step>, TextFault>
-    requires { AreLight weights.now (parts_of_rules rules.now) }
-    ensures read { IfOk result (λ steps. Derives (parts_of_rules rules.now) phrase marks.now end steps.items) }
+    stack: &mut Vec<Part>,
+    steps: &mut Vec<Step>,
+) -> Result<(), TextFault>
+    requires light { AreLight weights.now (parts_of_rules rules.now) }
+    requires begins { reverse stack.old.items ≡ Part.Phrase phrase ∷ [] }
+    requires empty { steps.old.items ≡ [] }
+    ensures read { OnOk result (Derives (parts_of_rules rules.now) phrase marks.now end steps.new.items) }
     ensures refused { IfErr result (λ fault. IsReaderFault (parts_of_rules rules.now) phrase marks.now end fault) }
 {
-    let mut steps = Vec::new(alloc);
-    let mut stack = Vec::new(alloc);
-    push_part(&mut stack, Part::Phrase(phrase))?;
     let mut at = 0;
     let mut depth: usize = 0;
     'parts: loop {
-        let Some(part) = next_part(&mut stack) else {
+        let Some(part) = next_part(stack) else {
             if at < marks.len() {
                 return Err(TextFault::Syntax(place_at(marks, at, end)));
             }
-            return Ok(steps);
+            return Ok(());
         };
-        let (step, next, inside) = advance(rules, marks, end, part, at, depth, &mut stack)?;
+        let (step, next, inside) = advance(rules, marks, end, part, at, depth, stack)?;
         steps.push(step)?;
         at = next;
         depth = inside;
@@ -330,5 +332,9 @@ pub fn read(
 {
     let rules = grammar.rules.as_slice();
     let weights = grammar.weights.as_slice();
-    read_parts(alloc, rules, weights, marks, phrase, end)
+    let mut stack = Vec::new(alloc);
+    push_part(&mut stack, Part::Phrase(phrase))?;
+    let mut steps = Vec::new(alloc);
+    read_parts(rules, weights, marks, phrase, end, &mut stack, &mut steps)?;
+    Ok(steps)
 }

@@ -2,7 +2,7 @@
 ghost use Rattle.std.specs.Prelude.{◌≡◌, [], ◌∷◌, ◌++◌, OnOk, IfOk};
 ghost use Rattle.flow_syntax.specs.Rules.{rule_parts, parts_of_rules};
 
-use kat_model::NoMemory;
+use kat_model::{NoMemory, append};
 use std::alloc::Global;
 
 // The terminals that the reader knows. A format numbers its own from 5 on.
@@ -57,18 +57,36 @@ pub enum Start {
 }
 
 /// A rule: the phrase that it makes, how it begins, and the parts that follow.
-#[derive(Drop)]
 pub struct Rule {
     pub phrase: usize,
     pub start: Start,
     pub parts: Vec<Part>,
 }
 
+// Explicit drops, so that each is proved once and not at each end of each function that owns one of these.
+impl Drop for Rule {
+    fn drop(self) {
+        let Rule {
+            phrase: _,
+            start: _,
+            parts: _parts,
+        } = self;
+    }
+}
+
 /// A grammar: its rules, and weights of its phrases, phrase 0 first, which show that each reading ends.
-#[derive(Drop)]
 pub struct Grammar {
     pub rules: Vec<Rule>,
     pub weights: Vec<usize>,
+}
+
+impl Drop for Grammar {
+    fn drop(self) {
+        let Grammar {
+            rules: _rules,
+            weights: _weights,
+        } = self;
+    }
 }
 
 /// A step of a leftmost derivation.
@@ -95,11 +113,14 @@ pub fn push_rule(
     ensures { OnOk result (parts_of_rules rules.new.items ≡ parts_of_rules rules.old.items ++ rule_parts phrase start parts.now ∷ []) }
 {
     let parts = copied(alloc, parts)?;
-    Ok(rules.push(Rule {
-        phrase,
-        start,
-        parts,
-    })?)
+    append(
+        rules,
+        Rule {
+            phrase,
+            start,
+            parts,
+        },
+    )
 }
 
 fn copied(alloc: Global, parts: &[Part]) -> Result<Vec<Part>, NoMemory>

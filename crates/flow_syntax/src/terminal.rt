@@ -1,8 +1,8 @@
 //! The terminals of the format, numbered after those that the reader knows.
-ghost use Rattle.std.specs.Prelude.{◌≡◌, [], ◌∷◌};
+ghost use Rattle.std.specs.Prelude.{◌≡◌};
 ghost use Rattle.text_parser.specs.TokenParts.{parts_of_token};
 ghost use Rattle.flow_syntax.specs.Terminals.{word_terminal, symbol_terminal, number_terminal, terminal_of, spelled_number};
-ghost use Rattle.flow_syntax.specs.Working.Words.{word_of_two, comparison_word, width_of_three, word_of_three, word_of_four, word_of_five, word_of_six};
+ghost use Rattle.flow_syntax.specs.Working.Words.{listed_terminal};
 
 use crate::rule::{CLOSE_ROUND, NUMBER, OPEN_ROUND, WIDE_NUMBER};
 use text_parser::{Kind, Terminal, Token};
@@ -106,148 +106,84 @@ pub const OR: usize = 51;
 /// `!`
 pub const BANG: usize = 52;
 
-fn word_of_two(text: &str) -> usize
-    ensures { result ≡ word_of_two text.now }
+/// The keywords and their terminals.
+const WORDS: &[(&str, usize)] = &[
+    ("sort", SORT),
+    ("fun", FUN),
+    ("var", VAR),
+    ("graph", GRAPH),
+    ("block", BLOCK),
+    ("cut", CUT),
+    ("goto", GOTO),
+    ("if", IF),
+    ("else", ELSE),
+    ("return", RETURN),
+    ("abort", ABORT),
+    ("assert", ASSERT),
+    ("equal", EQUAL),
+    ("rounds", ROUNDS),
+    ("split", SPLIT),
+    ("true", TRUE),
+    ("false", FALSE),
+    ("u8", U8),
+    ("u16", U16),
+    ("u32", U32),
+    ("u64", U64),
+    ("s8", S8),
+    ("s16", S16),
+    ("s32", S32),
+    ("s64", S64),
+    ("slt", SLT),
+    ("sle", SLE),
+    ("sgt", SGT),
+    ("sge", SGE),
+];
+
+/// The symbols and their terminals.
+const SYMBOLS: &[(&str, usize)] = &[
+    ("(", OPEN_ROUND),
+    (")", CLOSE_ROUND),
+    (",", COMMA),
+    (";", SEMICOLON),
+    ("{", CURLY_OPEN),
+    ("}", CURLY_CLOSE),
+    (":=", BECOMES),
+    ("==", EQ),
+    ("!=", NE),
+    ("<", LT),
+    ("<=", LE),
+    (">", GT),
+    (">=", GE),
+    ("+", PLUS),
+    ("-", MINUS),
+    ("*", STAR),
+    ("&&", AND),
+    ("||", OR),
+    ("!", BANG),
+];
+
+// Returns the terminal of a text in a list, or another one if the text is not in it.
+fn listed_terminal(list: &[(&str, usize)], other: usize, text: &str) -> usize
+    ensures { result ≡ listed_terminal list.now other text.now }
 {
-    match text {
-        "if" => IF,
-        "u8" => U8,
-        "s8" => S8,
-        _ => NAME,
+    for (listed, terminal) in list {
+        if text == *listed {
+            return *terminal;
+        }
     }
+    other
 }
 
-fn comparison_word(text: &str) -> usize
-    ensures { result ≡ comparison_word text.now }
-{
-    match text {
-        "slt" => SLT,
-        "sle" => SLE,
-        "sgt" => SGT,
-        "sge" => SGE,
-        _ => NAME,
-    }
-}
-
-fn width_of_three(text: &str) -> usize
-    ensures { result ≡ width_of_three text.now }
-{
-    match text {
-        "u16" => U16,
-        "u32" => U32,
-        "u64" => U64,
-        "s16" => S16,
-        "s32" => S32,
-        "s64" => S64,
-        _ => comparison_word(text),
-    }
-}
-
-fn word_of_three(text: &str) -> usize
-    ensures { result ≡ word_of_three text.now }
-{
-    match text {
-        "fun" => FUN,
-        "var" => VAR,
-        "cut" => CUT,
-        _ => width_of_three(text),
-    }
-}
-
-fn word_of_four(text: &str) -> usize
-    ensures { result ≡ word_of_four text.now }
-{
-    match text {
-        "sort" => SORT,
-        "goto" => GOTO,
-        "else" => ELSE,
-        "true" => TRUE,
-        _ => NAME,
-    }
-}
-
-fn word_of_five(text: &str) -> usize
-    ensures { result ≡ word_of_five text.now }
-{
-    match text {
-        "graph" => GRAPH,
-        "block" => BLOCK,
-        "abort" => ABORT,
-        "equal" => EQUAL,
-        "split" => SPLIT,
-        "false" => FALSE,
-        _ => NAME,
-    }
-}
-
-fn word_of_six(text: &str) -> usize
-    ensures { result ≡ word_of_six text.now }
-{
-    match text {
-        "return" => RETURN,
-        "assert" => ASSERT,
-        "rounds" => ROUNDS,
-        _ => NAME,
-    }
-}
-
-// Compares the text only with the keywords of its length.
 fn word_terminal(text: &str) -> usize
     ensures { result ≡ word_terminal text.now }
 {
-    match text.len() {
-        2 => word_of_two(text),
-        3 => word_of_three(text),
-        4 => word_of_four(text),
-        5 => word_of_five(text),
-        6 => word_of_six(text),
-        _ => NAME,
-    }
-}
-
-fn one_byte_symbol(byte: u8) -> usize
-    ensures { result ≡ symbol_terminal (byte ∷ []) }
-{
-    match byte {
-        b'(' => OPEN_ROUND,
-        b')' => CLOSE_ROUND,
-        b',' => COMMA,
-        b';' => SEMICOLON,
-        b'{' => CURLY_OPEN,
-        b'}' => CURLY_CLOSE,
-        b'<' => LT,
-        b'>' => GT,
-        b'+' => PLUS,
-        b'-' => MINUS,
-        b'*' => STAR,
-        b'!' => BANG,
-        _ => OTHER,
-    }
-}
-
-fn two_byte_symbol(first: u8, second: u8) -> usize
-    ensures { result ≡ symbol_terminal (first ∷ second ∷ []) }
-{
-    match (first, second) {
-        (b':', b'=') => BECOMES,
-        (b'=', b'=') => EQ,
-        (b'!', b'=') => NE,
-        (b'<', b'=') => LE,
-        (b'>', b'=') => GE,
-        (b'&', b'&') => AND,
-        (b'|', b'|') => OR,
-        _ => OTHER,
-    }
+    listed_terminal(WORDS, NAME, text)
 }
 
 fn symbol_terminal(text: &str) -> usize
     ensures { result ≡ symbol_terminal text.now }
 {
-    match text.as_bytes() {
-        [byte] => one_byte_symbol(*byte),
-        [first, second] => two_byte_symbol(*first, *second),
-        _ => OTHER,
-    }
+    listed_terminal(SYMBOLS, OTHER, text)
 }
 
 fn number_terminal(terminal: Terminal) -> usize

@@ -12,11 +12,6 @@ abbrev pub Sees : Option Mark → List Mark → ℕ → Type 0
 Sees None ms i = (drop i ms ≡ []) × (length ms ≤ i)
 Sees (Some m) ms i = (drop i ms ≡ m ∷ drop (i + 1) ms) × (i < length ms)
 
--- the program's result agrees with `m`: the index of the tokens that remain, or the fault
-abbrev pub Takes : List Mark → Result ℕ TextFault → Result (List Mark) TextFault → Type 0
-Takes ms (Ok i) m = m ≡ Ok (drop i ms)
-Takes ms (Err fault) m = m ≡ Err fault
-
 -- the program's result agrees with a move: the step, the next index and depth, with the parts `ps` to be read, or the
 -- fault
 abbrev pub Makes : List Mark → List Part → Result (Step × ℕ × ℕ) TextFault → Move → Type 0

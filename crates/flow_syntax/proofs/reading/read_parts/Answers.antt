@@ -13,4 +13,4 @@ returns-then-at-marks-clause-refused c =
 pub parts-smaller : goal.parts-smaller
 parts-smaller c =
     makes_less c.args.weights.now (parts_of_rules c.args.rules.now) c.args.end c.parts.depth c.parts.at c.in-Some.part
-    (reverse c.next_part.new.stack.items) (reverse c.parts.stack.items) _ c.args.marks.now _ _ _ c.requires c.in-Some.ensures.some c.in_ok-step.ensures.value
+    (reverse c.next_part.new.stack.items) (reverse c.parts.stack.items) _ c.args.marks.now _ _ _ c.requires.light c.in-Some.ensures.some c.in_ok-step.ensures.value
