@@ -5,6 +5,7 @@ ghost use Rattle.text_parser.specs.Parsed.{Makes};
 ghost use Rattle.flow_text.specs.Trees.{statement_of, values_of};
 ghost use Rattle.flow_text.specs.Checking.{is_set, target_of, next_target, targets_after, expressions_of, firsts, seconds, assigned, statements_after};
 ghost use Rattle.flow_text.specs.Checking as checking;
+ghost use Rattle.flow_text.specs.Working.Assigning.{assignment_of};
 ghost use Rattle.flow_syntax.specs.Syntax as spelled;
 ghost use Rattle.flow_text.specs.ScopeViews.{sight_parts};
 ghost use Rattle.flow_syntax.specs.SyntaxViews.{tokens_syntax, exprs_syntax, cond_syntax, statement_syntax, statements_syntax};
@@ -122,6 +123,21 @@ fn sorts_of(alloc: Global, targets: &[(usize, Sort)]) -> Result<Vec<Sort>, NoMem
     Ok(sorts)
 }
 
+// Returns the assignment of expressions to variables of these sorts.
+fn assignment(
+    alloc: Global,
+    sight: &Sight,
+    targets: &[(usize, Sort)],
+    exprs: &[Vec<Node>],
+) -> Result<flow_model::Statement, TextFault>
+    ensures { Makes (Unit {0}) statement_of result (assignment_of (sight_parts sight.now) targets.now (exprs_syntax exprs.now)) }
+{
+    let sorts = sorts_of(alloc, targets)?;
+    let values = resolve_all(alloc, sight, &sorts, exprs)?;
+    let variables = variables_of(alloc, targets)?;
+    Ok(flow_model::Statement::Assign(variables, values))
+}
+
 #[tactic(auto, using(crate::proofs::Checked::tokens_length, flow_syntax::proofs::NodeLists::exprs_length))]
 fn assign(
     alloc: Global,
@@ -136,10 +152,7 @@ fn assign(
     if names.len() != exprs.len() {
         return Err(TextFault::Sort(becomes.at));
     }
-    let sorts = sorts_of(alloc, &targets)?;
-    let values = resolve_all(alloc, sight, &sorts, exprs)?;
-    let variables = variables_of(alloc, &targets)?;
-    Ok(flow_model::Statement::Assign(variables, values))
+    assignment(alloc, sight, &targets, exprs)
 }
 
 fn claim(

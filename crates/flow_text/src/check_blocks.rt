@@ -21,16 +21,30 @@ use std::alloc::Global;
 use std::collections::BTreeMap;
 use text_parser::{TextFault, Token};
 
-// Returns the number of the first block with each name.
-fn block_names(alloc: Global, blocks: &[Block]) -> Result<BTreeMap<String, usize>, NoMemory>
-    ensures { IfOk result (λ names. get_by_text names ≡ found (block_names 0 (blocks_syntax blocks.now))) }
+// The number of the first block with each name.
+struct BlockNames {
+    numbers: BTreeMap<String, usize>,
+}
+
+// Explicit, so that it is proved once and not at each end of each function that owns the names.
+impl Drop for BlockNames {
+    fn drop(self) {
+        let BlockNames { numbers: _numbers } = self;
+    }
+}
+
+// Returns the names of blocks.
+fn block_names(alloc: Global, blocks: &[Block]) -> Result<BlockNames, NoMemory>
+    ensures { IfOk result (λ names. get_by_text names.numbers ≡ found (block_names 0 (blocks_syntax blocks.now))) }
 {
-    let mut names = BTreeMap::new(alloc);
+    let mut names = BlockNames {
+        numbers: BTreeMap::new(alloc),
+    };
     let mut number = blocks.len();
     for block in blocks {
         number -= 1;
         let name = String::from_str(alloc, block.name.text)?;
-        names.insert(name, number)?;
+        names.numbers.insert(name, number)?;
     }
     Ok(names)
 }
@@ -205,5 +219,5 @@ pub(crate) fn check_graph(
     ensures { Makes (Unit {0}) (λ v. graph_of v.items) result (checking.graph_of (sight_parts sight.now) (option_map (λ s. s.now) results.entry) (blocks_syntax blocks.now)) }
 {
     let names = block_names(alloc, blocks)?;
-    check_blocks(alloc, sight, results, &names, blocks)
+    check_blocks(alloc, sight, results, &names.numbers, blocks)
 }

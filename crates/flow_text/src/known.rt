@@ -29,7 +29,7 @@ pub(crate) struct WrittenGraph<'a> {
     pub(crate) blocks: Vec<Block<'a>>,
 }
 
-// Explicit, so that it is proved once and not at each end of each function that owns a graph.
+// Explicit drops, so that each is proved once and not at each end of each function that owns one of these.
 impl Drop for WrittenGraph<'_> {
     fn drop(self) {
         let WrittenGraph {
@@ -43,7 +43,6 @@ impl Drop for WrittenGraph<'_> {
 }
 
 /// What is known of the items so far.
-#[derive(Drop)]
 pub(crate) struct Known<'a> {
     pub(crate) alloc: Global,
     pub(crate) scope: Scope,
@@ -52,6 +51,20 @@ pub(crate) struct Known<'a> {
     pub(crate) splits: bool,
     pub(crate) goal: Option<(usize, usize)>,
     pub(crate) nodes: u64,
+}
+
+impl Drop for Known<'_> {
+    fn drop(self) {
+        let Known {
+            alloc: _,
+            scope: _scope,
+            graphs: _graphs,
+            rounds: _,
+            splits: _,
+            goal: _,
+            nodes: _,
+        } = self;
+    }
 }
 
 fn sort_meant(token: &Token, meaning: Option<Meaning>) -> Result<Sort, TextFault>
@@ -238,6 +251,22 @@ impl<'a> Known<'a> {
                 Ok(())
             }
         }
+    }
+
+    /// Returns the sorts of the variables.
+    pub(crate) fn into_variables(self) -> Vec<Sort>
+        ensures { result.items ≡ (known_parts self.entry).scope.variables }
+    {
+        let Known {
+            alloc: _,
+            scope,
+            graphs: _graphs,
+            rounds: _,
+            splits: _,
+            goal: _,
+            nodes: _,
+        } = self;
+        scope.into_variables()
     }
 
     /// Checks one more item.

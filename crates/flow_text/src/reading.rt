@@ -157,28 +157,14 @@ fn file_with_goal(
     ensures { Makes (Unit {0}) file_parts result (with_goal (map string_bytes names.variables.items) (map string_bytes names.functions.items) (known_parts known.entry) (Some goal)) }
 {
     let graphs = whole_graphs(alloc, &known.scope, goal, &known.graphs)?;
-    let Known {
-        alloc: _,
-        scope,
-        graphs: _,
-        rounds,
-        splits,
-        goal: _,
-        nodes: _,
-    } = known;
-    let Scope {
-        names: _,
-        sorts: _,
-        functions: _,
-        variables,
-        graphs: _,
-    } = scope;
+    let rounds = rounds_or_one(known.rounds);
+    let splits = known.splits;
     Ok(FlowFile {
-        sorts: variables,
+        sorts: known.into_variables(),
         graphs,
         before: goal.0,
         after: goal.1,
-        rounds: rounds_or_one(rounds),
+        rounds,
         splits,
         variable_names: names.variables,
         function_names: names.functions,

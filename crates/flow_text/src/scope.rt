@@ -21,13 +21,25 @@ pub(crate) struct Function {
     pub(crate) parameters: Vec<Sort>,
 }
 
-#[derive(Drop)]
 pub(crate) struct Scope {
     pub(crate) names: Names,
     pub(crate) sorts: usize,
     pub(crate) functions: Vec<Function>,
     pub(crate) variables: Vec<Sort>,
     pub(crate) graphs: usize,
+}
+
+// Explicit, so that it is proved once and not at each end of each function that owns a scope.
+impl Drop for Scope {
+    fn drop(self) {
+        let Scope {
+            names: _names,
+            sorts: _,
+            functions: _functions,
+            variables: _variables,
+            graphs: _,
+        } = self;
+    }
 }
 
 impl Scope {
@@ -41,6 +53,20 @@ impl Scope {
             variables: Vec::new(alloc),
             graphs: 0,
         }
+    }
+
+    /// Returns the sorts of the variables.
+    pub(crate) fn into_variables(self) -> Vec<Sort>
+        ensures { result.items ≡ (scope_parts self).variables }
+    {
+        let Scope {
+            names: _names,
+            sorts: _,
+            functions: _functions,
+            variables,
+            graphs: _,
+        } = self;
+        variables
     }
 
     /// Returns what a token means as a name.

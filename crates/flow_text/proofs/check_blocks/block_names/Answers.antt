@@ -9,7 +9,7 @@ use Rattle.flow_text.proofs.check_blocks.block_names.Goals as goal
 pub loop-block-init : goal.loop-block-init
 loop-block-init c = record {
   numbered = omega arith;
-  known = λ text. none_found c.new-names.result (length c.args.blocks.now) text c.new-names.ensures.empty;
+  known = λ text. none_found c.new.result (length c.args.blocks.now) text c.new.ensures.empty;
 }
 
 pub loop-block-preserved : goal.loop-block-preserved
@@ -20,8 +20,8 @@ loop-block-preserved c =
     let back : c.loop-block.number ≡ k + 1 = omega (arith, c.loop-block.invariant.numbered, c.loop-block-test.true) in
     record {
       numbered = omega (arith, c.loop-block.invariant.numbered, c.loop-block-test.true);
-      known = name_found bs i k c.block-item.result c.loop-block.names c.insert.new.self c.in_ok-name.name c.loop-block-test.true c.block-item.is c.in_ok-name.ensures.ok c.in_ok-insert.ensures.updates
-          (subst (λ n. (text : List ℕ) → get_by_text c.loop-block.names text ≡ found (block_names n (blocks_syntax (take i bs))) text) back c.loop-block.invariant.known);
+      known = name_found bs i k c.block-item.result c.loop-block.names.numbers c.insert.new.self c.in_ok-name.name c.loop-block-test.true c.block-item.is c.in_ok-name.ensures.ok c.in_ok-insert.ensures.updates
+          (subst (λ n. (text : List ℕ) → get_by_text c.loop-block.names.numbers text ≡ found (block_names n (blocks_syntax (take i bs))) text) back c.loop-block.invariant.known);
     }
 
 pub returns : goal.returns

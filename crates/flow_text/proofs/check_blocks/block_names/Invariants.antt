@@ -8,5 +8,5 @@ use Rattle.flow_text.proofs.check_blocks.block_names.Given as goal
 abbrev pub invariant-loop-block : goal.invariant-loop-block
 invariant-loop-block l = record {
   numbered : l.number + l.block-index ≡ length l.blocks;
-  known : (text : List ℕ) → get_by_text l.names text ≡ found (block_names l.number (blocks_syntax (take l.block-index l.blocks))) text;
+  known : (text : List ℕ) → get_by_text l.names.numbers text ≡ found (block_names l.number (blocks_syntax (take l.block-index l.blocks))) text;
 }
