@@ -7,7 +7,7 @@ ghost use Rattle.flow_ways.specs.ActionTrees.{set_tree};
 use crate::own::own_form;
 use flow_forms::{FlowForm, same_form};
 use flow_model::Sort;
-use kat_model::NoMemory;
+use kat_model::{NoMemory, append};
 use std::alloc::Global;
 
 // Returns whether the form of a variable is the variable itself.
@@ -49,8 +49,7 @@ fn set_form(
 fn push_set(list: &mut Vec<Option<FlowForm>>, set: Option<FlowForm>) -> Result<(), NoMemory>
     ensures { OnOk result (map set_tree list.new.items ≡ map set_tree list.old.items ++ set_tree set ∷ []) }
 {
-    list.push(set)?;
-    Ok(())
+    append(list, set)
 }
 
 #[cycle(push_action)]

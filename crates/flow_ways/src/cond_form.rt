@@ -18,10 +18,19 @@ use kat_model::{NoMemory, Rel, Width};
 use std::alloc::Global;
 
 // A stack of conditions.
-#[derive(Drop)]
 enum CondStack {
     Empty,
     Pushed(Box<FlowCond>, Box<CondStack>),
+}
+
+// Explicit, so that it is proved once and not at each end of each function that owns a stack.
+impl Drop for CondStack {
+    fn drop(self) {
+        match self {
+            CondStack::Empty => {}
+            CondStack::Pushed(_cond, _rest) => {}
+        }
+    }
 }
 
 // The first condition of a stack, and the stack below it.
@@ -39,19 +48,21 @@ fn push(alloc: Global, cond: FlowCond, stack: CondStack) -> Result<CondStack, No
     Ok(CondStack::Pushed(cond, stack))
 }
 
-fn pop(stack: CondStack) -> Popped
-    ensures cond { cond_tree result.cond ≡ top_cond (stack_conds stack) }
-    ensures rest { stack_conds result.rest ≡ below (stack_conds stack) }
-{
-    match stack {
-        CondStack::Pushed(cond, rest) => Popped {
-            cond: Box::into_inner(cond),
-            rest: Box::into_inner(rest),
-        },
-        CondStack::Empty => Popped {
-            cond: FlowCond::Constantly(true),
-            rest: CondStack::Empty,
-        },
+impl CondStack {
+    fn pop(self) -> Popped
+        ensures cond { cond_tree result.cond ≡ top_cond (stack_conds self) }
+        ensures rest { stack_conds result.rest ≡ below (stack_conds self) }
+    {
+        match self {
+            CondStack::Pushed(cond, rest) => Popped {
+                cond: Box::into_inner(cond),
+                rest: Box::into_inner(rest),
+            },
+            CondStack::Empty => Popped {
+                cond: FlowCond::Constantly(true),
+                rest: CondStack::Empty,
+            },
+        }
     }
 }
 
@@ -154,7 +165,7 @@ fn signed_cond(
 fn negated(alloc: Global, stack: CondStack) -> Result<CondStack, NoMemory>
     ensures { IfOk result (λ s. stack_conds s ≡ opposite_of (top_cond (stack_conds stack)) ∷ below (stack_conds stack)) }
 {
-    let top = pop(stack);
+    let top = stack.pop();
     let cond = top.cond.opposite(alloc)?;
     push(alloc, cond, top.rest)
 }
@@ -162,8 +173,8 @@ fn negated(alloc: Global, stack: CondStack) -> Result<CondStack, NoMemory>
 fn conjunction(alloc: Global, stack: CondStack) -> Result<CondStack, NoMemory>
     ensures { IfOk result (λ s. stack_conds s ≡ both_of (top_cond (stack_conds stack)) (top_cond (below (stack_conds stack))) ∷ below (below (stack_conds stack))) }
 {
-    let first = pop(stack);
-    let second = pop(first.rest);
+    let first = stack.pop();
+    let second = first.rest.pop();
     let cond = both_conds(alloc, first.cond, second.cond)?;
     push(alloc, cond, second.rest)
 }
@@ -171,8 +182,8 @@ fn conjunction(alloc: Global, stack: CondStack) -> Result<CondStack, NoMemory>
 fn disjunction(alloc: Global, stack: CondStack) -> Result<CondStack, NoMemory>
     ensures { IfOk result (λ s. stack_conds s ≡ either_of (top_cond (stack_conds stack)) (top_cond (below (stack_conds stack))) ∷ below (below (stack_conds stack))) }
 {
-    let first = pop(stack);
-    let second = pop(first.rest);
+    let first = stack.pop();
+    let second = first.rest.pop();
     let cond = either_cond(alloc, first.cond, second.cond)?;
     push(alloc, cond, second.rest)
 }
@@ -254,6 +265,6 @@ pub(crate) fn condition_form(
     ensures fits { IfOk result (λ _. cond_nodes_fit sorts.now (map form_tree forms.now) cond.now ≡ true) }
     ensures refused { IfErr result (λ e. e ≡ FormFault.TooLarge → cond_nodes_fit sorts.now (map form_tree forms.now) cond.now ≡ false) }
 {
-    let top = pop(evaluated(alloc, sorts, forms, cond)?);
+    let top = evaluated(alloc, sorts, forms, cond)?.pop();
     Ok(top.cond)
 }

@@ -14,7 +14,7 @@ use crate::condition::{FlowCond, Known, is_false, is_true, simplified};
 use crate::form_list::{forms_of_values, set_forms};
 use flow_forms::{FlowForm, FormFault};
 use flow_model::{CondNode, ExprNode, Sort, Statement};
-use kat_model::NoMemory;
+use kat_model::{NoMemory, append};
 use std::alloc::Global;
 
 /// A run with forms: the forms of the variables, what is known of comparisons, and the tests so far.
@@ -39,8 +39,7 @@ impl Drop for Course {
 fn push_known(facts: &mut Vec<Known>, known: Known) -> Result<(), NoMemory>
     ensures { OnOk result (map known_fact facts.new.items ≡ map known_fact facts.old.items ++ known_fact known ∷ []) }
 {
-    facts.push(known)?;
-    Ok(())
+    append(facts, known)
 }
 
 /// Appends a test.
@@ -48,8 +47,7 @@ fn push_known(facts: &mut Vec<Known>, known: Known) -> Result<(), NoMemory>
 pub(crate) fn push_cond(conds: &mut Vec<FlowCond>, cond: FlowCond) -> Result<(), NoMemory>
     ensures { OnOk result (map cond_tree conds.new.items ≡ map cond_tree conds.old.items ++ cond_tree cond ∷ []) }
 {
-    conds.push(cond)?;
-    Ok(())
+    append(conds, cond)
 }
 
 /// Returns the number of facts.

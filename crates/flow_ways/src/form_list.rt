@@ -10,7 +10,7 @@ ghost use Rattle.flow_ways.specs.CourseTrees.{list_forms};
 
 use flow_forms::{FlowForm, FormFault, expression_form};
 use flow_model::{ExprNode, Sort};
-use kat_model::NoMemory;
+use kat_model::{NoMemory, append};
 use std::alloc::Global;
 
 /// A list of forms.
@@ -103,6 +103,5 @@ fn set_forms_from(target: usize, rest: &[usize], values: FormList, forms: &mut [
 pub fn push_form(list: &mut Vec<FlowForm>, form: FlowForm) -> Result<(), NoMemory>
     ensures { OnOk result (map form_tree list.new.items ≡ map form_tree list.old.items ++ form_tree form ∷ []) }
 {
-    list.push(form)?;
-    Ok(())
+    append(list, form)
 }

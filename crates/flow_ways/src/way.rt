@@ -17,7 +17,7 @@ use crate::found::Found;
 use crate::limits::MAX_WAYS;
 use flow_forms::{FlowForm, FormFault, expression_form};
 use flow_model::{ExprNode, Sort};
-use kat_model::NoMemory;
+use kat_model::{NoMemory, append};
 use std::alloc::Global;
 
 /// A form and its sort.
@@ -126,8 +126,7 @@ pub(crate) fn copy_forms(alloc: Global, forms: &[FlowForm]) -> Result<Vec<FlowFo
 fn push_result(list: &mut Vec<SortedForm>, result_form: SortedForm) -> Result<(), NoMemory>
     ensures { OnOk result (map sorted_form list.new.items ≡ map sorted_form list.old.items ++ sorted_form result_form ∷ []) }
 {
-    list.push(result_form)?;
-    Ok(())
+    append(list, result_form)
 }
 
 // Appends the forms of results, each with its sort.
@@ -201,8 +200,7 @@ pub(crate) fn count_aborted(found: &mut Found) -> Result<(), WayFault>
 fn push_way(ways: &mut Vec<Way>, way: Way) -> Result<(), NoMemory>
     ensures { OnOk result (map way_tree ways.new.items ≡ map way_tree ways.old.items ++ way_tree way ∷ []) }
 {
-    ways.push(way)?;
-    Ok(())
+    append(ways, way)
 }
 
 // Adds a way. Fails with `TooManyPaths` if there are too many.
