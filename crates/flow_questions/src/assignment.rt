@@ -1,14 +1,14 @@
 //! Hypotheses of assignments: a test holds after an action exactly where a condition holds before it.
-ghost use Rattle.std.specs.Prelude.{◌≡◌, ◌+◌, ◌^◌, ◌<◌, ◌∷◌, IfOk, OnOk, length, map, flat_map, option_map, if◌then◌else◌};
+ghost use Rattle.std.specs.Prelude.{◌≡◌, ◌+◌, ◌^◌, ◌<◌, [], ◌∷◌, IfOk, OnOk, length, map, flat_map, option_map, if◌then◌else◌};
 ghost use Rattle.std.specs.List.{enumerate_from};
-ghost use Rattle.kat_model.specs.Trees.{test_tree, kat_tree};
+ghost use Rattle.kat_model.specs.Trees.{complement, product, test as test_term, test_tree, kat_tree};
 ghost use Rattle.flow_forms.specs.Forms.{form_tree};
 ghost use Rattle.flow_forms.specs.Comparisons.{comparison_tree, literal_tree};
 ghost use Rattle.flow_ways.specs.ActionTrees.{set_tree};
 ghost use Rattle.flow_tables.specs.EdgeViews.{flow_action};
 ghost use Rattle.flow_problem.specs.Edges.{assigned};
 ghost use Rattle.flow_problem.specs.Substitutions.{prim_of};
-ghost use Rattle.flow_problem.specs.FlowFacts.{ends_in as no_end_outside, ends_outside as no_end_in, keeps_test, keeps_literal, keeps_if_known};
+ghost use Rattle.flow_problem.specs.FlowFacts.{by_assignment, ends_in as no_end_outside, ends_outside as no_end_in, keeps_test, keeps_literal, keeps_if_known};
 ghost use Rattle.flow_questions.specs.CappedLists.{capped};
 ghost use Rattle.flow_questions.specs.HypothesisViews.{flow_hypothesis};
 ghost use Rattle.flow_questions.specs.ActionLists.{facts_with, facts_of_action};
@@ -47,6 +47,38 @@ fn wrong_end(alloc: Global, action: usize, test: usize, holds: bool) -> Result<K
     ends_outside(alloc, action, test)
 }
 
+// Appends that a test holds after an action wherever a condition holds before it.
+fn add_leaving(
+    alloc: Global,
+    action: usize,
+    test: usize,
+    before: &Test,
+    list: &mut Vec<FlowHypothesis>,
+) -> Result<(), NoMemory>
+    ensures { OnOk result (map flow_hypothesis list.new.items ≡ capped MAX_HYPS (map flow_hypothesis list.old.items) (record { rule = by_assignment action test; term = product (test_term (test_tree before.now)) (no_end_outside action test) } ∷ [])) }
+{
+    let holds = before.copy(alloc)?;
+    let leaving = ends_in(alloc, action, test)?;
+    let term = Kat::new_seq(alloc, Kat::Test(holds), leaving)?;
+    push_hypothesis(list, FlowRule::Assignment(action, test), term)
+}
+
+// Appends that a test holds after an action only where a condition holds before it.
+fn add_entering(
+    alloc: Global,
+    action: usize,
+    test: usize,
+    before: Test,
+    list: &mut Vec<FlowHypothesis>,
+) -> Result<(), NoMemory>
+    ensures { OnOk result (map flow_hypothesis list.new.items ≡ capped MAX_HYPS (map flow_hypothesis list.old.items) (record { rule = by_assignment action test; term = product (test_term (complement (test_tree before))) (no_end_in action test) } ∷ [])) }
+{
+    let fails = Test::new_not(alloc, before)?;
+    let entering = ends_outside(alloc, action, test)?;
+    let term = Kat::new_seq(alloc, Kat::Test(fails), entering)?;
+    push_hypothesis(list, FlowRule::Assignment(action, test), term)
+}
+
 // Appends that a test holds after an action exactly where a condition holds before it.
 #[tactic(auto, using(crate::proofs::CappedHypotheses::capped_two))]
 fn add_kept(
@@ -58,14 +90,8 @@ fn add_kept(
 ) -> Result<(), NoMemory>
     ensures { OnOk result (map flow_hypothesis list.new.items ≡ capped MAX_HYPS (map flow_hypothesis list.old.items) (keeps_test action test (test_tree before))) }
 {
-    let holds = Kat::Test(before.copy(alloc)?);
-    let leaving = ends_in(alloc, action, test)?;
-    let term = Kat::new_seq(alloc, holds, leaving)?;
-    push_hypothesis(list, FlowRule::Assignment(action, test), term)?;
-    let fails = Kat::Test(Test::new_not(alloc, before)?);
-    let entering = ends_outside(alloc, action, test)?;
-    let term = Kat::new_seq(alloc, fails, entering)?;
-    push_hypothesis(list, FlowRule::Assignment(action, test), term)
+    add_leaving(alloc, action, test, &before, list)?;
+    add_entering(alloc, action, test, before, list)
 }
 
 #[tactic(auto, using(crate::proofs::ActionFacts::place_is_prim))]

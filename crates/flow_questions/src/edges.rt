@@ -10,7 +10,6 @@ ghost use Rattle.flow_questions.specs.Working.Stages.{asked_by, ways_before, way
 
 use crate::fault::FlowFault;
 use crate::placed::{PlacedEdges, placed_edges};
-use crate::split::with_splits;
 use flow_forms::FlowComparison;
 use flow_model::{Block, Sort};
 use flow_tables::test_rows;
@@ -60,8 +59,8 @@ pub(crate) fn pair_edges(alloc: Global, question: &Question) -> Result<PairEdges
     let first = placed_edges(alloc, sorts, question.before)?;
     let second = placed_edges(alloc, sorts, question.after)?;
     let tests = tests_of(alloc, question, &first, &second)?;
-    let before = with_splits(alloc, sorts, &tests, splits, first)?;
-    let after = with_splits(alloc, sorts, &tests, splits, second)?;
+    let before = first.with_splits(alloc, sorts, &tests, splits)?;
+    let after = second.with_splits(alloc, sorts, &tests, splits)?;
     Ok(PairEdges {
         tests,
         before,

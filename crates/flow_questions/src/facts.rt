@@ -18,7 +18,7 @@ use crate::interval_facts::{IntervalCount, add_interval_facts};
 use crate::sameness::{is_comparison, is_one_form, is_same_width};
 use crate::terms::never_both;
 use flow_forms::{FlowComparison, FlowForm, FlowLiteral, compared, sum};
-use kat_model::{MAX_HYPS, NoMemory, Rel, Width};
+use kat_model::{MAX_HYPS, NoMemory, Rel, Width, append};
 use std::alloc::Global;
 
 /// A kind of fact between comparisons.
@@ -392,7 +392,7 @@ fn intervals_of(alloc: Global, tests: &[FlowComparison]) -> Result<Vec<Option<In
 {
     let mut list = Vec::new(alloc);
     for test in tests {
-        list.push(interval_of(alloc, test)?)?;
+        append(&mut list, interval_of(alloc, test)?)?;
     }
     Ok(list)
 }

@@ -10,7 +10,7 @@ use crate::fault::FlowFault;
 use crate::hypothesis::{FlowHypothesis, FlowRule};
 use crate::parts::Tables;
 use crate::problem_hypotheses::hypotheses;
-use kat_model::{Kat, NoMemory};
+use kat_model::{Kat, NoMemory, append};
 use std::alloc::Global;
 
 /// The hypotheses of a question, and the rule that gives each.
@@ -31,8 +31,8 @@ fn push_parts(
     ensures term { OnOk result (map kat_tree terms.new.items ≡ map kat_tree terms.old.items ++ (flow_hypothesis hypothesis).term ∷ []) }
 {
     let FlowHypothesis { rule, term } = hypothesis;
-    rules.push(rule)?;
-    Ok(terms.push(term)?)
+    append(rules, rule)?;
+    append(terms, term)
 }
 
 // Splits hypotheses into their rules and their terms.

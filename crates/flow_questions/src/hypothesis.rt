@@ -4,7 +4,7 @@ ghost use Rattle.kat_model.specs.Trees.{kat_tree};
 ghost use Rattle.flow_questions.specs.CappedLists.{capped};
 ghost use Rattle.flow_questions.specs.HypothesisViews.{flow_rule, flow_hypothesis};
 
-use kat_model::{Kat, MAX_HYPS, NoMemory};
+use kat_model::{Kat, MAX_HYPS, NoMemory, append};
 
 /// Why a term relates no states. The numbers are those of tests, but the first one of `Assignment` is that of an action.
 #[derive(Clone, Copy)]
@@ -44,5 +44,5 @@ pub(crate) fn push_hypothesis(
     if list.len() > MAX_HYPS {
         return Ok(());
     }
-    Ok(list.push(FlowHypothesis { rule, term })?)
+    append(list, FlowHypothesis { rule, term })
 }

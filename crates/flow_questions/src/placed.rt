@@ -1,25 +1,66 @@
 //! The edges from the places of a graph.
-ghost use Rattle.std.specs.Prelude.{◌≡◌, ◌∷◌, ◌++◌, [], false, length, map, filter, slice_index_or, IfOk, IfErr, OnOk, if◌then◌else◌};
+ghost use Rattle.std.specs.Prelude.{◌≡◌, ◌∷◌, ◌++◌, [], true, false, length, map, filter, slice_index_or, IfOk, IfErr, OnOk, if◌then◌else◌};
 ghost use Rattle.std.specs.List.{range_with_len};
 ghost use Rattle.flow_model.specs.Polish.{graph_of};
+ghost use Rattle.flow_forms.specs.Comparisons.{comparison_tree};
 ghost use Rattle.flow_problem.specs.Edges.{way_edges};
+ghost use Rattle.flow_problem.specs.FlowProblems.{edges_with};
 ghost use Rattle.flow_problem.specs.PlacedProblems.{graph_marks};
 ghost use Rattle.flow_tables.specs.GraphRows.{row_edges};
 ghost use Rattle.flow_questions.specs.Working.Placed.{AllAre, table_edges, AreFew, HasWayFault, HasEdges, IsSound, HasGraphFault};
+ghost use Rattle.flow_questions.specs.Working.Splits.{AreShort, HasLongRow};
 
 use crate::fault::FlowFault;
+use crate::split::split_rows;
+use flow_forms::FlowComparison;
 use flow_model::{Block, Sort};
 use flow_problem::{live_sets, places};
+use flow_splits::SplitFault;
 use flow_tables::{FlowEdge, edges_from};
 use flow_ways::WayFault;
-use kat_model::NoMemory;
+use kat_model::{NoMemory, append};
 use std::alloc::Global;
 
 /// The places of a graph, by their blocks, and the edges from each of them.
-#[derive(Drop)]
 pub(crate) struct PlacedEdges {
     pub(crate) places: Vec<usize>,
     pub(crate) edges: Vec<Vec<FlowEdge>>,
+}
+
+// Explicit, so that it is proved once and not at each end of each function that owns the edges of a graph.
+impl Drop for PlacedEdges {
+    fn drop(self) {
+        let PlacedEdges {
+            places: _places,
+            edges: _edges,
+        } = self;
+    }
+}
+
+impl PlacedEdges {
+    /// Returns the edges from the places of a graph, split by tests if `splits`. Fails with `TooManyPaths` exactly if
+    /// there would be more than `MAX_WAYS` edges from some place.
+    #[tactic(auto, using(crate::proofs::SplitRows::rows_kept, crate::proofs::SplitRows::made_split))]
+    pub(crate) fn with_splits(
+        self,
+        alloc: Global,
+        sorts: &[Sort],
+        tests: &[FlowComparison],
+        splits: bool,
+    ) -> Result<PlacedEdges, SplitFault>
+        ensures places { IfOk result (λ p. p.places.items ≡ self.places.items) }
+        ensures made { IfOk result (λ p. map row_edges p.edges.items ≡ map (edges_with splits (map comparison_tree tests.now) sorts.now) (map row_edges self.edges.items)) }
+        ensures few { IfOk result (λ p. splits ≡ true → AreShort (map row_edges p.edges.items)) }
+        ensures splits { IfErr result (λ e. e ≡ SplitFault.TooManyPaths → splits ≡ true) }
+        ensures many { IfErr result (λ e. e ≡ SplitFault.TooManyPaths → HasLongRow (map (edges_with splits (map comparison_tree tests.now) sorts.now) (map row_edges self.edges.items))) }
+    {
+        if !splits {
+            return Ok(self);
+        }
+        let PlacedEdges { places, edges } = self;
+        let edges = split_rows(alloc, sorts, tests, edges)?;
+        Ok(PlacedEdges { places, edges })
+    }
 }
 
 // A graph over variables of these sorts, with its places and live variables.
@@ -64,8 +105,7 @@ fn place_list(alloc: Global, places: &[bool]) -> Result<Vec<usize>, NoMemory>
 pub(crate) fn push_row(list: &mut Vec<Vec<FlowEdge>>, row: Vec<FlowEdge>) -> Result<(), NoMemory>
     ensures { OnOk result (map row_edges list.new.items ≡ map row_edges list.old.items ++ row_edges row ∷ []) }
 {
-    list.push(row)?;
-    Ok(())
+    append(list, row)
 }
 
 // Appends the edges from each of some blocks.

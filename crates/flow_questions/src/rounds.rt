@@ -13,7 +13,7 @@ use crate::assigned_forms::forms_after;
 use flow_forms::{FlowComparison, FlowForm, FlowLiteral};
 use flow_model::Sort;
 use flow_tables::FlowAction;
-use kat_model::{MAX_TESTS, NoMemory, has_row};
+use kat_model::{MAX_TESTS, NoMemory, append, has_row};
 use std::alloc::Global;
 
 // Appends a comparison, unless it is in the table already or the table is full.
@@ -27,7 +27,7 @@ fn add_comparison(
     if table.len() >= MAX_TESTS || has_row(table, &comparison) {
         return Ok(());
     }
-    Ok(table.push(comparison)?)
+    append(table, comparison)
 }
 
 // Appends the comparison of a condition, if it has one.
@@ -170,7 +170,7 @@ fn copies(alloc: Global, comparisons: &[FlowComparison]) -> Result<Vec<FlowCompa
 {
     let mut list = Vec::new(alloc);
     for comparison in comparisons {
-        list.push(comparison.copy(alloc)?)?;
+        append(&mut list, comparison.copy(alloc)?)?;
     }
     Ok(list)
 }
