@@ -1,6 +1,5 @@
 //! The reader.
-ghost use Rattle.std.specs.Prelude.{◌≡◌, ◌+◌, List, [], ◌∷◌, ◌++◌, length, drop, reverse, None, Some, IfOk, IfErr, IfSome, IfNone, OnOk};
-ghost use Rattle.kat_model.specs.declared.limits.TheConstants.{MAX_OPEN};
+ghost use Rattle.std.specs.Prelude.{◌≡◌, ◌+◌, List, [], ◌∷◌, ◌++◌, drop, reverse, None, Some, IfOk, IfErr, IfSome, IfNone, OnOk};
 ghost use Rattle.flow_syntax.specs.Rules.{parts_of_rule, parts_of_rules, first_terminal, after_close, starts_with, begins, suits, applies, chosen};
 ghost use Rattle.flow_syntax.specs.Moves.{state, place_of, mismatch, taking, opening, stepped, move, predicted};
 ghost use Rattle.flow_syntax.specs.Derivations.{Derives, IsReaderFault};
