@@ -1,5 +1,5 @@
 //! The edges of a graph, split by tests.
-ghost use Rattle.std.specs.Prelude.{◌≡◌, ◌≤◌, ◌<◌, ◌∷◌, ◌++◌, [], true, map, length, IfOk, IfErr, OnOk};
+ghost use Rattle.std.specs.Prelude.{◌≡◌, ◌≤◌, ◌<◌, ◌∷◌, ◌++◌, [], map, length, IfOk, IfErr, OnOk};
 ghost use Rattle.flow_forms.specs.Comparisons.{comparison_tree};
 ghost use Rattle.flow_problem.specs.Splits.{cell_tests, split_edges as edges_split};
 ghost use Rattle.flow_tables.specs.GraphRows.{row_edges};
