@@ -3,4 +3,5 @@ mod JsonTexts
 pub mod WrittenParts
 mod ShowExamples
 mod FormTexts
+mod WrittenLists
 pub mod ShownComments
