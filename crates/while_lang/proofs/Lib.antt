@@ -6,6 +6,7 @@ pub mod Turns
 pub mod Reached
 pub mod Outcomes
 pub mod LoopsAgain
+pub mod FlowLists
 pub mod GuardedFlows
 pub mod BlockSteps
 pub mod BlockFaults

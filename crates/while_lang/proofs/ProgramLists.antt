@@ -45,3 +45,10 @@ same_length xs ys e = sym (length-map xs stmt_tree) ∙ ap length (same_stmts xs
 pub same_at : (xs ys : List Stmt) (i : ℕ) (x y : Stmt) → i < length xs → i < length ys → x ≡ get_or xs i x → y ≡ get_or ys i y → list_tree xs ≡ list_tree ys → stmt_tree x ≡ stmt_tree y
 same_at xs ys i x y lt le is at e =
     ap stmt_tree is ∙ sym (get_or-map stmt_tree xs i x skip lt) ∙ ap (λ (ss : List StmtTree). get_or ss i skip) (same_stmts xs ys e) ∙ get_or-map stmt_tree ys i y skip le ∙ ap stmt_tree (sym at)
+
+-- one step of a loop over two lists
+pub same_more : (xs ys : List Stmt) (i : ℕ) (x y : Stmt) → i < length xs → i < length ys → x ≡ get_or xs i x → y ≡ get_or ys i y → stmt_tree x ≡ stmt_tree y →
+    map stmt_tree (take i xs) ≡ map stmt_tree (take i ys) → map stmt_tree (take (i + 1) xs) ≡ map stmt_tree (take (i + 1) ys)
+same_more xs ys i x y lt le is at same before =
+    let here : stmt_tree (get_or xs i x) ≡ stmt_tree (get_or ys i y) = ap stmt_tree (sym is) ∙ same ∙ ap stmt_tree at in
+    map_more stmt_tree xs i x lt ∙ (λ k. before k ++ here k ∷ []) ∙ sym (map_more stmt_tree ys i y le)

@@ -1,14 +1,17 @@
 -- How runs of lists and loops continue.
-use Rattle.std.proofs.Common.{◌≡◌, ℕ, zero, suc, ◌-◌, ◌<◌, ◌≤◌, nat_eq, Bool, true, false, if◌then◌else◌, refl, ap, ◌⊎◌, inl, inr, arith}
+use Rattle.std.proofs.Common.{◌≡◌, ℕ, zero, suc, ◌+◌, ◌-◌, ◌<◌, ◌≤◌, nat_eq, Bool, true, false, if◌then◌else◌, List, ◌∷◌, length, drop, get_or, refl, sym, ap, ◌∙◌, ◌⊎◌, inl, inr, arith}
 use Rattle.std.proofs.lemmas.Bool.{cases_eq}
 use Rattle.std.proofs.lemmas.Bool.Decides.{nat_tests}
+use Rattle.std.proofs.lemmas.List.{drop_more}
 use Rattle.kat_model.specs.Stores.{Store}
 use Rattle.kat_model.specs.declared.expression.Width.{Width}
-use Rattle.while_lang.specs.Programs.{ProgTree, empty, skip_then, abort_then, assert_then, act_then, assign_then, branch_then, loop_then}
+use Rattle.while_lang.specs.Programs.{ProgTree, empty, skip_then, abort_then, assert_then, act_then, assign_then, branch_then, loop_then, StmtTree, skip, abort, assert, act, assign, branch, loop, with_stmt}
+use Rattle.while_lang.specs.ProgramViews.{stmt_tree, list_tree}
 use Rattle.while_lang.specs.Runs.{condition}
 use Rattle.while_lang.specs.Working.Running.{End, ended, by_outcome, then_run, turning, loop_end, run_end}
 use Rattle.while_lang.specs.declared.outcome.Outcome.{Outcome}
 use Rattle.while_lang.specs.declared.outcome.Outcome.TheVariants.{Done, Stuck, More}
+use Rattle.while_lang.specs.declared.prog.Stmt.{Stmt}
 
 -- a run never increases the turns left
 pub then_less : (e : End) (next : Store → ℕ → End) (n : ℕ) → e.left ≤ n → ((s : Store) (k : ℕ) → (next s k).left ≤ k) → (then_run e next).left ≤ n
@@ -110,3 +113,48 @@ pub left_stopped : (e : End) (o : Outcome) (s : Store) (n : ℕ) → (o ≡ Done
 left_stopped e Done s n d h = absurd (d refl)
 left_stopped e Stuck s n d h = rw (h) refl
 left_stopped e More s n d h = rw (h) refl
+
+-- ---- lists of statements
+
+-- a run that continues with nothing continues as before
+then_again : (o : Outcome) (s : Store) (n : ℕ) (next : Store → ℕ → End) → then_run (ended o s n) next ≡ then_run (then_run (ended o s n) (ended Done)) next
+then_again Done s n next = refl
+then_again Stuck s n next = refl
+then_again More s n next = refl
+
+-- the run of a statement and the rest is the run of the statement, continued with the rest
+pub run_end-with_stmt : (w : Width) (s : StmtTree) (rest : ProgTree) (t : Store) (n : ℕ) →
+    run_end w (with_stmt s rest) t n ≡ then_run (run_end w (with_stmt s empty) t n) (run_end w rest)
+run_end-with_stmt w skip rest t n = refl
+run_end-with_stmt w abort rest t n = refl
+run_end-with_stmt w (assert b) rest t n = by_truth (condition w b t)
+  where
+    by_truth : (x : Bool) → (if x then run_end w rest t n else ended Stuck t n) ≡ then_run (if x then ended Done t n else ended Stuck t n) (run_end w rest)
+    by_truth true = refl
+    by_truth false = refl
+run_end-with_stmt w (act a) rest t n = refl
+run_end-with_stmt w (assign x e) rest t n = refl
+run_end-with_stmt w (branch b p q) rest t n = let e = if condition w b t then run_end w p t n else run_end w q t n in then_again e.outcome e.store e.left (run_end w rest)
+run_end-with_stmt w (loop b p) rest t n = let e = loop_end (condition w b) (run_end w p) t n in then_again e.outcome e.store e.left (run_end w rest)
+
+module _ (w : Width) (items : List Stmt) (i : ℕ) (x : Stmt) (lt : i < length items) (is : x ≡ get_or items i x)
+    (s : Store) (n : ℕ) (o : Outcome) (t : Store) (k : ℕ) (e : ended o t k ≡ run_end w (with_stmt (stmt_tree x) empty) s n) where
+  -- the run of the remaining statements is that of the first one, continued with the others
+  listed : run_end w (list_tree (drop i items)) s n ≡ then_run (ended o t k) (run_end w (list_tree (drop (i + 1) items)))
+  listed =
+      ap (λ (ss : List Stmt). run_end w (list_tree ss) s n) (drop_more items i x lt ∙ ap (λ (y : Stmt). y ∷ drop (i + 1) items) (sym is))
+      ∙ run_end-with_stmt w (stmt_tree x) (list_tree (drop (i + 1) items)) s n
+      ∙ ap (λ (r : End). then_run r (run_end w (list_tree (drop (i + 1) items)))) (sym e)
+
+  -- if the statement is done, the run continues after it
+  pub listed_more : o ≡ Done → run_end w (list_tree (drop i items)) s n ≡ run_end w (list_tree (drop (i + 1) items)) t k
+  listed_more d = listed ∙ ap (λ (a : Outcome). then_run (ended a t k) (run_end w (list_tree (drop (i + 1) items)))) d
+
+  -- if it is not done, the run ends as the statement does
+  pub listed_stop : (o ≡ Done → ⊥) → run_end w (list_tree (drop i items)) s n ≡ ended o t k
+  listed_stop d = listed ∙ unfinished o d
+    where
+      unfinished : (a : Outcome) → (a ≡ Done → ⊥) → then_run (ended a t k) (run_end w (list_tree (drop (i + 1) items))) ≡ ended a t k
+      unfinished Done h = absurd (h refl)
+      unfinished Stuck h = refl
+      unfinished More h = refl

@@ -7,8 +7,24 @@ use Rattle.while_lang.specs.Working.Running.{run_end}
 use Rattle.while_lang.specs.contracts.outcome.Outcome.{the_type}
 use Rattle.while_lang.specs.declared.outcome.Outcome.TheVariants.{Done}
 use Rattle.while_lang.proofs.StoreValues.{set_is_store}
-use Rattle.while_lang.proofs.Turns.{turned, stopped, passed, run_less, left_over, left_stopped}
+use Rattle.while_lang.proofs.Turns.{turned, stopped, passed, run_less, left_over, left_stopped, listed_more, listed_stop}
 use Rattle.while_lang.proofs.runs.+runs.Goals as goal
+
+pub run_list-loop-stmt-preserved : goal.run_list-loop-stmt-preserved
+run_list-loop-stmt-preserved t c =
+    record {
+      fewer = omega (arith, c.loop-stmt.invariant.fewer, c.run_stmt-outcome.ensures.fewer);
+      whole = c.loop-stmt.invariant.whole ∙ listed_more c.args.width c.args.list.now c.loop-stmt.stmt-index c.stmt-item.result c.loop-stmt-test.true c.stmt-item.is
+          c.loop-stmt.store c.loop-stmt.turns c.run_stmt-outcome.result c.run_stmt-outcome.new.store c.run_stmt-outcome.new.turns c.run_stmt-outcome.ensures.ended (search rules);
+      length = c.run_stmt-outcome.ensures.length ∙ c.loop-stmt.invariant.length;
+      within = c.run_stmt-outcome.ensures.within;
+    }
+
+pub run_list-returns-then-ne-clause-ended : goal.run_list-returns-then-ne-clause-ended
+run_list-returns-then-ne-clause-ended t c =
+    let apart : c.run_stmt-outcome.result ≡ Done → ⊥ = differs_true the_type c.run_stmt-outcome.result Done (sym c.ne.ensures ∙ c.if-ne.true) in
+    sym (c.loop-stmt.invariant.whole ∙ listed_stop c.args.width c.args.list.now c.loop-stmt.stmt-index c.stmt-item.result c.loop-stmt-test.true c.stmt-item.is
+    c.loop-stmt.store c.loop-stmt.turns c.run_stmt-outcome.result c.run_stmt-outcome.new.store c.run_stmt-outcome.new.turns c.run_stmt-outcome.ensures.ended apart)
 
 pub run_stmt-turns-preserved : goal.run_stmt-turns-preserved
 run_stmt-turns-preserved t c =
