@@ -1,7 +1,7 @@
 -- Programs as lists of statements.
-use Rattle.std.proofs.Common.{◌≡◌, ℕ, ◌+◌, ◌<◌, ◌≤◌, List, [], ◌∷◌, ◌++◌, map, length, take, get_or, refl, sym, ap, ◌∙◌}
-use Rattle.std.proofs.lemmas.List.{take_all, map_more, length-map, get_or-map}
-use Rattle.while_lang.specs.Programs.{ProgTree, StmtTree, skip, abort, assert, act, assign, branch, loop, with_stmt, prog_of, stmts_of}
+use Rattle.std.proofs.Common.{◌≡◌, ℕ, ◌+◌, ◌<◌, ◌≤◌, Bool, true, false, ◌&&◌, List, [], ◌∷◌, ◌++◌, map, length, take, drop, get_or, refl, sym, ap, ◌∙◌}
+use Rattle.std.proofs.lemmas.List.{take_all, map_more, length-map, get_or-map, drop_more}
+use Rattle.while_lang.specs.Programs.{ProgTree, StmtTree, skip, abort, assert, act, assign, branch, loop, empty, with_stmt, prog_of, stmts_of, is_concrete_cond, is_concrete}
 use Rattle.while_lang.specs.ProgramViews.{stmt_tree, list_tree}
 use Rattle.while_lang.specs.declared.prog.Stmt.{Stmt}
 
@@ -52,3 +52,38 @@ pub same_more : (xs ys : List Stmt) (i : ℕ) (x y : Stmt) → i < length xs →
 same_more xs ys i x y lt le is at same before =
     let here : stmt_tree (get_or xs i x) ≡ stmt_tree (get_or ys i y) = ap stmt_tree (sym is) ∙ same ∙ ap stmt_tree at in
     map_more stmt_tree xs i x lt ∙ (λ k. before k ++ here k ∷ []) ∙ sym (map_more stmt_tree ys i y le)
+
+-- ---- concrete programs
+
+is_concrete-with_stmt : (s : StmtTree) (rest : ProgTree) → is_concrete (with_stmt s rest) ≡ (is_concrete (with_stmt s empty) && is_concrete rest)
+is_concrete-with_stmt skip rest = refl
+is_concrete-with_stmt abort rest = refl
+is_concrete-with_stmt (assert b) rest = by_truth (is_concrete_cond b)
+  where
+    by_truth : (x : Bool) → (x && is_concrete rest) ≡ ((x && true) && is_concrete rest)
+    by_truth true = refl
+    by_truth false = refl
+is_concrete-with_stmt (act a) rest = refl
+is_concrete-with_stmt (assign x e) rest = refl
+is_concrete-with_stmt (branch b p q) rest = by_truth (is_concrete_cond b && (is_concrete p && is_concrete q))
+  where
+    by_truth : (x : Bool) → (x && is_concrete rest) ≡ ((x && true) && is_concrete rest)
+    by_truth true = refl
+    by_truth false = refl
+is_concrete-with_stmt (loop b p) rest = by_truth (is_concrete_cond b && is_concrete p)
+  where
+    by_truth : (x : Bool) → (x && is_concrete rest) ≡ ((x && true) && is_concrete rest)
+    by_truth true = refl
+    by_truth false = refl
+
+module _ (items : List Stmt) (i : ℕ) (x : Stmt) (lt : i < length items) (is : x ≡ get_or items i x) where
+  abbrev rest : ProgTree
+  rest = list_tree (drop (i + 1) items)
+
+  -- the remaining statements are the first one and the others
+  left : list_tree (drop i items) ≡ with_stmt (stmt_tree x) rest
+  left = ap list_tree (drop_more items i x lt ∙ ap (λ (y : Stmt). y ∷ drop (i + 1) items) (sym is))
+
+  -- after a concrete statement, the others decide
+  pub concrete_more : is_concrete (with_stmt (stmt_tree x) empty) ≡ true → is_concrete (list_tree (drop (i + 1) items)) ≡ is_concrete (list_tree (drop i items))
+  concrete_more h = sym (ap is_concrete left ∙ is_concrete-with_stmt (stmt_tree x) rest ∙ ap (λ (b : Bool). b && is_concrete rest) h)
