@@ -46,20 +46,26 @@ class Ins:
     signature: bool = False
 
 
+def unquoted(name):
+    """A name without quotation marks. A number keeps them, since the value 5 is not the one named "5"."""
+    return name if name.strip('"').isdigit() else name.strip('"').replace("\\20", " ")
+
+
 class Module:
     def __init__(self, text, first=None):
         """Reads the texts of a module; `first` is one whose declarations hold here too."""
         text = re.sub(r'^((?:[^";\n]|"[^"\n]*")*?) *;.*$', r"\1", text, flags=re.M)
+        text = re.sub(r'"[^"\n]*"', lambda found: found[0].replace(" ", "\\20"), text)
         layout = re.search(r'^target datalayout = "(E|.*\bp:(?!64)\d).*', text, re.M)
         if layout:
             raise Unread(f"a data layout without pointers of 64 bits or with the greatest byte first: {layout[0]}")
         groups = dict(re.findall(r"^attributes (#\d+) = \{(.*)\}", text, re.M))
-        self.attributes = {name.strip('"'): " ".join(groups.get(word, "") for word in re.findall(r"#\d+", tail))
+        self.attributes = {unquoted(name): " ".join(groups.get(word, "") for word in re.findall(r"#\d+", tail))
                            for name, tail in re.findall(rf"^(?:define|declare) .*?@({NAME})(\(.*)", text, re.M)}
         self.attributes |= first.attributes if first else {}
-        self.types = {name.strip('"'): type for name, type in re.findall(rf"^%({NAME}) = type (.*)", text, re.M)}
+        self.types = {unquoted(name): type for name, type in re.findall(rf"^%({NAME}) = type (.*)", text, re.M)}
         text = re.sub(rf"\[ (.*?), (%{NAME}) \]", r"\1, label \2", NOISE.sub("", text))
-        self.texts = {name.strip('"'): body for body, name in
+        self.texts = {unquoted(name): body for body, name in
                       re.findall(rf"^(define .*?@({NAME})\(.*?)^\}}", text, re.M | re.S)}
 
     def effect(self, name):
@@ -118,7 +124,7 @@ class Line(list):
                 self.take(",")
             self.take(">")
         elif word[:1] == "%":
-            type = "named", word[1:].strip('"')
+            type = "named", unquoted(word[1:])
         elif word in SCALARS or re.fullmatch(r"i\d+", word):
             type = SCALARS.get(word) or ("int", int(word[1:]))
         else:
@@ -132,7 +138,7 @@ class Line(list):
     def value(self, type):
         word = self.pop(0)
         if word[:1] in ("%", "@"):
-            return word[0], word[1:].strip('"')
+            return word[0], unquoted(word[1:])
         if word in ("undef", "poison"):
             return "undef", word
         if type[0] == "float":
@@ -207,7 +213,7 @@ def read_function(text):
     label = str(sum(name.isdigit() for name, _ in params))
     for line in lines:
         labelled = re.fullmatch(rf"({NAME}):", line)
-        label = labelled[1].strip('"') if labelled else label
+        label = unquoted(labelled[1]) if labelled else label
         with located(line):
             blocks.setdefault(label, []).extend([] if labelled else [read_ins(line)])
     return Function(type, params, blocks)

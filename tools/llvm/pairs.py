@@ -37,8 +37,9 @@ def modules(before, after):
 
 
 def changed(before, after):
-    """The names of the functions that both modules define with different texts."""
-    return [name for name, text in after.texts.items() if before.texts.get(name, text) != text]
+    """The names of the functions that both modules define with different texts; all of them where a type has changed."""
+    types = any(before.types.get(name, type) != type for name, type in after.types.items())
+    return [name for name, text in after.texts.items() if name in before.texts and (types or before.texts[name] != text)]
 
 
 def block_text(name, block, results):

@@ -5,9 +5,12 @@ from terms import RELATIONS, choice, combine, convert, exact, join, negate, plai
 
 
 def call_name(ins):
-    """The name of the function that stands for a call; one with arguments of its own sorts has them in its name."""
-    widths = "\u02c8" + "".join(f"_{type[1]}" for type, _ in ins.args) if ins.signature or not ins.word else ""
-    return (exact(ins.word) if ins.word else "\u02c8call") + widths
+    """The name of the function that stands for a call. One with arguments of its own sorts has them in its name; so has one
+    with floating point, which is passed in other registers than numbers of its width."""
+    types = [type for type, _ in ins.args] + [ins.type] * (ins.type[0] == "float")
+    widths = "\u02c8" + "".join(f"_{'f' * (type[0] == 'float')}{type[1]}" for type in types)
+    typed = ins.signature or not ins.word or any(type[0] == "float" for type in types)
+    return (exact(ins.word) if ins.word else "\u02c8call") + widths * typed
 
 
 class Values:
@@ -18,6 +21,7 @@ class Values:
         """`params` are names of parameters; where there are none they get their own."""
         self.module, self.scope, self.strict, self.loads = module, scope, strict, loads
         self.names = {name: own for (name, _), own in zip(function.params, params)}
+        self.bits = {own for (_, type), own in zip(function.params, params) if type == BIT}
         self.code, self.defs = function.blocks, {ins.name: ins for block in function.blocks.values() for ins in block if ins.name}
         self.params = [self.var(name, type) for name, type in function.params]
 
@@ -43,12 +47,14 @@ class Values:
         return ins.args[0] if same or ins.op in ("freeze", "bitcast") else None
 
     def var(self, name, type):
+        """The variable for a value, or for a name with a quotation mark, which no value has."""
         if name not in self.names:
             own, sort = plain(name), self.sort(type)
             while own in self.names.values() or self.scope.sorts.get(own, sort) != sort:
                 own += "_"
             self.names[name] = own
             self.scope.sorts[own] = sort
+            self.bits |= {own} if type == BIT else set()
         return self.names[name]
 
     def apply(self, name, sort, *args):
@@ -67,8 +73,8 @@ class Values:
         if pair[0] != BIT or found in ("true", "false"):
             return found if pair[0] != BIT else int(found == "true")
         own = found.removesuffix(" != 0")
-        if self.scope.sorts.get(own) != "u8":
-            own = self.var(f"{pair[1][1]}.bit", BIT)
+        if own not in self.bits:
+            own = self.var(f'{pair[1][1]}"bit', BIT)
             self.pick(own, found, 1, 0)
         return own
 
@@ -87,7 +93,7 @@ class Values:
             return ("false", "true")[what % 2] if type == BIT else what % 2 ** self.width(type)
         if kind in ("@", "float"):
             return self.apply(exact(what) + ("_address" if kind == "@" else f"\u02c8{type[1]}"), self.sort(type))
-        own = self.var(what if kind == "%" else f"undef.{type[1]}.{self.text}", type)
+        own = self.var(what if kind == "%" else f'undef"{type[1]}"{self.text}', type)
         return f"{own} != 0" if type == BIT else own
 
     def pure(self, ins):
@@ -102,7 +108,7 @@ class Values:
         if op in ("trunc", "zext", "sext", "ptrtoint", "inttoptr"):
             return convert("s" if op == "sext" else "u", first, old, width)
         if op in CASTS or op == "fneg":
-            return self.apply(f"{op}_{old}_{width}", sort, *args)
+            return self.apply(f"{op}_{ins.args[0][0][1]}_{width}", sort, *args)
         return self.arithmetic(op, first, args[1][1], width)
 
     def arithmetic(self, op, left, right, width):

@@ -78,7 +78,7 @@ class Run:
         if op[0] == "f" and op != "freeze" or op in ("uitofp", "sitofp"):
             if op == "fcmp":
                 return self.meaning(f"{op}_{ins.word}_{old}", values) % 256 != 0
-            return self.meaning(f"{op}_{width}" if len(values) > 1 else f"{op}_{max(old, 8)}_{width}", values) % 2 ** width
+            return self.meaning(f"{op}_{width}" if len(values) > 1 else f"{op}_{old}_{width}", values) % 2 ** width
         if op == "alloca":
             args = [self.module.layout(ins.args[0][0])[0], *values[1:], self.memory]
             self.memory = self.meaning(f"alloca\u02c8{len(values)}_memory", args) % 2 ** 64

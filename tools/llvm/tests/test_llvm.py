@@ -150,6 +150,31 @@ off:
 """
 
 
+# Headings, and two bodies that return different values.
+DIFFERENT = [
+    ("define double @f(i8 %y) {\nBODY\nret double %d\n}",
+     "%c = icmp ne i8 %y, 0\n%d = uitofp i1 %c to double", "%d = uitofp i8 %y to double"),
+    ("define double @f(i32 %x, i32 %y) {\n%c = icmp slt i32 %x, %y\nBODY\nret double %d\n}",
+     "%d = sitofp i1 %c to double", "%z = zext i1 %c to i8\n%d = sitofp i8 %z to double"),
+    ("define i64 @f(i8 %y) {\nBODY\nret i64 %q\n}",
+     "%c = icmp ne i8 %y, 0\n%p = inttoptr i1 %c to ptr\n%q = ptrtoint ptr %p to i64", "%q = zext i8 %y to i64"),
+    ("declare i32 @g(ptr)\ndefine i32 @f(i8 %y) {\nBODY\n%r = call i32 @g(ptr %p)\nret i32 %r\n}",
+     "%c = icmp ne i8 %y, 0\n%p = alloca i8, i1 %c", "%p = alloca i8, i8 %y"),
+    ("define i32 @f(i8 %y) {\nBODY\nd:\nret i32 0\nt:\nret i32 1\n}",
+     "%c = icmp ne i8 %y, 0\nswitch i1 %c, label %d [\n    i1 true, label %t\n  ]",
+     "%c = icmp eq i8 %y, 1\nbr i1 %c, label %t, label %d"),
+    ("define i8 @f(i32 %x, i32 %y) {\n%c = icmp slt i32 %x, %y\n%c.bit = call i8 @g(i32 %x)\ncall void @k(i1 %c)\nBODY\n}",
+     "ret i8 %c.bit", "%z = zext i1 %c to i8\nret i8 %z"),
+    ("define i32 @f(i32 %x) {\nBODY\nret i32 %r\n}",
+     '%r = call i32 @"f tail g"(i32 %x)', '%r = call i32 @"f g"(i32 %x)'),
+    ('define i32 @f(i32 %"2", i32 %0) {\n%2 = add i32 %0, 1\nBODY\n}', 'ret i32 %"2"', "ret i32 %2"),
+    ("define i32 @f(ptr %s, double %d) {\n%b = bitcast double %d to i64\nBODY\nret i32 %r\n}",
+     "%r = call i32 (ptr, ...) @printf(ptr %s, double %d)", "%r = call i32 (ptr, ...) @printf(ptr %s, i64 %b)"),
+    ("%t = type { BODY }\ndefine i32 @f(ptr %p) {\n%a = getelementptr %t, ptr %p, i64 1\n%r = load i32, ptr %a\nret i32 %r\n}",
+     "i32", "i64"),
+]
+
+
 class Texts(unittest.TestCase):
     def test_all_kinds(self):
         """A function with many instructions runs as its text does, with each choice of cuts and each option."""
@@ -159,6 +184,14 @@ class Texts(unittest.TestCase):
             for text in texts if not options else []:
                 self.assertGreater(compare(self, before, after, "f", text, range(20))[0], 0)
             flow_reader.Reader(texts[0]).file()
+
+    def test_functions_that_differ(self):
+        """Two functions that differ have texts of which some run differs."""
+        for heads, before, after in DIFFERENT:
+            before, after = pairs.modules(*(heads.replace("BODY", body) for body in (before, after)))
+            self.assertIn("f", pairs.changed(before, after))
+            _, text = next(pairs.tries(before, after, "f"))
+            self.assertTrue(any(compare(self, before, after, "f", text, [seed])[1] for seed in range(20)), text)
 
     def text(self, before, after=None, head="define i32 @f(i32 %x, i32 %y)", **options):
         before = small(before, head)
@@ -181,7 +214,7 @@ class Texts(unittest.TestCase):
         """A bit is a condition, and 0 or 1 where it is a number."""
         head = "define i1 @f(i32 %x, i8 %y)"
         self.assertIn("{ c_bit := 1; goto", self.text("%c = icmp ne i32 %x, 0\nret i1 %c", head=head))
-        self.assertIn("return y, m;", self.text("%c = icmp ne i8 %y, 0\nstore i1 %c, i1* null\nret i1 %c", head=head))
+        self.assertIn("return c_bit, m;", self.text("%c = icmp ne i8 %y, 0\nstore i1 %c, i1* null\nret i1 %c", head=head))
 
     def test_calls(self):
         """What a call does to memory is what its declaration says."""
