@@ -8,6 +8,7 @@ from textwrap import indent
 
 from ir import Unread
 from pairs import tries
+from terms import exact
 
 KAT = Path(__file__).resolve().parents[2] / "kat"
 
@@ -45,13 +46,13 @@ class Prover:
 
     def validate(self, before, after, name, strict=False, loads=None, most=None):
         """The answer for a function, and its cuts or the reason."""
-        answers = {}
+        answers, file = {}, exact(name)[:100]
         try:
             for number, (choice, text) in enumerate(islice(tries(before, after, name, strict, loads), most)):
-                answer = self.ask(text, f"{name}-{number}")
+                answer = self.ask(text, f"{file}-{number}")
                 if answer == "equal":
                     return answer, choice
-                answers.setdefault(answer, f"{name}-{number}")
+                answers.setdefault(answer, f"{file}-{number}")
         except Unread as why:
             return "not read", str(why)
         if "different" in answers:

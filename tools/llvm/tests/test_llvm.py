@@ -274,7 +274,7 @@ class Texts(unittest.TestCase):
         """The command `validate` with a stub for `kat`: the table and the statuses."""
         with tempfile.TemporaryDirectory() as folder:
             same, other, unread = (Path(folder) / name for name in ("same.ll", "other.ll", "unread.ll"))
-            text = "define i32 @f(i32 %x, i32 %y) {{\n%a = {}\nret i32 %a\n}}\n"
+            text = f'define i32 @"{"long/" * 60}"(i32 %x, i32 %y) {{{{\n%a = {{}}\nret i32 %a\n}}}}\n'
             same.write_text(text.format("add nsw i32 %x, %y"))
             other.write_text(text.format("add i32 %x, %y"))
             unread.write_text(text.format("add i7 3, 4"))
