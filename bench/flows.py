@@ -456,6 +456,8 @@ def main():
     reader.add_argument("--keep", type=Path)
     words = reader.parse_args()
     program = built(words.kat)
+    if words.keep:
+        words.keep.mkdir(parents=True, exist_ok=True)
     answers, runs, faults, apart = collections.Counter(), 0, 0, 0
     with tempfile.TemporaryDirectory() as folder:
         for number in range(words.pairs):
