@@ -23,7 +23,7 @@ def plain(name):
 def exact(name):
     """A name for a function or a global of IR; two of them never have one name. The letters used are not ASCII."""
     name = re.sub(r"[^A-Za-z0-9_]", lambda found: "\u02cc" if found[0] == "." else f"\u02c8{ord(found[0]):x}\u02c8", name)
-    return f"\u02c8{name}" if name[0].isdigit() else name
+    return f"\u02c8n{name}" if name[0].isdigit() else name
 
 
 def closed(term):

@@ -167,6 +167,8 @@ DIFFERENT = [
      "ret i8 %c.bit", "%z = zext i1 %c to i8\nret i8 %z"),
     ("define i32 @f(i32 %x) {\nBODY\nret i32 %r\n}",
      '%r = call i32 @"f tail g"(i32 %x)', '%r = call i32 @"f g"(i32 %x)'),
+    ("define i32 @f(i64 %x) {\nBODY\nret i32 %r\n}",
+     "%r = call i32 (i64, ...) @20(i64 %x)", '%r = call i32 @" _64"(i64 %x)'),
     ('define i32 @f(i32 %"2", i32 %0) {\n%2 = add i32 %0, 1\nBODY\n}', 'ret i32 %"2"', "ret i32 %2"),
     ("define i32 @f(ptr %s, double %d) {\n%b = bitcast double %d to i64\nBODY\nret i32 %r\n}",
      "%r = call i32 (ptr, ...) @printf(ptr %s, double %d)", "%r = call i32 (ptr, ...) @printf(ptr %s, i64 %b)"),
