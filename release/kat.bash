@@ -21,8 +21,8 @@ _kat() {
     bench:* | *:[5-9]) ;;
     --*) ;;
     *:2 | check:3 | explain:3 | replay:3 | try:4 | outline:3 | chain:3)
-        compopt -o filenames 2>/dev/null
-        COMPREPLY=($(compgen -f -- "$word"))
+        # Without words of ours bash completes the names of files.
+        compopt -o default 2>/dev/null
         ;;
     esac
 }
