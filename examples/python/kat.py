@@ -11,7 +11,7 @@ ctypes lets other threads run meanwhile.
     python3 kat.py libkat.so decide FILE
     python3 kat.py libkat.so check FILE EVIDENCE
 
-does what these commands do.
+does what these commands do, and ends with their status. Other words raise an exception.
 """
 
 import ctypes
@@ -27,7 +27,7 @@ CALLS = {
     "try": (FILE, NUMBER), "try_with": (FILE, NUMBER, FILE),
     "run": (FILE, WORD, WORD, NUMBER), "oneloop": (FILE, WORD), "optimise": (FILE, WORD, NUMBER),
 }
-NO_MEMORY, NO_ROOM = 6, 9
+NO_FILE, NO_MEMORY, NO_ROOM = 4, 6, 9
 
 
 class Kat:
@@ -48,6 +48,9 @@ class Kat:
             words = []
             for kind, value in zip(kinds, given):
                 if kind == NUMBER:
+                    # ctypes would take any other number modulo 2^64.
+                    if not 0 <= value < 1 << 64:
+                        raise OverflowError(f"{name}: {value} is not a number below 2^64")
                     words.append(value)
                 else:
                     text = value.encode() if isinstance(value, str) else bytes(value)
@@ -68,8 +71,14 @@ class Kat:
 def main():
     shared_object, name, *words = sys.argv[1:]
     read = {FILE: lambda it: Path(it).read_bytes(), WORD: str, NUMBER: int}
-    values = [read[kind](it) for kind, it in zip(CALLS[name], words)]
-    status, output = getattr(Kat(shared_object), name)(*values)
+    call = getattr(Kat(shared_object), name)
+    try:
+        status, output = call(*(read[kind](it) for kind, it in zip(CALLS[name], words)))
+    except OSError as why:
+        print(why, file=sys.stderr)
+        return NO_FILE
+    except MemoryError:
+        return NO_MEMORY
     sys.stdout.buffer.write(output)
     return status
 
