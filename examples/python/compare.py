@@ -3,7 +3,7 @@
 
     compare.py SHARED_OBJECT
 
-`decide` has to give what stands beside each problem of holds/, fails/ and refused/, and `check` has to accept the evidence;
+`decide` has to give the output beside each problem of holds/, fails/ and refused/, and `check` has to accept the evidence;
 the same from four threads at once. Each other call is compared with an example of its command. A call with too little room
 has to write nothing.
 """
@@ -38,7 +38,7 @@ def decides(prover, problem, status):
 
 
 def others(prover):
-    """Each of the other calls beside what an example says of it."""
+    """Each of the other calls, and whether it gives what an example says of it."""
     batch, _ = first_of("batches/*.kat")
     yield "batch", prover.batch(read(batch))[1] == read(batch.with_suffix(".out"))
     shown, _ = first_of("holds/*.show")
