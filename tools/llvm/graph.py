@@ -73,7 +73,19 @@ class Builder(Values):
             sides = args[1:] or [(ins.type, ("int", 1 if op == "zext" else -1)), (ins.type, ("int", 0))]
             self.pick(self.var(ins.name, ins.type), self.value(args[0]), *map(self.value, sides))
         elif self.strict:
+            self.divide(ins)
             self.promise(ins)
+
+    def divide(self, ins):
+        """Asserts that a division is defined: its divisor is not 0 and, with sign, it does not overflow."""
+        if ins.op not in ("udiv", "urem", "sdiv", "srem"):
+            return
+        (_, left), (sort, right) = map(self.argument, ins.args)
+        width = self.width(ins.type)
+        if not isinstance(right, int) or right == 0:
+            self.block.stmts.append({"": relation("!=", right, 0, width)})
+        if ins.op[0] == "s" and (not isinstance(right, int) or right == 2 ** width - 1):
+            self.block.stmts.append({"": f"{self.apply(f'{ins.op}_fits_{width}', 'u8', (sort, left), (sort, right))} != 0"})
 
     def promise(self, ins):
         """Asserts what the flags of an instruction promise, as a function of its operands and its result."""

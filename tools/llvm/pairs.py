@@ -25,7 +25,8 @@ def options(doc, **after):
     parser = argparse.ArgumentParser(description=doc)
     parser.add_argument("before", type=Path)
     parser.add_argument("after", type=Path, **after)
-    parser.add_argument("--strict", action="store_true", help="assert what the flags nuw, nsw, exact and inbounds promise")
+    parser.add_argument("--strict", action="store_true",
+                        help="assert what the flags nuw, nsw, exact and inbounds promise, and that divisions are defined")
     parser.add_argument("--loads", choices=["strict"], help="assert before each load that its address is valid")
     return parser
 

@@ -259,6 +259,10 @@ class Texts(unittest.TestCase):
 
     def test_strict(self):
         self.assertIn("assert add_nuw_32(x, 1, x + 1) != 0;", self.text("%a = add nuw i32 %x, 1\nret i32 %a", strict=True))
+        self.assertIn("assert y != 0; return udiv_32(x, y);", self.text("%a = udiv i32 %x, %y\nret i32 %a", strict=True))
+        self.assertIn("assert y != 0; assert srem_fits_32(x, y) != 0;", self.text("%a = srem i32 %x, %y\nret i32 %a", strict=True))
+        self.assertIn("{ return sdiv_32(x, 7); }", self.text("%a = sdiv i32 %x, 7\nret i32 %a", strict=True))
+        self.assertIn("assert sdiv_fits_32(x, 4294967295) != 0;", self.text("%a = sdiv i32 %x, -1\nret i32 %a", strict=True))
         load = "%a = load i32, i32* %p\nret i32 %a"
         self.assertIn("assert valid_32(m, p) != 0; a := load_32(m, p);",
                       self.text(load, head="define i32 @f(i32* %p)", loads=True))
