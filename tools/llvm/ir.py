@@ -8,9 +8,11 @@ import re
 from collections import namedtuple
 from contextlib import contextmanager
 from dataclasses import dataclass, field
+from itertools import count
 
 NAME = r'(?:"[^"]*"|[-\w.$]+)'
 TOKEN = re.compile(rf'[%@]{NAME}|"[^"]*"|0x\w+|-?\d+(?:\.\d+(?:e[+-]?\d+)?)?|[A-Za-z_][\w.]*|\.+|\S')
+TEXT = re.compile(r'"[^"\n]*"')
 TYPE = re.compile(r"i\d+|void|ptr|half|float|double|[%\[{<].*")
 # Attributes, metadata, and calls that say nothing of what the program does.
 NOISE = re.compile(r",? (?:tail|notail|fastcc|noundef|nonnull|zeroext|signext|noext|inreg|nocapture|readonly|readnone|writeonly"
@@ -21,6 +23,7 @@ FLAG = re.compile(r" (nuw|nsw|exact|disjoint|nneg|samesign|inbounds|nusw|nnan|ni
 CASTS = set("trunc zext sext fptrunc fpext fptoui fptosi uitofp sitofp ptrtoint inttoptr bitcast".split())
 OPERATIONS = CASTS | set("add sub mul udiv sdiv urem srem shl lshr ashr and or xor fadd fsub fmul fdiv frem fneg icmp fcmp "
                          "freeze select getelementptr store load alloca phi call br switch ret unreachable".split())
+ENDS = {"br", "switch", "ret", "unreachable"}
 BIT, PTR, VOID = ("int", 1), ("ptr", 64), ("void",)
 CONSTANTS = {"true": 1, "false": 0, "null": 0}
 SCALARS = {"ptr": PTR, "void": VOID, "half": ("float", 16), "float": ("float", 32), "double": ("float", 64)}
@@ -55,12 +58,12 @@ class Module:
     def __init__(self, text, first=None):
         """Reads the texts of a module; `first` is one whose declarations hold here too."""
         text = re.sub(r'^((?:[^";\n]|"[^"\n]*")*?) *;.*$', r"\1", text, flags=re.M)
-        text = re.sub(r'"[^"\n]*"', lambda found: found[0].replace(" ", "\\20"), text)
-        layout = re.search(r'^target datalayout = "(E|.*\bp:(?!64)\d).*', text, re.M)
+        text = TEXT.sub(lambda found: found[0].replace(" ", "\\20"), text)
+        layout = re.search(r'^target datalayout = "(E|.*\bp0?:(?!64)\d).*', text, re.M)
         if layout:
             raise Unread(f"a data layout without pointers of 64 bits or with the greatest byte first: {layout[0]}")
-        groups = dict(re.findall(r"^attributes (#\d+) = \{(.*)\}", text, re.M))
-        self.attributes = {unquoted(name): " ".join(groups.get(word, "") for word in re.findall(r"#\d+", tail))
+        groups = {word: TEXT.sub("", body) for word, body in re.findall(r"^attributes (#\d+) = \{(.*)\}", text, re.M)}
+        self.attributes = {unquoted(name): " ".join(groups.get(word, "") for word in re.findall(r"#\d+", TEXT.sub("", tail)))
                            for name, tail in re.findall(rf"^(?:define|declare) .*?@({NAME})(\(.*)", text, re.M)}
         self.attributes |= first.attributes if first else {}
         self.types = {unquoted(name): type for name, type in re.findall(rf"^%({NAME}) = type (.*)", text, re.M)}
@@ -209,11 +212,15 @@ def read_function(text):
         start, head = re.match(rf"define (.*?)@{NAME}\(", heading), Ins(None, "", heading)
         type, line = Line(start[1].split()[-1]).type(), Line(heading[start.end():])
         line.take(")") or line.operands(head)
-    params, blocks = [(name, type) for type, (_, name) in head.args], {}
-    label = str(sum(name.isdigit() for name, _ in params))
+    numbers, blocks = map(str, count()), {}
+    params = [(next(numbers) if name.isdigit() or not name else name, type) for type, (_, name) in head.args]
+    label = next(numbers)
     for line in lines:
         labelled = re.fullmatch(rf"({NAME}):", line)
         label = unquoted(labelled[1]) if labelled else label
         with located(line):
-            blocks.setdefault(label, []).extend([] if labelled else [read_ins(line)])
+            block = blocks.setdefault(label, [])
+            if block and block[-1].op in ENDS:
+                raise Unread("after the end of a block")
+            block.extend([] if labelled else [read_ins(line)])
     return Function(type, params, blocks)

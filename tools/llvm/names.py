@@ -40,8 +40,10 @@ def crowds(blocks):
 
 
 def share(graphs, params, scope):
-    """Gives variables of one stem one name in both graphs, where no two of them are live at once; parameters keep theirs."""
-    every, taken, groups, new = sum(map(crowds, graphs), []), RESERVED - {"m"} | set(scope.functions), {}, {"": ""}
+    """Gives variables of one stem one name in both graphs, where no two of them are live at once, or at the starts of both
+    graphs; parameters keep theirs."""
+    every, taken, groups, new = list(map(crowds, graphs)), RESERVED - {"m"} | set(scope.functions), {}, {"": ""}
+    every = sum(every, [set().union(*(crowd[0] for crowd in every))])
     for name in dict.fromkeys([*params, *scope.sorts]):
         stem = name if name in params else re.sub(SUFFIX, "", name) or name
         known, mine = groups.setdefault((stem, scope.sorts[name]), {}), set().union(*(crowd for crowd in every if name in crowd))

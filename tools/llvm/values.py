@@ -4,12 +4,17 @@ from ir import BIT, CASTS, Unread
 from terms import RELATIONS, choice, combine, convert, exact, join, negate, plain, relation
 
 
+def is_marked(type):
+    return type[0] == "float" or type == BIT
+
+
 def call_name(ins):
     """The name of the function that stands for a call. One with arguments of its own sorts has them in its name; so has one
-    with floating point, which is passed in other registers than numbers of its width."""
-    types = [type for type, _ in ins.args] + [ins.type] * (ins.type[0] == "float")
+    with floating point, which is passed in other registers than numbers of its width, or with a bit, which is no number of 8
+    bits."""
+    types = [type for type, _ in ins.args] + [ins.type] * is_marked(ins.type)
     widths = "\u02c8" + "".join(f"_{'f' * (type[0] == 'float')}{type[1]}" for type in types)
-    typed = ins.signature or not ins.word or any(type[0] == "float" for type in types)
+    typed = ins.signature or not ins.word or any(map(is_marked, types))
     return (exact(ins.word) if ins.word else "\u02c8call") + widths * typed
 
 
@@ -93,6 +98,8 @@ class Values:
             return ("false", "true")[what % 2] if type == BIT else what % 2 ** self.width(type)
         if kind in ("@", "float"):
             return self.apply(exact(what) + ("_address" if kind == "@" else f"\u02c8{type[1]}"), self.sort(type))
+        if ins is None and kind != "undef" and what not in self.names or kind == "ins":
+            raise Unread(f"constant {what.op} of a bit" if kind == "ins" else f"unknown value {what}")
         own = self.var(what if kind == "%" else f'undef"{type[1]}"{self.text}', type)
         return f"{own} != 0" if type == BIT else own
 

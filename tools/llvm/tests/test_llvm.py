@@ -172,6 +172,15 @@ DIFFERENT = [
     ('define i32 @f(i32 %"2", i32 %0) {\n%2 = add i32 %0, 1\nBODY\n}', 'ret i32 %"2"', "ret i32 %2"),
     ("define i32 @f(ptr %s, double %d) {\n%b = bitcast double %d to i64\nBODY\nret i32 %r\n}",
      "%r = call i32 (ptr, ...) @printf(ptr %s, double %d)", "%r = call i32 (ptr, ...) @printf(ptr %s, i64 %b)"),
+    ("declare i8 @g()\ndefine i32 @f() {\nBODY\nbr i1 %c, label %t, label %d\nd:\nret i32 0\nt:\nret i32 1\n}",
+     "%v = call i8 @g()\n%c = icmp ne i8 %v, 0", "%c = call i1 @g()"),
+    ("define i32 @f(i1 %c) {\nBODY\nret i32 %r\n}",
+     "%r = call i32 @g(i1 %c)", "%z = zext i1 %c to i8\n%r = call i32 @g(i8 %z)"),
+    ('declare i32 @g(i32) #0\ndefine i32 @f(i32 %x) {\n%a = call i32 @g(i32 %x)\nBODY\n%c = sub i32 %a, %b\nret i32 %c\n}\n'
+     'attributes #0 = { nounwind willreturn "readnone" }', "%b = call i32 @g(i32 %x)", "%b = add i32 %a, 0"),
+    ('define i32 @g(i32 %"#1") {\nret i32 0\n}\ndefine i32 @f(i32 %x) {\n%a = call i32 @g(i32 %x)\nBODY\n%c = sub i32 %a, %b\n'
+     "ret i32 %c\n}\nattributes #1 = { nounwind willreturn readnone }", "%b = call i32 @g(i32 %x)", "%b = add i32 %a, 0"),
+    ("define i32 @f(i32, i32 %x) {\nBODY\n}", "ret i32 %x", "ret i32 %0"),
     ("%t = type { BODY }\ndefine i32 @f(ptr %p) {\n%a = getelementptr %t, ptr %p, i64 1\n%r = load i32, ptr %a\nret i32 %r\n}",
      "i32", "i64"),
 ]
@@ -232,6 +241,9 @@ class Texts(unittest.TestCase):
         self.assertEqual(1, len(set(re.findall(r"undef_\w+", text))))
         text = self.text("%b = call i32 @g(i32 undef)\n%c = sub i32 %b, undef\nret i32 %c")
         self.assertEqual(2, len(set(re.findall(r"undef_\w+", text))))
+        name = "%undef_32__b___add_i32_undef_"
+        text = self.text(f"%b = add i32 {name}, 1\nret i32 %b", "%b = add i32 undef, 1\nret i32 %b", f"define i32 @f(i32 {name})")
+        self.assertEqual(2, len(set(re.findall(r"return (\w+) \+ 1;", text))))
 
     def test_names_are_shared_where_they_cannot_meet(self):
         body = "%a = call i32 @g(i32 %x)\n%a.i = call i32 @g(i32 {})\n%b = add i32 %a.i, {}\nret i32 %b"
@@ -271,6 +283,8 @@ class Texts(unittest.TestCase):
         for line, reason in (("%a = load volatile i32, i32* %p", "type volatile"), ("fence seq_cst", "fence"),
                              ("%a = add i128 3, 4\n%b = trunc i128 %a to i32\nstore i32 %b, i32* %p", "type i128"),
                              ("%a = add <2 x i32> zeroinitializer, zeroinitializer", "vector"),
+                             ("store i32 zext (i1 ptrtoint (i32* @x to i1) to i32), i32* %p", "constant zext of a bit"),
+                             ("store i32 %a, i32* %p", "unknown value a"), ("ret i32 1\nret i32 2", "after the end of a block"),
                              ("%a = invoke i32 @g() to label %x unwind label %y", "invoke")):
             with self.assertRaises(Unread) as found:
                 self.text(f"{line}\nret i32 0", head="define i32 @f(i32* %p)")
