@@ -69,7 +69,9 @@ class Module:
         self.types = {unquoted(name): type for name, type in re.findall(rf"^%({NAME}) = type (.*)", text, re.M)}
         text = re.sub(rf"\[ (.*?), (%{NAME}) \]", r"\1, label \2", NOISE.sub("", text))
         self.texts = {unquoted(name): body for body, name in
-                      re.findall(rf"^(define .*?@({NAME})\(.*?)^\}}", text, re.M | re.S)}
+                      re.findall(rf"^(define [^\n]*?@({NAME})\(.*?)^\}}", text, re.M | re.S)}
+        if len(self.texts) != len(re.findall(r"(?<![-\w.$%@])define\s", text)):
+            raise Unread("a definition that is not a line with its heading, lines with its code, and a line with }")
 
     def effect(self, name):
         """What a call may do to memory, by the declaration: `none`, `reads` or `writes`."""
@@ -212,6 +214,8 @@ def read_function(text):
         start, head = re.match(rf"define (.*?)@{NAME}\(", heading), Ins(None, "", heading)
         type, line = Line(start[1].split()[-1]).type(), Line(heading[start.end():])
         line.take(")") or line.operands(head)
+        if not heading.endswith("{"):
+            raise Unread("code in a heading")
     numbers, blocks = map(str, count()), {}
     params = [(next(numbers) if name.isdigit() or not name else name, type) for type, (_, name) in head.args]
     label = next(numbers)

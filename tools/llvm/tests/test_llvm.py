@@ -290,6 +290,16 @@ class Texts(unittest.TestCase):
                 self.text(f"{line}\nret i32 0", head="define i32 @f(i32* %p)")
             self.assertIn(str(found.exception), [f"{reason}: {part}" for part in line.splitlines()])
 
+    def test_definitions(self):
+        """A definition is refused where its lines are not those of a printed one."""
+        for text in ("define i32 @f()\n{\n%a = call i32 @g(i32 1)\nret i32 0\n}", "define i32 @f(i32 %x) { ret i32 1 }",
+                     "  define i32 @f(i32 %x) {\nret i32 1\n}", "define i32 @f(i32 %x) {\nret i32 1\n  }",
+                     "define void @g() {\nret void\n} define i32 @f(i32 %x) {\nret i32 1\n}"):
+            self.assertRaises(Unread, Module, text)
+        with self.assertRaises(Unread) as found:
+            read_function("define i32 @f(ptr %p) { store i32 5, ptr %p\nret i32 0\n}\n")
+        self.assertIn("code in a heading", str(found.exception))
+
     def test_validate(self):
         """The command `validate` with a stub for `kat`: the table and the statuses."""
         with tempfile.TemporaryDirectory() as folder:
