@@ -20,6 +20,7 @@ NOISE = re.compile(r",? (?:tail|notail|fastcc|noundef|nonnull|zeroext|signext|no
                    r"|range|captures|sret)(?: \d+|\([^()]*\)))(?=[ ,)\n])|(?:\(\))?(?: #\d+)*(?:, ![\w.]+ ![\w.()]*)*$"
                    r"|^ *(?:#dbg|(?:tail )?call void @llvm\.(?:dbg|experimental\.noalias|donothing)).*", re.M)
 FLAG = re.compile(r" (nuw|nsw|exact|disjoint|nneg|samesign|inbounds|nusw|nnan|ninf|nsz|arcp|contract|afn|reassoc|fast)(?= )")
+FLAGS = re.compile(rf"(?:%{NAME} = )?\w+(?:{FLAG.pattern})*")
 CASTS = set("trunc zext sext fptrunc fpext fptoui fptosi uitofp sitofp ptrtoint inttoptr bitcast".split())
 OPERATIONS = CASTS | set("add sub mul udiv sdiv urem srem shl lshr ashr and or xor fadd fsub fmul fdiv frem fneg icmp fcmp "
                          "freeze select getelementptr store load alloca phi call br switch ret unreachable".split())
@@ -178,7 +179,8 @@ def read_ins(text):
     line = Line(FLAG.sub("", text))
     name = line.value(VOID)[1] if line[1] == "=" else None
     line.take("=")
-    ins = Ins(name, line.pop(0), text, flags=set(FLAG.findall(text)))
+    own = FLAGS.match(text + " ")
+    ins = Ins(name, line.pop(0), text, flags=set(FLAG.findall(own[0] + " ") if own else ()))
     if ins.op not in OPERATIONS:
         raise Unread(ins.op)
     ins.word = line.pop(0) if ins.op in ("icmp", "fcmp") else ""
@@ -212,7 +214,11 @@ def read_function(text):
     heading, *lines = filter(None, map(str.strip, text.splitlines()))
     with located(heading):
         start, head = re.match(rf"define (.*?)@{NAME}\(", heading), Ins(None, "", heading)
-        type, line = Line(start[1].split()[-1]).type(), Line(heading[start.end():])
+        result, line = Line(start[1]), Line(heading[start.end():])
+        while result[0] and not TYPE.fullmatch(result[0]):
+            result.pop(0)
+        type = result.type()
+        result.want("")
         line.take(")") or line.operands(head)
         if not heading.endswith("{"):
             raise Unread("code in a heading")

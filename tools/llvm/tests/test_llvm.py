@@ -275,6 +275,14 @@ class Texts(unittest.TestCase):
         self.assertIn("assert y != 0; assert srem_fits_32(x, y) != 0;", self.text("%a = srem i32 %x, %y\nret i32 %a", strict=True))
         self.assertIn("{ return sdiv_32(x, 7); }", self.text("%a = sdiv i32 %x, 7\nret i32 %a", strict=True))
         self.assertIn("assert sdiv_fits_32(x, 4294967295) != 0;", self.text("%a = sdiv i32 %x, -1\nret i32 %a", strict=True))
+        at = "getelementptr inbounds ([9 x i32], [9 x i32]* @t, i64 0, i64 1)"
+        self.assertIn("{ if p == t_address() + 4", self.text(f"%c = icmp eq i32* %p, {at}\n%a = zext i1 %c to i32\nret i32 %a",
+                                                             head="define i32 @f(i32* %p)", strict=True))
+        text = self.text(f'%"a (b)" = getelementptr inbounds i32, i32* {at}, i64 %p\nret i32* %"a (b)"',
+                         head="define i32* @f(i64 %p)", strict=True)
+        self.assertEqual(2, text.count("assert getelementptr_inbounds_64(t_address() + 4, ("))
+        self.assertNotIn("assert", self.text(f"%a = getelementptr i32, i32* {at}, i64 1\nret i32* %a", head="define i32* @f()",
+                                             strict=True))
         load = "%a = load i32, i32* %p\nret i32 %a"
         self.assertIn("assert valid_32(m, p) != 0; a := load_32(m, p);",
                       self.text(load, head="define i32 @f(i32* %p)", loads=True))
@@ -296,8 +304,9 @@ class Texts(unittest.TestCase):
                      "  define i32 @f(i32 %x) {\nret i32 1\n}", "define i32 @f(i32 %x) {\nret i32 1\n  }",
                      "define void @g() {\nret void\n} define i32 @f(i32 %x) {\nret i32 1\n}"):
             self.assertRaises(Unread, Module, text)
+        self.assertEqual(("ptr", 64), read_function("define internal cc 10 [2 x i32]* @f() {\nret [2 x i32]* null\n").type)
         with self.assertRaises(Unread) as found:
-            read_function("define i32 @f(ptr %p) { store i32 5, ptr %p\nret i32 0\n}\n")
+            read_function("define i32 @f(ptr %p) { store i32 5, ptr %p\nret i32 0\n")
         self.assertIn("code in a heading", str(found.exception))
 
     def test_validate(self):
