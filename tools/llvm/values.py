@@ -11,9 +11,9 @@ def is_marked(type):
 def call_name(ins):
     """The name of the function that stands for a call. One with arguments of its own sorts has them in its name; so has one
     with floating point, which is passed in other registers than numbers of its width, or with a bit, which is no number of 8
-    bits."""
+    bits. One of a function with variable arguments, which is called in another way, has a mark."""
     types = [type for type, _ in ins.args] + [ins.type] * is_marked(ins.type)
-    widths = "\u02c8" + "".join(f"_{'f' * (type[0] == 'float')}{type[1]}" for type in types)
+    widths = "\u02c8" + "v" * ins.signature + "".join(f"_{'f' * (type[0] == 'float')}{type[1]}" for type in types)
     typed = ins.signature or not ins.word or any(map(is_marked, types))
     return (exact(ins.word) if ins.word else "\u02c8call") + widths * typed
 
