@@ -210,7 +210,7 @@ def located(place):
 
 def read_function(text):
     """Reads a definition: its heading, and the lines of its blocks."""
-    text = re.sub(r" \[\n(.*?)\n? *\]", lambda cases: re.sub(r"\n *|^ *", ", ", cases[1]), text, flags=re.S)
+    text = re.sub(r" \[\n(.*?)\n? *\]", lambda cases: re.sub(r"\n *|^ *(?=i)", ", ", cases[1]), text, flags=re.S)
     heading, *lines = filter(None, map(str.strip, text.splitlines()))
     with located(heading):
         start, head = re.match(rf"define (.*?)@{NAME}\(", heading), Ins(None, "", heading)

@@ -260,6 +260,8 @@ class Texts(unittest.TestCase):
                      "block u { abort; }"):
             self.assertIn(part, text)
 
+        self.assertIn("{ return 3; }", self.text("switch i32 %x, label %d [\n  ]\nd:\nret i32 3"))
+
     def test_swapped_phis(self):
         body = ("br label %h\nh:\n%a = phi i32 [ %x, %0 ], [ %b, %l ]\n%b = phi i32 [ %y, %0 ], [ %a, %l ]\n"
                 "%c = icmp ult i32 %a, %b\nbr i1 %c, label %l, label %e\nl:\nbr label %h\ne:\nret i32 %a")
