@@ -2,7 +2,8 @@
 
 from dataclasses import dataclass, field
 
-from ir import located
+from ir import Unread, located
+from names import live
 from terms import fresh, plain, relation
 from values import Values, call_name
 
@@ -28,6 +29,9 @@ class Builder(Values):
                 self.text = ins.text
                 with located(self):
                     self.emit(ins)
+        starts = {own for name, own in self.names.items() if name.startswith('undef"')}.union(self.params, ["m"])
+        for name in live(self.blocks)[next(iter(self.blocks))][1] - starts:
+            raise Unread(f"{name} is read before it is set")
         return self.blocks
 
     def add(self, name, *parts):
@@ -65,7 +69,8 @@ class Builder(Values):
                 self.block.stmts.append({"": f"{self.apply(f'valid_{ins.type[1]}', 'u8', MEMORY, address)} != 0"})
             self.assign(ins, f"load_{ins.type[1]}", MEMORY, address)
         elif ins.word == "llvm.assume":
-            self.block.stmts.append({"": self.value(args[0])})
+            cond = self.value(args[0])  # which may begin a block
+            self.block.stmts.append({"": cond})
         elif op == "call" and kind != "pure":
             memory = f"{call_name(ins)}_memory" if kind == "fixed" else None
             self.assign(ins, f"{call_name(ins)}_value", *map(self.argument, args), MEMORY, memory=memory)

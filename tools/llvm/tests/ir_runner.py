@@ -133,7 +133,7 @@ class Run:
                     size = self.width(ins.args[0][0])
                     args = [self.memory, self.value(ins.args[1]), self.value(ins.args[0])]
                     self.memory = self.meaning(f"store_{size}", args) % 2 ** 64
-                elif ins.op == "unreachable":
+                elif ins.op == "unreachable" or ins.word == "llvm.assume" and not self.value(ins.args[0]):
                     return None
                 elif ins.op == "ret":
                     return [self.value(pair) for pair in ins.args], self.memory
@@ -144,7 +144,7 @@ class Run:
                     taken = ins.labels[cases.index(cases[0], 1) if cases[0] in cases[1:] else 0]
                 elif ins.name:
                     self.env[ins.name] = self.compute(ins)
-                else:
+                elif ins.word != "llvm.assume":
                     self.call(ins, 1)
             label, before = taken, label
         return "more"

@@ -172,6 +172,8 @@ DIFFERENT = [
     ('define i32 @f(i32 %"2", i32 %0) {\n%2 = add i32 %0, 1\nBODY\n}', 'ret i32 %"2"', "ret i32 %2"),
     ("define i32 @f(ptr %s, double %d) {\n%b = bitcast double %d to i64\nBODY\nret i32 %r\n}",
      "%r = call i32 (ptr, ...) @printf(ptr %s, double %d)", "%r = call i32 (ptr, ...) @printf(ptr %s, i64 %b)"),
+    ("define i32 @f(i32 %x, i32 %y) {\nBODY\n%d = uitofp i1 %c to double\n%e = fcmp oeq double %d, 0.000000e+00\n"
+     "call void @llvm.assume(i1 %e)\nret i32 1\n}", "%c = icmp slt i32 %x, %y", "%c = icmp sge i32 %x, %y"),
     ("declare i32 @g(i32, ...)\ndefine i32 @f(double %d) {\n%r = call BODY(i32 0, double %d)\nret i32 %r\n}",
      "i32 (i32, ...) @g", "i32 @g"),
     ("define i32 @f(ptr %g, double %d) {\n%r = call BODY(i32 0, double %d)\nret i32 %r\n}", "i32 (i32, ...) %g", "i32 %g"),
@@ -302,6 +304,11 @@ class Texts(unittest.TestCase):
             with self.assertRaises(Unread) as found:
                 self.text(f"{line}\nret i32 0", head="define i32 @f(i32* %p)")
             self.assertIn(str(found.exception), [f"{reason}: {part}" for part in line.splitlines()])
+
+    def test_a_value_is_read_after_it_is_set(self):
+        with self.assertRaises(Unread) as found:
+            self.text("%c = icmp eq i32 %x, 0\nbr i1 %c, label %a, label %b\na:\n%z = call i32 @g(i32 %x)\nbr label %b\nb:\nret i32 %z")
+        self.assertEqual("z is read before it is set", str(found.exception))
 
     def test_definitions(self):
         """A definition is refused where its lines are not those of a printed one."""
