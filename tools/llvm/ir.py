@@ -233,4 +233,13 @@ def read_function(text):
             if block and block[-1].op in ENDS:
                 raise Unread("after the end of a block")
             block.extend([] if labelled else [read_ins(line)])
-    return Function(type, params, blocks)
+    return Function(type, params, {label: blocks[label] for label in reached(blocks)})
+
+
+def reached(blocks):
+    """The labels of the blocks that some run reaches, in their order. Other blocks may have values that need themselves."""
+    found, new = set(), {next(iter(blocks))}
+    while new:
+        found |= new
+        new = {other for label in new for ins in blocks[label][-1:] for other in ins.labels if other in blocks} - found
+    return [label for label in blocks if label in found]

@@ -262,6 +262,7 @@ class Texts(unittest.TestCase):
                      "block u { abort; }"):
             self.assertIn(part, text)
 
+        self.assertIn("{ return y; }", self.text("ret i32 %y\nd:\n%z = add i32 %z, 1\nbr label %d"))
         self.assertIn("{ return 3; }", self.text("switch i32 %x, label %d [\n  ]\nd:\nret i32 3"))
 
     def test_swapped_phis(self):
