@@ -218,10 +218,9 @@ def read_function(text):
         while result[0] and not TYPE.fullmatch(result[0]):
             result.pop(0)
         type = result.type()
-        result.want("")
         line.take(")") or line.operands(head)
-        if not heading.endswith("{"):
-            raise Unread("code in a heading")
+        if result[0] or not heading.endswith("{"):
+            raise Unread(result[0] or "code in a heading")
     numbers, blocks = map(str, count()), {}
     params = [(next(numbers) if name.isdigit() or not name else name, type) for type, (_, name) in head.args]
     label = next(numbers)
