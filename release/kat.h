@@ -34,7 +34,7 @@ enum kat_status {
     KAT_REFUSED = 2,    /* a text is refused: the output says why, "refused: WORD" and the place */
     KAT_REJECTED = 3,   /* evidence, a proof or notes do not show what they claim: the output says why */
     KAT_NO_MEMORY = 6,
-    KAT_NO_SUCH = 7,    /* the text has no such program, or the store is none of it */
+    KAT_NO_SUCH = 7,    /* the text has no such program, or the store does not fit it */
     KAT_NO_ROOM = 9
 };
 
@@ -60,7 +60,7 @@ uint8_t kat_explain(const uint8_t *text, size_t length, const uint8_t *evidence,
                     uint8_t *out, size_t room, size_t *needed);
 
 /* Looks for a store from which the goal of a problem file, of two programs or a triple of one, is false, with runs of at most
- * TURNS loop bodies: 1 with the store and the ends of its runs, 0 if none of some 20,000 stores is one. */
+ * TURNS loop bodies: 1 with the store and the ends of its runs, 0 if none of the stores tried, 20,000 at most, is one. */
 uint8_t kat_try(const uint8_t *text, size_t length, uint64_t turns, uint8_t *out, size_t room, size_t *needed);
 
 /* The same, but the stores that follow the string of evidence are tried first. */
