@@ -5,9 +5,9 @@ use Rattle.kat_model.specs.Problems.{ProblemParts, IsProblem, HasTestsBelow, IsI
 use Rattle.kat_model.specs.Strings.{GuardedString}
 use Rattle.kat_model.proofs.Ranges.{IsInRange-HasTestsBelow}
 use Rattle.string_tables.specs.Findings.{misfit}
-use Rattle.string_relations.specs.Parts.{atom_of, MayBeRead}
+use Rattle.string_tables.specs.Parts.{atom_of, MayBeRead}
 use Rattle.string_tables.proofs.Fitting.{no_misfit_is_string}
-use Rattle.string_relations.proofs.Positions.{atom_at_position}
+use Rattle.string_tables.proofs.Positions.{atom_at_position}
 use Rattle.string_tables.proofs.Counterexamples.{fits_table}
 
 in_range_at : (tests actions : ℕ) (es : List Term) → AreInRange tests actions es → All (IsInRange tests actions) es

@@ -7,8 +7,8 @@ use Rattle.kat_model.specs.Problems.{ProblemParts}
 use Rattle.kat_model.specs.Steps.{Atom}
 use Rattle.kat_model.specs.Relations.{Step, IsTable, atom_at, Same}
 use Rattle.kat_model.specs.Strings.{Move, GuardedString, IsString, AreMoves}
-use Rattle.string_relations.specs.Tables.{steps_from, table_of, IsWhole, Refutes}
-use Rattle.string_relations.proofs.Positions.{has_steps_from, has_at, within_length}
+use Rattle.string_tables.specs.Tables.{steps_from, table_of, IsWhole, Refutes}
+use Rattle.string_tables.proofs.Positions.{has_steps_from, has_at, within_length}
 
 pub whole_table : (x : GuardedString) → IsWhole (table_of x)
 whole_table x = record { rows = ap suc (length-map x.rest (λ m. m.atom)); moves = moves }

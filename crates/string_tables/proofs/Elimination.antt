@@ -14,7 +14,7 @@ use Rattle.kat_model.proofs.Acceptance.{accepts-sum}
 use Rattle.kat_model.proofs.BalancedSums.{sum_of_relates}
 use Rattle.kat_model.proofs.Universal.{inside_universal_accepts}
 use Rattle.kat_model.proofs.Sameness.{inside_relates_none}
-use Rattle.string_relations.specs.Tables.{table_of, ExactlyOne, Refutes}
+use Rattle.string_tables.specs.Tables.{table_of, ExactlyOne, Refutes}
 use Rattle.string_tables.specs.Laws.{ClosedDiffer}
 use Rattle.string_tables.proofs.Parts.{ends_by_acceptance, relates_within}
 

@@ -5,7 +5,7 @@ use Rattle.std.proofs.lemmas.Bool.{false≢true, both_ways, true_from_ne_false}
 use Rattle.kat_model.specs.Problems.{ProblemParts}
 use Rattle.kat_model.specs.Relations.{Keeps}
 use Rattle.kat_model.specs.Strings.{GuardedString}
-use Rattle.string_relations.specs.Tables.{table_of, RelatesEnds, Refutes}
+use Rattle.string_tables.specs.Tables.{table_of, RelatesEnds, Refutes}
 use Rattle.string_tables.specs.declared.finding.Finding.{Finding}
 use Rattle.string_tables.specs.declared.finding.Finding.TheVariants.{Refutes as RefutesBy, Shape, HypBroken, EndsAgree}
 use Rattle.string_tables.specs.Findings.{IsBroken, IsFirstBroken, Counts, IsFinding}

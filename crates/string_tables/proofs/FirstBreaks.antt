@@ -8,12 +8,12 @@ use Rattle.kat_model.specs.Relations.{Relates, Keeps}
 use Rattle.kat_model.specs.Strings.{GuardedString}
 use Rattle.kat_model.proofs.Numbers.{below_next}
 use Rattle.kat_model.proofs.Places.{place_of_member}
-use Rattle.string_relations.specs.Tables.{table_of, RelatesEnds}
-use Rattle.string_relations.specs.Parts.{accepts_part, IsFirstEnd, HasNoEnd, AcceptsNoneBefore, IsFirstPart}
+use Rattle.string_tables.specs.Tables.{table_of, RelatesEnds}
+use Rattle.string_tables.specs.Parts.{accepts_part, IsFirstEnd, HasNoEnd, AcceptsNoneBefore, IsFirstPart}
 use Rattle.string_tables.specs.Working.Breaks.{Breaks, BreaksFirst}
 use Rattle.string_tables.specs.Findings.{IsBefore}
 use Rattle.string_tables.proofs.Parts.{relates_by_part}
-use Rattle.string_relations.proofs.PartSearch.{whole_part, no_whole_part}
+use Rattle.string_tables.proofs.PartSearch.{whole_part, no_whole_part}
 
 module _ (x : GuardedString) (e : Term) where
   -- if the term accepts no part from k to l, it does not relate the positions

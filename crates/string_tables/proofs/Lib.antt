@@ -1,3 +1,12 @@
+pub mod Readings
+pub mod Rooms
+pub mod Told
+pub mod Images
+pub mod OneMoveMore
+pub mod Positions
+pub mod MarkedTerms
+pub mod MarkedRuns
+pub mod PartSearch
 pub mod Places
 pub mod Fitting
 pub mod Counterexamples

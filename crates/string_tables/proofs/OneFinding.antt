@@ -4,7 +4,7 @@ use Rattle.std.proofs.lemmas.Bool.{false_from_ne_true}
 use Rattle.kat_model.specs.Trees.{Term}
 use Rattle.kat_model.specs.Problems.{ProblemParts}
 use Rattle.kat_model.specs.Strings.{GuardedString, accepts}
-use Rattle.string_relations.specs.Tables.{RelatesEnds}
+use Rattle.string_tables.specs.Tables.{RelatesEnds}
 use Rattle.string_tables.specs.declared.finding.Finding.{Finding}
 use Rattle.string_tables.specs.declared.finding.Finding.TheVariants.{Refutes as RefutesBy, Shape, HypBroken, EndsAgree}
 use Rattle.string_tables.specs.Findings.{misfit, IsBefore, IsFirstBroken, Counts, IsFinding}

@@ -7,9 +7,9 @@ use Rattle.kat_model.specs.Relations.{Relates, frame_of}
 use Rattle.kat_model.specs.Strings.{Move, GuardedString, accepts, IsPath, spelled}
 use Rattle.kat_model.specs.Laws.{IsWithin}
 use Rattle.kat_model.proofs.Paths.{relates_spelled, spelled_relates}
-use Rattle.string_relations.specs.Tables.{table_of, RelatesEnds}
+use Rattle.string_tables.specs.Tables.{table_of, RelatesEnds}
 use Rattle.string_tables.specs.Laws.{AcceptsPart}
-use Rattle.string_relations.proofs.Positions.{atom_at_position, path_along, led_along}
+use Rattle.string_tables.proofs.Positions.{atom_at_position, path_along, led_along}
 
 -- the moves between two positions
 abbrev pub part_between : GuardedString → ℕ → ℕ → List Move

@@ -4,7 +4,7 @@ use Rattle.kat_model.specs.Trees.{Term}
 use Rattle.kat_model.specs.Problems.{ProblemParts}
 use Rattle.kat_model.specs.Relations.{Relates, Keeps}
 use Rattle.kat_model.specs.Strings.{Move, GuardedString}
-use Rattle.string_relations.specs.Tables.{table_of, RelatesEnds}
+use Rattle.string_tables.specs.Tables.{table_of, RelatesEnds}
 use Rattle.string_tables.specs.declared.finding.Finding.{Finding}
 use Rattle.string_tables.specs.declared.finding.Finding.TheVariants.{Refutes as RefutesBy, Shape, HypBroken, EndsAgree}
 

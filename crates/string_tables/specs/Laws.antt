@@ -5,7 +5,7 @@ use Rattle.kat_model.specs.Problems.{ProblemParts}
 use Rattle.kat_model.specs.Relations.{Relates, Same}
 use Rattle.kat_model.specs.Strings.{GuardedString, IsString, last_atom, accepts}
 use Rattle.kat_model.specs.Closed.{closed}
-use Rattle.string_relations.specs.Tables.{table_of, Refutes}
+use Rattle.string_tables.specs.Tables.{table_of, Refutes}
 use Rattle.string_tables.specs.declared.finding.Finding.{Finding}
 use Rattle.string_tables.specs.Findings.{IsFinding}
 

@@ -1,4 +1,5 @@
-pub use Rattle.string_relations.specs.Tables
+pub mod Tables
+pub mod Parts
+pub mod Working
 pub mod Findings
 pub mod Laws
-pub mod Working

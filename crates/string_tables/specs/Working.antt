@@ -1,1 +1,4 @@
+pub mod Matrices
+pub mod Filled
+pub mod Marks
 pub mod Breaks

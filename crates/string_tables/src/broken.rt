@@ -2,13 +2,14 @@
 ghost use Rattle.std.specs.Prelude.{◌≡◌, ◌↔◌, All, map, IfOk, IsTrue, MatchOption};
 ghost use Rattle.kat_model.specs.Trees.{kat_tree};
 ghost use Rattle.kat_model.specs.Relations.{Keeps};
-ghost use Rattle.string_relations.specs.Tables.{table_of, RelatesEnds};
-ghost use Rattle.string_relations.specs.Parts.{MayBeRead};
+ghost use Rattle.string_tables.specs.Tables.{table_of, RelatesEnds};
+ghost use Rattle.string_tables.specs.Parts.{MayBeRead};
 ghost use Rattle.string_tables.specs.Working.Breaks.{BreaksFirst};
 
+use crate::first_parts::{first_end, first_part};
+use crate::string::GString;
 use kat_model::{Kat, NoMemory};
 use std::alloc::Global;
-use string_relations::{GString, first_end, first_part};
 
 /// Returns the first hypothesis that relates some states of the string's table, and the first two states that it
 /// relates.

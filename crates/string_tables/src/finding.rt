@@ -1,13 +1,13 @@
 //! What a string shows of a problem.
 ghost use Rattle.std.specs.Prelude.{◌≡◌, ◌↔◌, IfOk, IsTrue};
-ghost use Rattle.string_relations.specs.Tables.{Refutes};
+ghost use Rattle.string_tables.specs.Tables.{Refutes};
 ghost use Rattle.string_tables.specs.Findings.{IsFinding};
 
 use crate::broken::{first_broken, relates_ends};
 use crate::shape::misfit;
+use crate::string::GString;
 use kat_model::{NoMemory, Problem};
 use std::alloc::Global;
-use string_relations::GString;
 
 /// What a string shows of a problem. Positions, hypotheses and states are numbered from 0.
 #[derive(Clone, Copy, PartialEq, Eq)]

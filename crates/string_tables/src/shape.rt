@@ -2,8 +2,8 @@
 ghost use Rattle.std.specs.Prelude.{◌≡◌};
 ghost use Rattle.string_tables.specs.Findings.{misfit as string_misfit};
 
+use crate::string::GString;
 use kat_model::Problem;
-use string_relations::GString;
 
 /// Returns the least position whose atom does not assign every test, or whose action into it is out of range.
 pub(crate) fn misfit(problem: &Problem, string: &GString) -> Option<usize>

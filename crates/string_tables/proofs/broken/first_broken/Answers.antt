@@ -2,7 +2,7 @@ use Rattle.std.proofs.Common.{◌+◌, map, length, arith, subst}
 use Rattle.std.specs.Option.{MatchOption}
 use Rattle.std.proofs.lemmas.List.{length-map}
 use Rattle.kat_model.specs.Trees.{kat_tree}
-use Rattle.string_relations.specs.Parts.{MayBeRead, AcceptsNoneBefore, IsFirstPart}
+use Rattle.string_tables.specs.Parts.{MayBeRead, AcceptsNoneBefore, IsFirstPart}
 use Rattle.string_tables.proofs.Places.{map_read, map_read_all}
 use Rattle.string_tables.proofs.FirstBreaks.{none_more, none_keeps, first_breaks}
 use Rattle.string_tables.proofs.broken.first_broken.Goals as goal

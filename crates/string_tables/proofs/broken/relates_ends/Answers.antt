@@ -2,7 +2,7 @@ use Rattle.std.proofs.Common.{◌↔◌, ap, ◌∙◌, length, sym, subst}
 use Rattle.std.specs.Bool.{IsTrue}
 use Rattle.kat_model.specs.Trees.{kat_tree}
 use Rattle.kat_model.specs.Strings.{GuardedString}
-use Rattle.string_relations.specs.Tables.{RelatesEnds}
+use Rattle.string_tables.specs.Tables.{RelatesEnds}
 use Rattle.string_tables.proofs.FirstBreaks.{ends_told}
 use Rattle.string_tables.proofs.broken.relates_ends.Goals as goal
 

@@ -1,9 +1,0 @@
-pub mod Readings
-pub mod Rooms
-pub mod Told
-pub mod Images
-pub mod OneMoveMore
-pub mod Positions
-pub mod MarkedTerms
-pub mod MarkedRuns
-pub mod PartSearch

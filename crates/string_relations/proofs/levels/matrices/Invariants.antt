@@ -1,9 +1,0 @@
-use Rattle.std.proofs.Common.{◌≡◌, length, replicate}
-use Rattle.string_relations.specs.Working.Matrices.{sizes}
-use Rattle.string_relations.proofs.levels.matrices.Given as goal
-
-abbrev pub invariant-loop : goal.invariant-loop
-invariant-loop l = record {
-  length : length l.list.items ≡ l.counter;
-  sizes : sizes l.list.items ≡ replicate l.counter l.size;
-}

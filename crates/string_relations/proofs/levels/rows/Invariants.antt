@@ -1,6 +1,0 @@
-use Rattle.std.proofs.Common.{◌≡◌, replicate}
-use Rattle.string_relations.specs.Working.Matrices.{widths}
-use Rattle.string_relations.proofs.levels.rows.Given as goal
-
-abbrev pub invariant-loop : goal.invariant-loop
-invariant-loop l = widths l.list.items ≡ replicate l.counter l.width

@@ -1,3 +1,0 @@
-pub mod Matrices
-pub mod Filled
-pub mod Marks
