@@ -9,7 +9,7 @@ use Rattle.kat_model.specs.Members.{Has, IsSubset}
 use Rattle.kat_model.specs.Stores.{modulus, Store, holds}
 use Rattle.kat_model.specs.Relations.{RelatesIn, Same}
 use Rattle.kat_model.proofs.Places.{place_of_member}
-use Rattle.linear_forms.specs.Atomic.{Atomic}
+use Rattle.linear_forms.specs.declared.comparison.Atomic.{Atomic}
 use Rattle.while_lang.specs.Files.{FileParts, GoalTree, equal, triple, prog_side}
 use Rattle.while_lang.specs.Concrete.{AsksOfProgs, IsStoreOf, EndAlike, MeetsTriple, GoalAgrees}
 use Rattle.while_lang.specs.Ranges.{IsProgInRange, IsGoalInRange}

@@ -6,11 +6,11 @@ use Rattle.std.proofs.lemmas.List.{length-append, append-nil, append_assoc, take
 use Rattle.std.proofs.lemmas.List.Concat.{flat_map-append}
 use Rattle.std.proofs.lemmas.Bool.{true≢false, ltb-true, ltb-false, le-ltb, or_left, or_right, or_cases, and_left, and_right, and_cases, and_parts}
 use Rattle.linear_forms.specs.Comparisons.{atomic_nodes, substituted}
-use Rattle.linear_forms.specs.Atomic.{Atomic}
+use Rattle.linear_forms.specs.declared.comparison.Atomic.{Atomic}
 use Rattle.abstraction.specs.Comparisons.{Assignment, atomics}
 use Rattle.linear_forms.specs.Sameness.{is_same_comparison}
 use Rattle.abstraction.specs.Rounds.{is_appended, append_all, substitutions, round, rounds}
-use Rattle.linear_arithmetic.proofs.Sameness.{is_same_comparison-same}
+use Rattle.linear_forms.proofs.Sameness.{is_same_comparison-same}
 use Rattle.abstraction.specs.declared.rounds.TheConstants.{MAX_APPENDED_NODES}
 
 list_any-append : {X : Type 0} (p : X → Bool) (xs ys : List X) → list_any p xs ≡ true → list_any p (xs ++ ys) ≡ true

@@ -7,10 +7,10 @@ use Rattle.kat_model.specs.Stores.{Store, modulus}
 use Rattle.kat_model.specs.Relations.{Frame}
 use Rattle.linear_forms.specs.Values.{form_value}
 use Rattle.linear_forms.specs.Comparisons.{atomic_holds, cond_form_holds, substituted}
-use Rattle.linear_forms.specs.Atomic.{Atomic}
-use Rattle.linear_forms.specs.CondForm.{CondForm}
-use Rattle.linear_arithmetic.proofs.StoredValues.{modulus_above_one}
-use Rattle.linear_arithmetic.proofs.Truths.{substituted_holds}
+use Rattle.linear_forms.specs.declared.comparison.Atomic.{Atomic}
+use Rattle.linear_forms.specs.declared.comparison.CondForm.{CondForm}
+use Rattle.linear_forms.proofs.StoredValues.{modulus_above_one}
+use Rattle.linear_forms.proofs.Truths.{substituted_holds}
 use Rattle.abstraction.specs.declared.rule.Rule.TheVariants.{Assign}
 use Rattle.abstraction.specs.Comparisons.{Assignment}
 use Rattle.abstraction.specs.Tables.{Tables}

@@ -7,7 +7,7 @@ use Rattle.kat_model.specs.Stores.{Store, modulus}
 use Rattle.kat_model.specs.Relations.{Frame}
 use Rattle.kat_model.specs.declared.limits.TheConstants.{MAX_TESTS, MAX_ACTIONS, MAX_TERM_NODES}
 use Rattle.kat_model.specs.Problems.{problem_size}
-use Rattle.linear_arithmetic.proofs.StoredValues.{modulus_above_one}
+use Rattle.linear_forms.proofs.StoredValues.{modulus_above_one}
 use Rattle.while_lang.specs.Files.{FileParts}
 use Rattle.abstraction.specs.declared.fault.AbstractFault.TheVariants.{TooManyTests, TooManyActions, ProblemTooLarge}
 use Rattle.abstraction.specs.Tables.{Tables, first_comparisons, file_assignments}

@@ -2,7 +2,7 @@
 use Rattle.std.proofs.Common.{ℕ, List, [], ◌∷◌, ◌++◌, flat_map, get_or, All, Bool, true, false, if◌then◌else◌}
 use Rattle.std.specs.List.{list_any}
 use Rattle.std.proofs.lemmas.List.Elements.{All-nil, All-head, All-tail, All-append, All-push}
-use Rattle.linear_forms.specs.Atomic.{Atomic}
+use Rattle.linear_forms.specs.declared.comparison.Atomic.{Atomic}
 use Rattle.kat_model.specs.UniqueRows.{with_new, with_all_new}
 use Rattle.abstraction.specs.Rounds.{is_appended, append_all}
 

@@ -6,7 +6,7 @@ use Rattle.kat_model.specs.declared.expression.Rel.TheVariants.{Eq, Lt, Gt}
 use Rattle.kat_model.specs.declared.expression.Width.{Width}
 use Rattle.kat_model.specs.declared.expression.Width.TheVariants.{W8, W64}
 use Rattle.linear_forms.specs.Forms.{FormTree, constant, var_term, form_of_var}
-use Rattle.linear_forms.specs.Atomic.TheVariants.{Zero, Less}
+use Rattle.linear_forms.specs.declared.comparison.Atomic.TheVariants.{Zero, Less}
 use Rattle.text_parser.specs.ScopeParts.{empty_scope}
 use Rattle.while_lang.specs.Programs.{empty, assign_then}
 use Rattle.while_lang.specs.Files.{prog_side, GoalTree, triple, FileParts}

@@ -8,8 +8,8 @@ use Rattle.linear_forms.specs.Arithmetic.{negative, form_sum, form_difference}
 use Rattle.linear_forms.specs.NormalForms.{IsForm}
 use Rattle.linear_forms.specs.Values.{form_value}
 use Rattle.linear_forms.specs.Comparisons.{canonical}
-use Rattle.linear_arithmetic.proofs.Polynomials.{form_value-form_sum}
-use Rattle.linear_arithmetic.proofs.Truths.{form_value_below, zero-canonical, zero-form_difference, constant_below_sum, apart-form_difference}
+use Rattle.linear_forms.proofs.Polynomials.{form_value-form_sum}
+use Rattle.linear_forms.proofs.Truths.{form_value_below, zero-canonical, zero-form_difference, constant_below_sum, apart-form_difference}
 use Rattle.abstraction.specs.Facts.{is_nonzero, are_less}
 
 -- a constant other than 0

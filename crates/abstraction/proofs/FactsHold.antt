@@ -9,13 +9,13 @@ use Rattle.linear_forms.specs.Forms.{FormTree, constant, var_term, product_term}
 use Rattle.linear_forms.specs.Arithmetic.{form_sum, form_difference}
 use Rattle.linear_forms.specs.Values.{form_value}
 use Rattle.linear_forms.specs.Comparisons.{atomic_holds, canonical}
-use Rattle.linear_forms.specs.Atomic.{Atomic}
-use Rattle.linear_forms.specs.Atomic.TheVariants.{Zero, Less}
+use Rattle.linear_forms.specs.declared.comparison.Atomic.{Atomic}
+use Rattle.linear_forms.specs.declared.comparison.Atomic.TheVariants.{Zero, Less}
 use Rattle.abstraction.specs.declared.rule.Rule.{Rule}
 use Rattle.abstraction.specs.declared.rule.Rule.TheVariants.{F1, F2, F3, F4, F5, F6}
 use Rattle.linear_forms.specs.Sameness.{is_same_form}
 use Rattle.abstraction.specs.Facts.{Hypothesis, TestRowOf, excludes, implies, one_holds, fact_if, is_nonzero, are_less, decided_by, fact_one, fact_two, fact_three, fact_four, fact_five, fact_six}
-use Rattle.linear_arithmetic.proofs.Sameness.{is_same_form-true}
+use Rattle.linear_forms.proofs.Sameness.{is_same_form-true}
 use Rattle.abstraction.proofs.TestRows.{IsTestRow, holds_at, fails_at}
 use Rattle.kat_model.proofs.RelatesNothing.{RelatesNone, two_tests, three_tests}
 use Rattle.abstraction.proofs.FactValues.{value_by_difference, value_by_sum, not_both_zero, not_both_less, not_less_and_equal, one_of_three, less_than_greater, less_than_constant}

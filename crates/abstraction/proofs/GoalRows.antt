@@ -4,13 +4,13 @@ use Rattle.kat_model.specs.Members.{Has, IsSubset}
 use Rattle.kat_model.specs.Stores.{modulus}
 use Rattle.kat_model.proofs.Lists.{has_left}
 use Rattle.kat_model.proofs.RowMembers.{with_all_new_has}
-use Rattle.linear_forms.specs.Atomic.{Atomic}
+use Rattle.linear_forms.specs.declared.comparison.Atomic.{Atomic}
 use Rattle.while_lang.specs.Files.{FileParts}
 use Rattle.abstraction.specs.Comparisons.{Assignment, goal_comparisons, goal_assignments}
 use Rattle.linear_forms.specs.Sameness.{is_same_comparison}
 use Rattle.abstraction.specs.Tables.{is_same_assignment, first_comparisons, file_assignments}
 use Rattle.abstraction.specs.Rounds.{is_appended, append_all, substitutions, round, rounds, file_comparisons}
-use Rattle.linear_arithmetic.proofs.Sameness.{is_same_comparison-true}
+use Rattle.linear_forms.proofs.Sameness.{is_same_comparison-true}
 use Rattle.abstraction.proofs.SameRows.{is_same_assignment-true}
 
 -- a list keeps its members when an element may be appended

@@ -7,7 +7,7 @@ use Rattle.kat_model.specs.Stores.{modulus}
 use Rattle.linear_forms.specs.Forms.{FormTree, constant, var_term, product_term}
 use Rattle.linear_forms.specs.Arithmetic.{form_sum, form_difference}
 use Rattle.linear_forms.specs.Comparisons.{substituted}
-use Rattle.linear_forms.specs.Atomic.TheVariants.{Zero, Less}
+use Rattle.linear_forms.specs.declared.comparison.Atomic.TheVariants.{Zero, Less}
 use Rattle.abstraction.specs.declared.rule.Rule.{Rule}
 use Rattle.abstraction.specs.Tables.{Tables}
 use Rattle.abstraction.specs.Tests.{form_test}

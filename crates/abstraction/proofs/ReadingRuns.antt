@@ -11,9 +11,9 @@ use Rattle.kat_model.specs.Stores.{modulus, Store, value}
 use Rattle.kat_model.specs.Relations.{Frame, Along, RelatesIn, RelateInTurn}
 use Rattle.kat_model.proofs.ProductRelations.{product_of_relations}
 use Rattle.linear_forms.specs.Comparisons.{comparison_form}
-use Rattle.linear_forms.specs.Atomic.{Atomic}
-use Rattle.linear_arithmetic.proofs.StoredValues.{form_value-normal_form}
-use Rattle.linear_arithmetic.proofs.Truths.{comparison_form_holds}
+use Rattle.linear_forms.specs.declared.comparison.Atomic.{Atomic}
+use Rattle.linear_forms.proofs.StoredValues.{form_value-normal_form}
+use Rattle.linear_forms.proofs.Truths.{comparison_form_holds}
 use Rattle.while_lang.specs.Programs.{ProgTree, empty, skip_then, abort_then, assert_then, act_then, assign_then, branch_then, loop_then}
 use Rattle.while_lang.specs.Encoding.{stmt_terms, encoded}
 use Rattle.while_lang.proofs.Choices.{chosen_parts, parts_chosen}

@@ -16,11 +16,11 @@ use Rattle.kat_model.proofs.Places.{slice_get-append_left}
 use Rattle.linear_forms.specs.Values.{form_value}
 use Rattle.linear_forms.specs.Arithmetic.{normal_form}
 use Rattle.linear_forms.specs.Comparisons.{atomic_holds, cond_form_holds, comparison_form}
-use Rattle.linear_forms.specs.Atomic.{Atomic}
-use Rattle.linear_forms.specs.CondForm.{CondForm}
-use Rattle.linear_forms.specs.CondForm.TheVariants.{True, False, Pos, Neg}
-use Rattle.linear_arithmetic.proofs.StoredValues.{value_below, form_value-normal_form}
-use Rattle.linear_arithmetic.proofs.Truths.{comparison_form_holds}
+use Rattle.linear_forms.specs.declared.comparison.Atomic.{Atomic}
+use Rattle.linear_forms.specs.declared.comparison.CondForm.{CondForm}
+use Rattle.linear_forms.specs.declared.comparison.CondForm.TheVariants.{True, False, Pos, Neg}
+use Rattle.linear_forms.proofs.StoredValues.{value_below, form_value-normal_form}
+use Rattle.linear_forms.proofs.Truths.{comparison_form_holds}
 use Rattle.while_lang.specs.Programs.{ProgTree, empty, skip_then, abort_then, assert_then, act_then, assign_then, branch_then, loop_then}
 use Rattle.while_lang.proofs.StoreValues.{set_is_store}
 use Rattle.while_lang.specs.Files.{FileParts}
@@ -35,7 +35,7 @@ use Rattle.abstraction.specs.Tests.{test_number, form_test, assignment_action}
 use Rattle.abstraction.specs.declared.rows.ActionRow.TheVariants as action
 use Rattle.abstraction.specs.declared.rows.TestRow.{TestRow}
 use Rattle.abstraction.specs.declared.rows.TestRow.TheVariants as test
-use Rattle.linear_arithmetic.proofs.Sameness.{is_same_comparison-true, is_same_comparison-same}
+use Rattle.linear_forms.proofs.Sameness.{is_same_comparison-true, is_same_comparison-same}
 use Rattle.abstraction.proofs.SameRows.{is_same_assignment-true, is_same_assignment-same}
 use Rattle.kat_model.proofs.MemberPlaces.{position_of_member}
 use Rattle.abstraction.proofs.ProgramRuns.{IsCondRead, IsAssignRead, IsProgRead}

@@ -3,7 +3,7 @@ use Rattle.std.proofs.Common.{arith, ◌≡◌, true, nat_eq, refl}
 use Rattle.std.proofs.lemmas.Bool.{and_parts}
 use Rattle.std.proofs.lemmas.Bool.Decides.{nat_tests}
 use Rattle.linear_forms.specs.Sameness.{is_same_form}
-use Rattle.linear_arithmetic.proofs.Sameness.{is_same_form-true, is_same_form-same}
+use Rattle.linear_forms.proofs.Sameness.{is_same_form-true, is_same_form-same}
 use Rattle.abstraction.specs.Comparisons.{Assignment}
 use Rattle.abstraction.specs.Tables.{is_same_assignment}
 

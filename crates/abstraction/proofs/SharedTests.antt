@@ -1,7 +1,7 @@
 -- Facts by the tests that they share.
 use Rattle.std.proofs.Common.{◌≡◌, ℕ, ◌&&◌, refl}
 use Rattle.std.proofs.lemmas.Bool.{and_right}
-use Rattle.linear_forms.specs.Atomic.TheVariants.{Zero, Less}
+use Rattle.linear_forms.specs.declared.comparison.Atomic.TheVariants.{Zero, Less}
 use Rattle.abstraction.specs.declared.rule.Rule.TheVariants.{F2, F3, F6}
 use Rattle.abstraction.specs.Facts.{TestRowOf, excludes, one_holds, fact_if, fact_two, fact_three, fact_six}
 use Rattle.abstraction.specs.Working.PairTests.{are_opposite, are_strict_and_equal}

@@ -1,7 +1,7 @@
 -- The comparisons and the assignments of a list of statements are those of the first statement and those of the others.
 use Rattle.std.proofs.Common.{◌≡◌, ℕ, ◌+◌, ◌<◌, List, ◌∷◌, ◌++◌, length, drop, get_or, refl, sym, ap, ◌∙◌}
 use Rattle.std.proofs.lemmas.List.{append-nil, drop_more}
-use Rattle.linear_forms.specs.Atomic.{Atomic}
+use Rattle.linear_forms.specs.declared.comparison.Atomic.{Atomic}
 use Rattle.while_lang.specs.Programs.{ProgTree, empty, StmtTree, skip, abort, assert, act, assign, branch, loop, with_stmt}
 use Rattle.while_lang.specs.ProgramViews.{stmt_tree, list_tree}
 use Rattle.while_lang.specs.declared.prog.Stmt.{Stmt}

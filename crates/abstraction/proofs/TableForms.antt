@@ -6,11 +6,11 @@ use Rattle.kat_model.specs.Stores.{modulus}
 use Rattle.kat_model.specs.Expressions.{CondTree, always, never, named, compared, negation, both, either}
 use Rattle.linear_forms.specs.NormalForms.{IsForm}
 use Rattle.linear_forms.specs.Comparisons.{IsAtomic, IsCondForm, comparison_form, substituted}
-use Rattle.linear_forms.specs.Atomic.{Atomic}
-use Rattle.linear_forms.specs.CondForm.{CondForm}
-use Rattle.linear_forms.specs.CondForm.TheVariants.{True, False, Pos, Neg}
-use Rattle.linear_arithmetic.proofs.StoredValues.{modulus_above_one}
-use Rattle.linear_arithmetic.proofs.Forming.{is_form_normal, is_cond_comparison, is_cond_substituted}
+use Rattle.linear_forms.specs.declared.comparison.Atomic.{Atomic}
+use Rattle.linear_forms.specs.declared.comparison.CondForm.{CondForm}
+use Rattle.linear_forms.specs.declared.comparison.CondForm.TheVariants.{True, False, Pos, Neg}
+use Rattle.linear_forms.proofs.StoredValues.{modulus_above_one}
+use Rattle.linear_forms.proofs.Forming.{is_form_normal, is_cond_comparison, is_cond_substituted}
 use Rattle.while_lang.specs.Programs.{ProgTree, empty, skip_then, abort_then, assert_then, act_then, assign_then, branch_then, loop_then}
 use Rattle.while_lang.specs.Files.{SideTree, term_side, prog_side, GoalTree, equal, below, triple, FileParts}
 use Rattle.while_lang.specs.Ranges.{IsProgInRange, IsSideInRange, IsGoalInRange}

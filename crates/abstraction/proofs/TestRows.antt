@@ -8,15 +8,15 @@ use Rattle.kat_model.specs.Trees.{TestTree, bottom, top, prim, complement}
 use Rattle.kat_model.specs.Stores.{Store}
 use Rattle.kat_model.specs.Steps.{Atom, truth}
 use Rattle.linear_forms.specs.Comparisons.{IsAtomic, atomic_holds, cond_form_holds}
-use Rattle.linear_forms.specs.Atomic.{Atomic}
-use Rattle.linear_forms.specs.CondForm.{CondForm}
-use Rattle.linear_forms.specs.CondForm.TheVariants.{True, False, Pos, Neg}
+use Rattle.linear_forms.specs.declared.comparison.Atomic.{Atomic}
+use Rattle.linear_forms.specs.declared.comparison.CondForm.{CondForm}
+use Rattle.linear_forms.specs.declared.comparison.CondForm.TheVariants.{True, False, Pos, Neg}
 use Rattle.linear_forms.specs.Sameness.{is_same_comparison}
 use Rattle.abstraction.specs.Tables.{Tables}
 use Rattle.abstraction.specs.Tests.{test_number, form_test}
 use Rattle.abstraction.specs.Facts.{TestRowOf}
 use Rattle.abstraction.specs.Derived.{test_rows}
-use Rattle.linear_arithmetic.proofs.Sameness.{is_same_comparison-true}
+use Rattle.linear_forms.proofs.Sameness.{is_same_comparison-true}
 
 -- a row of a comparison: its forms are well formed, and the test with its number is true exactly when the comparison
 -- holds

@@ -4,8 +4,8 @@ use Rattle.kat_model.specs.Trees.{Term, test, prim, complement, product}
 use Rattle.linear_forms.specs.Forms.{FormTree, constant}
 use Rattle.linear_forms.specs.Arithmetic.{form_sum, form_difference}
 use Rattle.linear_forms.specs.Comparisons.{canonical}
-use Rattle.linear_forms.specs.Atomic.{Atomic}
-use Rattle.linear_forms.specs.Atomic.TheVariants.{Zero, Less}
+use Rattle.linear_forms.specs.declared.comparison.Atomic.{Atomic}
+use Rattle.linear_forms.specs.declared.comparison.Atomic.TheVariants.{Zero, Less}
 use Rattle.abstraction.specs.declared.rule.Rule.{Rule}
 use Rattle.abstraction.specs.declared.rule.Rule.TheVariants.{F1, F2, F3, F4, F5, F6}
 use Rattle.linear_forms.specs.Sameness.{is_same_form}

@@ -4,7 +4,7 @@ use Rattle.std.specs.List.{list_any}
 use Rattle.kat_model.specs.declared.limits.TheConstants.{MAX_TESTS}
 use Rattle.kat_model.specs.Stores.{modulus}
 use Rattle.linear_forms.specs.Comparisons.{atomic_nodes, substituted}
-use Rattle.linear_forms.specs.Atomic.{Atomic}
+use Rattle.linear_forms.specs.declared.comparison.Atomic.{Atomic}
 use Rattle.while_lang.specs.Files.{FileParts}
 use Rattle.abstraction.specs.Comparisons.{Assignment, atomics}
 use Rattle.linear_forms.specs.Sameness.{is_same_comparison}

@@ -1,6 +1,6 @@
 -- The tables with which an abstraction reads conditions and programs.
 use Rattle.std.specs.Prelude.{ℕ, ◌+◌, List, [], ◌∷◌}
-use Rattle.linear_forms.specs.Atomic.{Atomic}
+use Rattle.linear_forms.specs.declared.comparison.Atomic.{Atomic}
 use Rattle.abstraction.specs.declared.rows.ActionRow.{ActionRow}
 use Rattle.abstraction.specs.declared.rows.ActionRow.TheVariants as action
 use Rattle.abstraction.specs.declared.rows.TestRow.{TestRow}

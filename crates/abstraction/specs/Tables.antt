@@ -3,7 +3,7 @@ use Rattle.std.specs.Prelude.{ℕ, List, [], Bool, ◌&&◌, nat_eq}
 use Rattle.kat_model.specs.Stores.{modulus}
 use Rattle.kat_model.specs.declared.expression.Width.{Width}
 use Rattle.linear_forms.specs.Sameness.{is_same_form, is_same_comparison}
-use Rattle.linear_forms.specs.Atomic.{Atomic}
+use Rattle.linear_forms.specs.declared.comparison.Atomic.{Atomic}
 use Rattle.kat_model.specs.UniqueRows.{with_all_new}
 use Rattle.while_lang.specs.Files.{FileParts}
 use Rattle.abstraction.specs.Comparisons.{Assignment, goal_comparisons, goal_assignments}

@@ -5,9 +5,9 @@ use Rattle.kat_model.specs.Expressions.{CondTree, always, never, named, compared
 use Rattle.kat_model.specs.Stores.{modulus}
 use Rattle.linear_forms.specs.Arithmetic.{normal_form}
 use Rattle.linear_forms.specs.Comparisons.{comparison_form}
-use Rattle.linear_forms.specs.Atomic.{Atomic}
-use Rattle.linear_forms.specs.CondForm.{CondForm}
-use Rattle.linear_forms.specs.CondForm.TheVariants.{True, False, Pos, Neg}
+use Rattle.linear_forms.specs.declared.comparison.Atomic.{Atomic}
+use Rattle.linear_forms.specs.declared.comparison.CondForm.{CondForm}
+use Rattle.linear_forms.specs.declared.comparison.CondForm.TheVariants.{True, False, Pos, Neg}
 use Rattle.while_lang.specs.Programs.{ProgTree, empty, skip_then, abort_then, assert_then, act_then, assign_then, branch_then, loop_then}
 use Rattle.while_lang.specs.Flows as flow
 use Rattle.while_lang.specs.Flows.{FlowTree}

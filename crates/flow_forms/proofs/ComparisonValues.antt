@@ -11,8 +11,8 @@ use Rattle.kat_model.specs.declared.expression.Width.TheVariants.{W8, W16, W32, 
 use Rattle.kat_model.specs.declared.expression.Rel.{Rel}
 use Rattle.kat_model.specs.declared.expression.Rel.TheVariants.{Eq, Ne, Lt, Le, Gt, Ge}
 use Rattle.linear_forms.specs.Arithmetic.{by_order}
-use Rattle.linear_arithmetic.proofs.SameOrder.{is_eq-true}
-use Rattle.linear_arithmetic.proofs.StoredValues.{modulus_above_one}
+use Rattle.linear_forms.proofs.SameOrder.{is_eq-true}
+use Rattle.linear_forms.proofs.StoredValues.{modulus_above_one}
 use Rattle.flow_model.specs.Sorts.{State}
 use Rattle.flow_model.specs.Interpretations.{Interpretation, biased}
 use Rattle.flow_forms.specs.Forms.{FlowFormTree, constant, term, one, factor, converted}

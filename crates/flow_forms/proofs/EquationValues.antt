@@ -8,8 +8,8 @@ use Rattle.kat_model.specs.Stores.{bits, modulus}
 use Rattle.kat_model.specs.declared.expression.Width.{Width}
 use Rattle.kat_model.specs.declared.expression.Width.TheVariants.{W8, W16, W32, W64}
 use Rattle.linear_forms.specs.Arithmetic.{by_order}
-use Rattle.linear_arithmetic.proofs.Modulo.{Cong, cong_add, cong_mul, cong_cut, negated}
-use Rattle.linear_arithmetic.proofs.StoredValues.{modulus_above_one}
+use Rattle.linear_forms.proofs.Modulo.{Cong, cong_add, cong_mul, cong_cut, negated}
+use Rattle.linear_forms.proofs.StoredValues.{modulus_above_one}
 use Rattle.flow_model.specs.Sorts.{State}
 use Rattle.flow_model.specs.Interpretations.{Interpretation, conversion}
 use Rattle.flow_forms.specs.Forms.{FlowFormTree, constant, term, one, factor, converted}

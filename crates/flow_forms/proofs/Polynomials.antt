@@ -5,7 +5,7 @@ use Rattle.std.proofs.lemmas.Bool.{cases_eq}
 use Rattle.std.proofs.lemmas.Bool.Decides.{nat_tests}
 use Rattle.std.proofs.lemmas.Nat.{mod_below, mul-mod}
 use Rattle.linear_forms.specs.Arithmetic.{by_order}
-use Rattle.linear_arithmetic.proofs.Modulo.{Cong, cong_add, cong_mul, cong_cut, add-mod, negated}
+use Rattle.linear_forms.proofs.Modulo.{Cong, cong_add, cong_mul, cong_cut, add-mod, negated}
 use Rattle.flow_model.specs.Sorts.{State}
 use Rattle.flow_model.specs.Interpretations.{Interpretation}
 use Rattle.flow_forms.specs.Forms.{FlowFormTree, constant, term, one, factor, cell_form}

@@ -5,7 +5,7 @@ use Rattle.std.proofs.lemmas.Bool.{and_parts}
 use Rattle.std.specs.Ordering.{is_eq}
 use Rattle.kat_model.specs.declared.expression.Width.{Width}
 use Rattle.kat_model.specs.declared.expression.Width.TheVariants.{W8, W16, W32, W64}
-use Rattle.linear_arithmetic.proofs.SameOrder.{is_eq-true}
+use Rattle.linear_forms.proofs.SameOrder.{is_eq-true}
 use Rattle.flow_forms.specs.Forms.{FlowFormTree}
 use Rattle.flow_forms.specs.Order.{form_cmp}
 use Rattle.flow_forms.specs.Conversions.{is_same_width}

@@ -7,7 +7,7 @@ use Rattle.kat_model.specs.declared.expression.Width.{Width}
 use Rattle.kat_model.specs.declared.expression.Width.TheVariants.{W8, W16, W32, W64}
 use Rattle.flow_model.specs.declared.sort.Sort.{Sort}
 use Rattle.flow_model.specs.declared.sort.Sort.TheVariants.{Number, Opaque}
-use Rattle.linear_arithmetic.proofs.SameOrder.{then_equal, same_number}
+use Rattle.linear_forms.proofs.SameOrder.{then_equal, same_number}
 use Rattle.flow_forms.specs.Forms.{FlowFormTree, constant, term, one, factor, variable, applied, converted, no_arguments, argument}
 use Rattle.flow_forms.specs.Order.{sort_cmp, sign_rank, form_cmp}
 

@@ -3,7 +3,7 @@ use Rattle.std.proofs.Common.{◌≡◌, ℕ, ◌+◌, ◌*◌, ◌%◌, Bool, t
 use mathlib.Core.Path.{ap₂}
 use Rattle.std.proofs.Math.Nat.{mod-mod}
 use Rattle.kat_model.specs.Stores.{modulus}
-use Rattle.linear_arithmetic.proofs.Modulo.{Cong, cong_add, cong_mul}
+use Rattle.linear_forms.proofs.Modulo.{Cong, cong_add, cong_mul}
 use Rattle.flow_model.specs.declared.sort.Sort.{Sort}
 use Rattle.flow_model.specs.declared.sort.Sort.TheVariants.{Number, Opaque}
 use Rattle.flow_model.specs.Sorts.{State, value_in}

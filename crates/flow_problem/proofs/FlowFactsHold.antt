@@ -9,7 +9,7 @@ use Rattle.kat_model.specs.Stores.{modulus}
 use Rattle.kat_model.specs.Relations.{Frame}
 use Rattle.kat_model.specs.declared.expression.Width.{Width}
 use Rattle.kat_model.specs.declared.expression.Rel.TheVariants.{Eq, Lt}
-use Rattle.linear_arithmetic.proofs.StoredValues.{modulus_above_one}
+use Rattle.linear_forms.proofs.StoredValues.{modulus_above_one}
 use Rattle.flow_model.specs.declared.sort.Sort.{Sort}
 use Rattle.flow_model.specs.Interpretations.{Interpretation}
 use Rattle.flow_forms.specs.Forms.{FlowFormTree, constant}

@@ -10,7 +10,7 @@ use Rattle.kat_model.specs.Stores.{modulus}
 use Rattle.kat_model.specs.Relations.{Frame}
 use Rattle.kat_model.specs.declared.expression.Width.{Width}
 use Rattle.linear_forms.specs.Arithmetic.{by_order}
-use Rattle.linear_arithmetic.proofs.Modulo.{add-mod}
+use Rattle.linear_forms.proofs.Modulo.{add-mod}
 use Rattle.flow_model.specs.declared.sort.Sort.{Sort}
 use Rattle.flow_model.specs.Interpretations.{Interpretation}
 use Rattle.flow_forms.specs.Forms.{FlowFormTree, constant, term, one, factor, variable, applied, converted, no_arguments, argument}

@@ -3,7 +3,7 @@ use Rattle.std.proofs.Common.{◌≡◌, true, ◌&&◌, List, [], ◌∷◌, Op
 use mathlib.Core.Path.{ap₂}
 use Rattle.std.specs.Ordering.{is_eq}
 use Rattle.std.proofs.lemmas.Bool.{and_parts, and_from}
-use Rattle.linear_arithmetic.proofs.SameOrder.{is_eq-true}
+use Rattle.linear_forms.proofs.SameOrder.{is_eq-true}
 use Rattle.kat_model.proofs.Numbers.{nat_cmp-own}
 use Rattle.kat_model.specs.Stores.{bits}
 use Rattle.flow_model.specs.declared.sort.Sort.{Sort}

@@ -9,7 +9,7 @@ use Rattle.std.proofs.lemmas.Nat.{mod_below}
 use Rattle.kat_model.specs.Members.{Has}
 use Rattle.kat_model.specs.Stores.{modulus}
 use Rattle.kat_model.specs.declared.expression.Width.{Width}
-use Rattle.linear_arithmetic.proofs.Modulo.{add-mod, cong_add, negated}
+use Rattle.linear_forms.proofs.Modulo.{add-mod, cong_add, negated}
 use Rattle.flow_model.specs.declared.sort.Sort.{Sort}
 use Rattle.flow_model.specs.declared.sort.Sort.TheVariants.{Number, Opaque}
 use Rattle.flow_model.specs.Sorts.{State, IsState, value_in}

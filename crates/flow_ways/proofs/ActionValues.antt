@@ -2,7 +2,7 @@
 use Rattle.std.proofs.Common.{◌≡◌, ℕ, zero, suc, ◌+◌, Bool, true, false, not, ◌&&◌, List, [], ◌∷◌, length, Option, Some, None, slice_index_or, if◌then◌else◌, refl, sym, ◌∙◌, ap, subst, arith}
 use Rattle.std.proofs.lemmas.Nat.{mod_below}
 use Rattle.kat_model.specs.Stores.{modulus}
-use Rattle.linear_arithmetic.proofs.SameOrder.{is_eq-true}
+use Rattle.linear_forms.proofs.SameOrder.{is_eq-true}
 use Rattle.flow_model.specs.declared.sort.Sort.{Sort}
 use Rattle.flow_model.specs.declared.sort.Sort.TheVariants.{Number, Opaque}
 use Rattle.flow_model.specs.Sorts.{State, IsState, IsValue}

@@ -13,7 +13,7 @@ use Rattle.kat_model.specs.Strings.{GuardedString, accepts}
 use Rattle.kat_model.proofs.Paths.{spelled_relates}
 use Rattle.string_tables.specs.Tables.{RelatesEnds, ExactlyOne, Refutes}
 use Rattle.string_tables.proofs.Parts.{ends_by_acceptance}
-use Rattle.linear_forms.specs.Atomic.{Atomic}
+use Rattle.linear_forms.specs.declared.comparison.Atomic.{Atomic}
 use Rattle.while_lang.specs.Programs.{ProgTree}
 use Rattle.while_lang.specs.Encoding.{encoded}
 use Rattle.while_lang.specs.Files.{FileParts, GoalTree, triple, prog_side}

@@ -13,8 +13,8 @@ use Rattle.text_parser.specs.declared.meaning.Meaning.TheVariants.{Test, Action,
 use Rattle.text_parser.specs.ScopeParts.{ScopeParts, IsWellFormed}
 use Rattle.text_print.specs.Printing.{name_of, term_nesting}
 use Rattle.linear_forms.specs.Forms.{FormTree, constant, var_term, product_term}
-use Rattle.linear_forms.specs.Atomic.{Atomic}
-use Rattle.linear_forms.specs.Atomic.TheVariants.{Zero, Less}
+use Rattle.linear_forms.specs.declared.comparison.Atomic.{Atomic}
+use Rattle.linear_forms.specs.declared.comparison.Atomic.TheVariants.{Zero, Less}
 use Rattle.problem_file.specs.Questions.{plain_name, tests_text, actions_text, hyp_text, goal_text}
 use Rattle.problem_file.specs.CommentedTexts.{IsComment, comment_text, comments_text, Comments, commented_hyps, commented_text, AreComments, EachAreComments, AreOneLine}
 use Rattle.problem_file.specs.TextLaws.{AsksEqual}

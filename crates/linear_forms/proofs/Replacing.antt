@@ -1,8 +1,8 @@
 -- A form with a variable replaced, term by term.
 use Rattle.std.proofs.Common.{ℕ, zero, suc, ◌≡◌, ◌<◌, List, [], ◌∷◌, length, drop, get_or, refl, arith}
-use Rattle.linear_arithmetic.specs.Forms.{FormTree, var, product, TermTree, form_of, with_term}
-use Rattle.linear_arithmetic.specs.Arithmetic.{form_sum, multiple}
-use Rattle.linear_arithmetic.specs.Substitution.{replaced, mono_replaced}
+use Rattle.linear_forms.specs.Forms.{FormTree, var, product, TermTree, form_of, with_term}
+use Rattle.linear_forms.specs.Arithmetic.{form_sum, multiple}
+use Rattle.linear_forms.specs.Substitution.{replaced, mono_replaced}
 
 pub replaced-with_term : (m j : ℕ) (by : FormTree) (x : TermTree) (rest : FormTree) → replaced m j by (with_term x rest) ≡ form_sum m (multiple m x.1 (mono_replaced m j by x.0)) (replaced m j by rest)
 replaced-with_term m j by (var k, t) rest = refl

@@ -1,12 +1,22 @@
-//! Linear forms over opaque products: normal forms of expressions and comparisons, modulo 2 to a width, and forms in
-//! place of variables. All but substitution is in `linear_arithmetic`.
+//! Linear forms over opaque products, modulo 2 to a width: their order, sums and products, normal forms of expressions
+//! and comparisons, forms in place of variables, and the laws of these.
 #![tactic(auto)]
 
+mod arithmetic;
+mod comparison;
+mod expression;
+mod form;
+mod laws;
+mod order;
 mod substitution;
 
-pub use linear_arithmetic::{
-    Atomic, CondForm, Form, Mono, Term, atomic_size, canon, comparisons_stay_settled, form_size,
-    forms_are_ordered, forms_go_by_coefficients, forms_have_one_sign, forms_keep_values, holds,
-    minus, normal, normal_cond, plus, same_atomic, same_form, value,
+pub use arithmetic::{minus, plus};
+pub use comparison::{Atomic, CondForm, atomic_size, canon, holds, normal_cond, same_atomic};
+pub use expression::{normal, value};
+pub use form::{Form, Mono, Term, form_size};
+pub use laws::{
+    comparisons_stay_settled, forms_are_ordered, forms_go_by_coefficients, forms_have_one_sign,
+    forms_keep_values,
 };
+pub use order::same_form;
 pub use substitution::subst;

@@ -1,15 +1,15 @@
 //! A form in place of a variable.
 ghost use Rattle.std.specs.Prelude.{◌≡◌, IfOk};
 ghost use Rattle.kat_model.specs.Stores.{modulus};
-ghost use Rattle.linear_arithmetic.specs.NormalForms.{IsForm};
-ghost use Rattle.linear_arithmetic.specs.Views.{mono_tree};
-ghost use Rattle.linear_arithmetic.specs.Substitution.{replaced, mono_replaced};
-ghost use Rattle.linear_arithmetic.specs.Comparisons.{HoldsWhenSet, IsCondForm, substituted};
+ghost use Rattle.linear_forms.specs.NormalForms.{IsForm};
+ghost use Rattle.linear_forms.specs.Views.{mono_tree};
+ghost use Rattle.linear_forms.specs.Substitution.{replaced, mono_replaced};
+ghost use Rattle.linear_forms.specs.Comparisons.{HoldsWhenSet, IsCondForm, substituted};
 
+use crate::arithmetic::{multiple, product, sum};
+use crate::comparison::{Atomic, CondForm, less_cond, zero_cond};
+use crate::form::{Form, Mono, variable};
 use kat_model::{NoMemory, Width};
-use linear_arithmetic::{
-    Atomic, CondForm, Form, Mono, less_cond, multiple, product, sum, variable, zero_cond,
-};
 use std::alloc::Global;
 
 #[cycle(replaced)]

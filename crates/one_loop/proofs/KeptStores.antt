@@ -4,7 +4,7 @@ use Rattle.std.proofs.lemmas.List.{length-set}
 use Rattle.kat_model.specs.Members.{Has}
 use Rattle.kat_model.specs.Stores.{modulus, Store, IsStore, value}
 use Rattle.kat_model.specs.declared.expression.Width.{Width}
-use Rattle.linear_arithmetic.proofs.StoredValues.{value_below}
+use Rattle.linear_forms.proofs.StoredValues.{value_below}
 use Rattle.while_lang.specs.Programs.{ProgTree, empty, skip_then, abort_then, assert_then, act_then, assign_then, branch_then, loop_then}
 use Rattle.while_lang.specs.Runs.{condition, Chosen, Leaves, Turns, Goes}
 use Rattle.while_lang.proofs.StoreValues.{set_is_store}

@@ -5,7 +5,7 @@ use Rattle.kat_model.specs.Expressions.{ExprTree, CondTree}
 use Rattle.kat_model.specs.Stores.{Store, value, holds}
 use Rattle.kat_model.specs.Problems.{AreInRange}
 use Rattle.kat_model.specs.Relations.{Along}
-use Rattle.linear_arithmetic.proofs.StoredValues.{value_below}
+use Rattle.linear_forms.proofs.StoredValues.{value_below}
 use Rattle.while_lang.specs.Files.{FileParts, triple, prog_side}
 use Rattle.while_lang.specs.Concrete.{IsStoreOf, IsConcrete, EndAlike}
 use Rattle.while_lang.specs.Ranges.{IsProgInRange}

@@ -3,7 +3,7 @@ use Rattle.std.proofs.Common.{◌≡◌, ◌<◌, ◌≤◌, ℕ, ◌+◌, ◌*�
 use Rattle.std.proofs.lemmas.List.{append-nil}
 use Rattle.kat_model.specs.Stores.{modulus, Store}
 use Rattle.kat_model.specs.declared.expression.Width.{Width}
-use Rattle.linear_arithmetic.proofs.Modulo.{add-mod, cong_cut}
+use Rattle.linear_forms.proofs.Modulo.{add-mod, cong_cut}
 use Rattle.bench_problems.specs.Generator.{next_state}
 use Rattle.store_trials.specs.StoreLists.{drawn_below, state_after, drawn_digits, drawn_value, after_value, drawn_store, after_store, drawn_stores}
 use Rattle.store_trials.proofs.ListedStores.{one_less, none_left}

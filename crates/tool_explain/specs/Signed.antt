@@ -5,8 +5,8 @@ use Rattle.text_parser.specs.declared.meaning.Meaning.{Meaning}
 use Rattle.text_parser.specs.declared.meaning.Meaning.TheVariants.{Test, Action, Var}
 use Rattle.linear_forms.specs.Forms.{FormTree, constant, var_term, product_term}
 use Rattle.linear_forms.specs.Comparisons.{negative_number}
-use Rattle.linear_forms.specs.Atomic.{Atomic}
-use Rattle.linear_forms.specs.Atomic.TheVariants.{Zero, Less}
+use Rattle.linear_forms.specs.declared.comparison.Atomic.{Atomic}
+use Rattle.linear_forms.specs.declared.comparison.Atomic.TheVariants.{Zero, Less}
 use Rattle.abstraction.specs.declared.rows.ActionRow.{ActionRow}
 use Rattle.abstraction.specs.declared.rows.ActionRow.TheVariants as action
 use Rattle.abstraction.specs.declared.rows.TestRow.{TestRow}

@@ -3,7 +3,7 @@ use Rattle.std.specs.Prelude.{◌≡◌, ◌≤◌, ◌<◌, ◌+◌, List, leng
 use Rattle.std.specs.declared.alloc.Global.{Global}
 use Rattle.kat_model.specs.declared.limits.TheConstants.{MAX_TESTS, MAX_ACTIONS, MAX_TERM_NODES}
 use Rattle.kat_model.specs.Problems.{problem_size, problem_fault}
-use Rattle.linear_forms.specs.Atomic.{Atomic}
+use Rattle.linear_forms.specs.declared.comparison.Atomic.{Atomic}
 use Rattle.goal_forms.specs.Sides.{SideTrees}
 use Rattle.while_lang.specs.Files.{FileParts}
 use Rattle.abstraction.specs.declared.fault.AbstractFault.{AbstractFault}

@@ -3,7 +3,7 @@ use Rattle.std.specs.Prelude.{ℕ, Bool, false, ◌&&◌, nat_lt}
 use Rattle.linear_forms.specs.Arithmetic.{form_difference}
 use Rattle.linear_forms.specs.Comparisons.{canonical}
 use Rattle.linear_forms.specs.Sameness.{is_same_form}
-use Rattle.linear_forms.specs.Atomic.TheVariants.{Zero, Less}
+use Rattle.linear_forms.specs.declared.comparison.Atomic.TheVariants.{Zero, Less}
 use Rattle.abstraction.specs.Facts.{TestRowOf}
 
 -- whether the first comparison comes before the second, and they are f < g and g < f

@@ -1,6 +1,6 @@
 use Rattle.std.proofs.lemmas.Bool.Decides.{same_from_decides}
 use Rattle.linear_forms.specs.Sameness.{is_same_form}
-use Rattle.linear_arithmetic.proofs.Sameness.{is_same_form-decides}
+use Rattle.linear_forms.proofs.Sameness.{is_same_form-decides}
 use Rattle.abstraction.proofs.facts.is_same_form.Goals as goal
 
 pub returns : goal.returns

@@ -1,6 +1,6 @@
 use Rattle.std.proofs.Common.{arith, ◌<◌}
 use Rattle.kat_model.specs.Stores.{modulus}
-use Rattle.linear_arithmetic.proofs.StoredValues.{modulus_above_one}
+use Rattle.linear_forms.proofs.StoredValues.{modulus_above_one}
 use Rattle.flow_forms.proofs.Polynomials.{polynomial-cell_form, value-form_sum, value-form_difference, value-multiple, value-form_product}
 use Rattle.flow_forms.proofs.ConvertedValues.{value-form_conversion}
 use Rattle.flow_forms.proofs.laws.forms_keep_values.Goals as goal

@@ -1,5 +1,5 @@
 use Rattle.std.proofs.Common.{rules}
-use Rattle.linear_arithmetic.proofs.SameOrder.{equal_order}
+use Rattle.linear_forms.proofs.SameOrder.{equal_order}
 use Rattle.flow_forms.specs.Forms.{form_tree}
 use Rattle.flow_forms.proofs.SameForms.{same_form, own_form}
 use Rattle.flow_forms.proofs.order.same_form.Goals as goal

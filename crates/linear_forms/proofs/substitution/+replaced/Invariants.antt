@@ -1,7 +1,7 @@
 use Rattle.std.proofs.Common.{◌≡◌, ◌≤◌, drop, length}
 use Rattle.kat_model.specs.Stores.{modulus}
-use Rattle.linear_arithmetic.specs.Forms.{form_of}
-use Rattle.linear_arithmetic.specs.Substitution.{replaced}
+use Rattle.linear_forms.specs.Forms.{form_of}
+use Rattle.linear_forms.specs.Substitution.{replaced}
 use Rattle.linear_forms.proofs.substitution.+replaced.Given as goal
 
 -- the total is the form of the terms from i on, with the variable replaced

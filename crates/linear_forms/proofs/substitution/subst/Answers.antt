@@ -1,8 +1,8 @@
 use Rattle.std.proofs.lemmas.Result.{IfOk-weaker}
 use Rattle.kat_model.specs.Stores.{modulus}
-use Rattle.linear_arithmetic.proofs.StoredValues.{modulus_above_one}
-use Rattle.linear_arithmetic.proofs.Forming.{is_cond_substituted}
-use Rattle.linear_arithmetic.proofs.Truths.{substituted_holds}
+use Rattle.linear_forms.proofs.StoredValues.{modulus_above_one}
+use Rattle.linear_forms.proofs.Forming.{is_cond_substituted}
+use Rattle.linear_forms.proofs.Truths.{substituted_holds}
 use Rattle.linear_forms.proofs.substitution.subst.Goals as goal
 
 pub returns-clause-form : goal.returns-clause-form

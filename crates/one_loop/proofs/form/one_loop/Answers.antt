@@ -1,7 +1,7 @@
 use Rattle.std.proofs.Common.{◌<◌, arith}
 use Rattle.kat_model.specs.Stores.{modulus}
 use Rattle.while_lang.specs.Programs.{statements}
-use Rattle.linear_arithmetic.proofs.StoredValues.{modulus_above_one}
+use Rattle.linear_forms.proofs.StoredValues.{modulus_above_one}
 use Rattle.one_loop.proofs.WholeForms.{one_form}
 use Rattle.one_loop.proofs.FormSizes.{small_form}
 use Rattle.one_loop.proofs.form.one_loop.Goals as goal

@@ -1,7 +1,7 @@
 use Rattle.std.proofs.Common.{◌≡◌, rules}
 use Rattle.std.specs.Prelude.{slice_index_or}
 use Rattle.kat_model.specs.Expressions.{variable}
-use Rattle.linear_arithmetic.proofs.StoredValues.{value_below}
+use Rattle.linear_forms.proofs.StoredValues.{value_below}
 use Rattle.store_trials.proofs.conditions.+value.Goals as goal
 
 pub returns-in-Var-clause-bound : goal.returns-in-Var-clause-bound

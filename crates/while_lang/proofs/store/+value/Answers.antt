@@ -1,5 +1,5 @@
 use Rattle.kat_model.specs.Expressions.{variable}
-use Rattle.linear_arithmetic.proofs.StoredValues.{value_below}
+use Rattle.linear_forms.proofs.StoredValues.{value_below}
 use Rattle.while_lang.proofs.store.+value.Goals as goal
 
 pub returns-in-Var-clause-bound : goal.returns-in-Var-clause-bound

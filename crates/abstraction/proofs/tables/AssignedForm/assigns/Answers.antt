@@ -1,7 +1,7 @@
 use Rattle.std.proofs.lemmas.Bool.{eq-eqb}
 use Rattle.std.proofs.lemmas.Bool.Decides.{same_from_decides}
 use Rattle.linear_forms.specs.Sameness.{is_same_form}
-use Rattle.linear_arithmetic.proofs.Sameness.{is_same_form-decides}
+use Rattle.linear_forms.proofs.Sameness.{is_same_form-decides}
 use Rattle.abstraction.proofs.tables.AssignedForm.assigns.Goals as goal
 
 pub returns-then-self-var : goal.returns-then-self-var
