@@ -9,7 +9,7 @@ ghost use Rattle.bisim_worklist.specs.StoredTerms.{HasIdsOf};
 ghost use Rattle.bisim_worklist.specs.Working.Limits.{limit_of as limit_of'};
 
 use certificate::Evidence;
-use hypothesis_kinds::has_short;
+use goal_forms::has_short;
 use kat_model::{NoMemory, Problem};
 use std::alloc::Global;
 use term_store::Store;

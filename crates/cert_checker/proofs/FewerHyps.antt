@@ -17,7 +17,7 @@ use Rattle.kat_model.specs.TestedPairs.{AreAcceptedUnder}
 use Rattle.kat_model.proofs.Filters.{has_filter, filter_has}
 use Rattle.kat_model.proofs.Lists.{has_pushed, map_has}
 use Rattle.kat_model.proofs.Places.{has_at}
-use Rattle.hypothesis_kinds.proofs.FewerHypotheses.{fewer_accepted}
+use Rattle.goal_forms.proofs.FewerHypotheses.{fewer_accepted}
 use Rattle.certificate.specs.declared.nodes.Style.TheVariants.{Under}
 use Rattle.certificate.specs.Certs.{CertParts}
 use Rattle.certificate.specs.Accepted.{ShowsSame, tested_pairs, IsAccepted}

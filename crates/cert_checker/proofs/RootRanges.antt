@@ -19,7 +19,7 @@ use Rattle.certificate.specs.declared.nodes.Style.{Style}
 use Rattle.certificate.specs.declared.nodes.Style.TheVariants.{Plain, UpTo, Under}
 use Rattle.cert_checker.specs.NodeTables.{TableParts, TablesGrow, IsTerm, term_at, nodes_in}
 use Rattle.cert_checker.specs.Roots.{AreClosedBelow, AreClosedNumbers, AreSideNumbers, AreRoots, compared, counted_short}
-use Rattle.hypothesis_kinds.proofs.LongProblems.{long_is_problem}
+use Rattle.goal_forms.proofs.LongProblems.{long_is_problem}
 use Rattle.cert_checker.proofs.GrowingTables.{grows_trans}
 use Rattle.cert_checker.proofs.StepLists.{grows_longer}
 

@@ -21,7 +21,7 @@ use crate::places::{Place, first_place};
 use crate::range::{action_out, test_out};
 use crate::relevant::asked_tests;
 use certificate::{Cert, Evidence, Style};
-use hypothesis_kinds::{asks_only, is_short};
+use goal_forms::{asks_only, is_short};
 use kat_model::{Items, Kat, NoMemory, Problem};
 use std::alloc::Global;
 use string_tables::{Finding, verdict};

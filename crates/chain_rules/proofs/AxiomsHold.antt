@@ -3,7 +3,7 @@ use Rattle.std.proofs.Common.{◌≡◌, ℕ, inl, inr, ⊎_elim, List, [], ◌�
 use Rattle.kat_model.specs.Trees.{Term, zero, one, sum, product, star}
 use Rattle.kat_model.specs.Relations.{Frame, Along, RelatesIn}
 use Rattle.kat_model.proofs.Closure.{along_append}
-use Rattle.hypothesis_kinds.proofs.StepForms.{test_relates, test_related}
+use Rattle.goal_forms.proofs.StepForms.{test_relates, test_related}
 use Rattle.chain_rules.specs.Chains.{Equation, equation}
 use Rattle.chain_rules.specs.Axioms.{axiom_equation, axiom_premise, AreEqualTests}
 use Rattle.chain_rules.specs.declared.chain.Axiom.{Axiom}

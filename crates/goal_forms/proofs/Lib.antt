@@ -1,1 +1,7 @@
+pub mod LongProblems
+pub mod SimpleForms
+pub mod LeastHypotheses
+pub mod StepForms
+pub mod FewerHypotheses
+pub mod OneMove
 pub mod Meanings

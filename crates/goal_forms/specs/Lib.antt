@@ -1,3 +1,8 @@
+pub mod Capped
+pub mod TestTerms
+pub mod HypothesisForms
+pub mod Broken
+pub mod Asked
 pub mod Sides
 pub mod ClosedTrees
 pub mod Laws

@@ -9,9 +9,9 @@ use Rattle.kat_model.proofs.Options.{same_bool}
 use Rattle.while_lang.specs.Flows.{act as act_stmt}
 use Rattle.outline_rules.specs.StepFunctions.{StepDiagramsParts, step_value, IsStepDiagram, KeepsSteps, IsImage}
 use Rattle.outline_rules.proofs.StepSets.{KeepsSteps-trans, IsStepDiagram-kept}
-use Rattle.hypothesis_kinds.specs.TestTerms.{AreSimple, IsRuledOut}
-use Rattle.hypothesis_kinds.specs.HypothesisForms.{allows, some_rules_out}
-use Rattle.hypothesis_kinds.proofs.SimpleForms.{allows_told, allowed_allows, ruled_out_told, told_ruled_out}
+use Rattle.goal_forms.specs.TestTerms.{AreSimple, IsRuledOut}
+use Rattle.goal_forms.specs.HypothesisForms.{allows, some_rules_out}
+use Rattle.goal_forms.proofs.SimpleForms.{allows_told, allowed_allows, ruled_out_told, told_ruled_out}
 use Rattle.hoare_outlines.specs.Working.AtomSets.{AtomSet, IsSetId, IsAllowedSet}
 use Rattle.hoare_outlines.specs.Working.Annotated.{LeadsInto}
 use Rattle.hoare_outlines.specs.Working.Reached.{Reached}

@@ -6,8 +6,8 @@ use Rattle.kat_model.specs.Problems.{ProblemParts}
 use Rattle.kat_model.specs.Steps.{Atom, out}
 use Rattle.kat_model.specs.Relations.{RelatesIn}
 use Rattle.kat_model.proofs.PathTables.{FitsProblem}
-use Rattle.hypothesis_kinds.specs.TestTerms.{StepForm, HasStepForm, AreSimple}
-use Rattle.hypothesis_kinds.proofs.StepForms.{test_related, step_related}
+use Rattle.goal_forms.specs.TestTerms.{StepForm, HasStepForm, AreSimple}
+use Rattle.goal_forms.proofs.StepForms.{test_related, step_related}
 use Rattle.hoare_outlines.specs.Working.Reached.{atom_frame}
 
 pub atoms_fit : (q : ProblemParts) → AreSimple q.hyps → FitsProblem (atom_frame q) q

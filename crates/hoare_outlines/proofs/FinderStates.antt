@@ -3,7 +3,7 @@ use Rattle.std.proofs.Common.{◌≡◌, sym, ◌∙◌, subst}
 use Rattle.kat_model.specs.Problems.{ProblemParts}
 use Rattle.outline_rules.specs.StepFunctions.{AreStepDiagrams, KeepsSteps}
 use Rattle.outline_rules.proofs.StepSets.{KeepsSteps-itself}
-use Rattle.hypothesis_kinds.specs.HypothesisForms.{allows}
+use Rattle.goal_forms.specs.HypothesisForms.{allows}
 use Rattle.hoare_outlines.specs.declared.finding.Finder.{Finder}
 use Rattle.hoare_outlines.specs.Working.AtomSets.{IsSetId}
 use Rattle.hoare_outlines.specs.Working.Found.{IsFinder}

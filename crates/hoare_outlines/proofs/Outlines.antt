@@ -15,9 +15,9 @@ use Rattle.while_lang.specs.Encoding.{stmt_terms, encoded}
 use Rattle.outline_rules.specs.StepFunctions.{StepDiagramsParts, step_value, IsStepId, IsStepDiagram, KeepsSteps, Entails}
 use Rattle.outline_rules.proofs.StepSets.{step_value-kept}
 use Rattle.outline_rules.specs.NoteLists.{NotesParts, note_holds}
-use Rattle.hypothesis_kinds.specs.TestTerms.{AreSimple}
-use Rattle.hypothesis_kinds.specs.HypothesisForms.{allows}
-use Rattle.hypothesis_kinds.proofs.SimpleForms.{allows_told, allowed_allows}
+use Rattle.goal_forms.specs.TestTerms.{AreSimple}
+use Rattle.goal_forms.specs.HypothesisForms.{allows}
+use Rattle.goal_forms.proofs.SimpleForms.{allows_told, allowed_allows}
 use Rattle.outline_rules.specs.Tasks.{TaskParts, IsTripleOf}
 use Rattle.outline_rules.specs.Places.{last_place, places}
 use Rattle.outline_rules.specs.Follows.{Condition, starts, ends, conditions_from, conditions, IsMet, Follows}

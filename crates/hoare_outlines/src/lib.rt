@@ -1,13 +1,13 @@
 //! Outlines: proofs of Hoare triples in their usual form, with a note at every place of the program. This crate finds
 //! the notes of a triple that holds. The rules, their checker and the text of notes are in `outline_rules`, and the
-//! meaning of hypotheses is in `hypothesis_kinds`.
+//! meaning of hypotheses is in `goal_forms`.
 #![tactic(auto)]
 
 mod finding;
 mod noting;
 
 pub use finding::outline;
-pub use hypothesis_kinds::not_simple;
+pub use goal_forms::not_simple;
 pub use outline_rules::{
     NoteAnswer, NoteNode, NoteReason, Notes, NotesFault, Task, check_notes, follows_is_same,
     read_notes, reasons_are_against, write_notes,

@@ -9,11 +9,11 @@ use Rattle.kat_model.specs.Problems.{ProblemParts}
 use Rattle.kat_model.specs.Steps.{Atom, truth}
 use Rattle.outline_rules.specs.StepFunctions.{StepDiagramsParts, step_value, IsStepId, IsStepDiagram, KeepsSteps, Entails, IsImage}
 use Rattle.outline_rules.proofs.StepSets.{KeepsSteps-trans, IsStepId-kept, IsStepDiagram-kept, step_value-kept}
-use Rattle.hypothesis_kinds.specs.TestTerms.{AreSimple, IsAllowed, IsRuledOut}
+use Rattle.goal_forms.specs.TestTerms.{AreSimple, IsAllowed, IsRuledOut}
 use Rattle.outline_rules.specs.Follows.{starts, implies, leads, ends, IsMet}
-use Rattle.hypothesis_kinds.specs.HypothesisForms.{allows, some_rules_out}
+use Rattle.goal_forms.specs.HypothesisForms.{allows, some_rules_out}
 use Rattle.outline_rules.specs.Working.Sets.{EntailsUnder, free_step, AreEnds}
-use Rattle.hypothesis_kinds.proofs.SimpleForms.{allows_told, allowed_allows, ruled_out_told, told_ruled_out}
+use Rattle.goal_forms.proofs.SimpleForms.{allows_told, allowed_allows, ruled_out_told, told_ruled_out}
 
 -- an implication of functions, as an entailment of diagrams states it
 abbrev pub Implied : ℕ → (Atom → Atom → Bool) → (Atom → Atom → Bool) → (Atom → Atom → Bool) → (Atom → Atom → Bool) → Type 0

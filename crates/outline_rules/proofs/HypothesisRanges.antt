@@ -8,7 +8,7 @@ use Rattle.kat_model.proofs.Ranges.{IsInRange-HasTestsBelow}
 use Rattle.outline_rules.specs.declared.moments.Moment.{Moment}
 use Rattle.outline_rules.specs.Interleaved.{atom_at_moment}
 use Rattle.outline_rules.specs.StepFunctions.{StepDiagramsParts, IsStepDiagram}
-use Rattle.hypothesis_kinds.specs.HypothesisForms.{allows, some_rules_out}
+use Rattle.goal_forms.specs.HypothesisForms.{allows, some_rules_out}
 
 hyps_below : (tests actions : ℕ) (xs : List Kat) → AreInRange tests actions (map kat_tree xs) → All (λ h. HasTestsBelow tests (kat_tree h)) xs
 hyps_below tests actions [] r k d lt = absurd (omega (arith, lt))

@@ -13,7 +13,7 @@ use Rattle.outline_rules.specs.declared.moments.Moment.{Moment}
 use Rattle.outline_rules.specs.Interleaved.{atom_at_moment}
 use Rattle.outline_rules.specs.StepFunctions.{StepDiagramsParts, step_value, IsStepId, IsStepDiagram, KeepsSteps}
 use Rattle.outline_rules.proofs.StepSets.{IsStepDiagram-same, KeepsSteps-trans, step_value-kept, tail_same, tail_joined}
-use Rattle.hypothesis_kinds.specs.HypothesisForms.{allows, rules_out, some_rules_out}
+use Rattle.goal_forms.specs.HypothesisForms.{allows, rules_out, some_rules_out}
 
 pub allows-push : (hyps : List Term) (h : Term) (atom : Atom) → allows (hyps ++ h ∷ []) atom ≡ (allows hyps atom && not (is_test h && out h atom))
 allows-push hyps h atom = list_all-append (λ g. not (is_test g && out g atom)) hyps (h ∷ []) ∙ ap (λ b. allows hyps atom && b) (and-true (not (is_test h && out h atom)))

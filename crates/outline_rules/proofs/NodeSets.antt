@@ -16,7 +16,7 @@ use Rattle.outline_rules.specs.declared.notes.NoteNode.{NoteNode}
 use Rattle.outline_rules.specs.declared.notes.NoteNode.TheVariants.{False, True, Branch}
 use Rattle.outline_rules.specs.NoteLists.{NotesParts, node_holds, holds_at, note_holds, AreNotes}
 use Rattle.kat_model.specs.Trees.{Term}
-use Rattle.hypothesis_kinds.specs.HypothesisForms.{allows}
+use Rattle.goal_forms.specs.HypothesisForms.{allows}
 use Rattle.outline_rules.specs.Follows.{HasTests}
 use Rattle.outline_rules.specs.Working.Sets.{HasPartsInRange, AreNodeSets, AreMomentSets}
 use Rattle.outline_rules.specs.declared.checking.MomentSets.{MomentSets}

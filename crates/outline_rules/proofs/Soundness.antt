@@ -14,11 +14,11 @@ use Rattle.goal_forms.specs.Sides.{SideTrees, failing_run}
 use Rattle.while_lang.specs.Flows.{FlowTree, empty, skip_then, abort_then, assert_then, act_then, branch_then, loop_then}
 use Rattle.while_lang.specs.Encoding.{stmt_terms, encoded}
 use Rattle.outline_rules.specs.NoteLists.{NotesParts, note_holds}
-use Rattle.hypothesis_kinds.specs.TestTerms.{IsAllowed, IsRuledOut}
+use Rattle.goal_forms.specs.TestTerms.{IsAllowed, IsRuledOut}
 use Rattle.outline_rules.specs.Tasks.{TaskParts, IsTripleOf}
 use Rattle.outline_rules.specs.Places.{last_place}
 use Rattle.outline_rules.specs.Follows.{Condition, starts, implies, leads, ends, conditions_from, conditions, IsMet, Follows}
-use Rattle.hypothesis_kinds.proofs.StepForms.{test_relates, ruled_out_relates}
+use Rattle.goal_forms.proofs.StepForms.{test_relates, ruled_out_relates}
 
 module _ (q : ProblemParts) (note : ℕ → Atom → Bool) (t : Table) (is_table : IsTable q.tests q.actions t) (keeps : Keeps t q.hyps) where
   abbrev AllMet : List Condition → Type 0

@@ -9,7 +9,7 @@ use Rattle.while_lang.specs.Flows.{FlowTree, empty, skip_then, abort_then, asser
 use Rattle.outline_rules.specs.declared.notes.NoteNode.{NoteNode}
 use Rattle.outline_rules.specs.declared.notes.NoteNode.TheVariants.{Branch}
 use Rattle.outline_rules.specs.NoteLists.{NotesParts, note_holds}
-use Rattle.hypothesis_kinds.specs.TestTerms.{IsAllowed, IsRuledOut}
+use Rattle.goal_forms.specs.TestTerms.{IsAllowed, IsRuledOut}
 use Rattle.outline_rules.specs.Tasks.{TaskParts}
 use Rattle.outline_rules.specs.Places.{last_place, places}
 

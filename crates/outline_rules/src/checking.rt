@@ -9,7 +9,7 @@ ghost use Rattle.outline_rules.specs.declared.moments.Moment.{Moment};
 ghost use Rattle.outline_rules.specs.declared.moments.Moment.TheVariants.{Before};
 ghost use Rattle.outline_rules.specs.StepFunctions.{step_value, IsStepId, IsStepDiagram, KeepsSteps, AreStepDiagrams};
 ghost use Rattle.outline_rules.specs.NoteLists.{AreNotes, node_holds, note_holds};
-ghost use Rattle.hypothesis_kinds.specs.TestTerms.{AreSimple};
+ghost use Rattle.goal_forms.specs.TestTerms.{AreSimple};
 ghost use Rattle.outline_rules.specs.Tasks.{task_parts, IsTripleOf};
 ghost use Rattle.outline_rules.specs.Places.{last_place};
 ghost use Rattle.outline_rules.specs.Follows.{starts, ends, conditions, target, IsMet, HasTests};

@@ -3,7 +3,7 @@ ghost use Rattle.std.specs.Prelude.{◌≡◌, ◌&&◌, not, All, map, IfOk};
 ghost use Rattle.kat_model.specs.Trees.{kat_tree, is_test};
 ghost use Rattle.kat_model.specs.Problems.{HasTestsBelow};
 ghost use Rattle.kat_model.specs.Steps.{out};
-ghost use Rattle.hypothesis_kinds.specs.HypothesisForms.{allows, rules_out, some_rules_out};
+ghost use Rattle.goal_forms.specs.HypothesisForms.{allows, rules_out, some_rules_out};
 ghost use Rattle.outline_rules.specs.Interleaved.{atom_at_moment};
 ghost use Rattle.outline_rules.specs.StepFunctions.{step_value, IsStepId, IsStepDiagram, KeepsSteps, AreStepDiagrams};
 

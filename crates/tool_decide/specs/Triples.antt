@@ -6,7 +6,7 @@ use Rattle.while_lang.specs.Files.{term_side, prog_side, GoalTree, equal, below,
 use Rattle.abstraction.specs.Tables.{Tables}
 use Rattle.abstraction.specs.Rounds.{tables_of}
 use Rattle.abstraction.specs.Tests.{cond_test, prog_flow}
-use Rattle.hypothesis_kinds.specs.TestTerms.{AreSimple, IsNotSimple}
+use Rattle.goal_forms.specs.TestTerms.{AreSimple, IsNotSimple}
 use Rattle.outline_rules.specs.Tasks.{TaskParts, IsTripleOf}
 use Rattle.tool_inputs.specs.FileProblem.{Asks}
 use Rattle.tool_inputs.specs.TextProblem.{HasNoProblem}

@@ -5,7 +5,7 @@ ghost use Rattle.kat_model.specs.Problems.{ProblemParts};
 ghost use Rattle.while_lang.specs.Files.{FileParts};
 ghost use Rattle.problem_file.specs.Reads.{Reads};
 ghost use Rattle.while_lang.specs.Concrete.{IsConcrete, Agrees};
-ghost use Rattle.hypothesis_kinds.specs.TestTerms.{AreSimple};
+ghost use Rattle.goal_forms.specs.TestTerms.{AreSimple};
 ghost use Rattle.outline_rules.specs.Texts.{AreNarrowNotes};
 ghost use Rattle.outline_rules.specs.Tasks.{task_parts, IsTripleOf};
 ghost use Rattle.outline_rules.specs.Follows.{HasTests};

@@ -4,7 +4,7 @@ ghost use Rattle.kat_model.specs.Problems.{ProblemParts};
 ghost use Rattle.while_lang.specs.Files.{FileParts};
 ghost use Rattle.problem_file.specs.Reads.{Reads};
 ghost use Rattle.while_lang.specs.Concrete.{IsConcrete, Agrees};
-ghost use Rattle.hypothesis_kinds.specs.TestTerms.{AreSimple};
+ghost use Rattle.goal_forms.specs.TestTerms.{AreSimple};
 ghost use Rattle.outline_rules.specs.declared.fault.NotesFault.TheVariants.{NoMemory as NoRoom};
 ghost use Rattle.outline_rules.specs.Tasks.{task_parts, IsTripleOf};
 ghost use Rattle.kat_report.specs.OutlineLines.{notes_fault_line, note_reason_line};

@@ -4,7 +4,7 @@ ghost use Rattle.std.specs.Option.{option_map};
 ghost use Rattle.while_lang.specs.Trees.{goal_tree};
 ghost use Rattle.abstraction.specs.Abstracts.{HasNumbersInRange, abstract_of};
 ghost use Rattle.abstraction.specs.ShownTables.{shown_tables};
-ghost use Rattle.hypothesis_kinds.specs.TestTerms.{AreSimple};
+ghost use Rattle.goal_forms.specs.TestTerms.{AreSimple};
 ghost use Rattle.outline_rules.specs.Tasks.{task_parts};
 ghost use Rattle.kat_report.specs.OutlineLines.{not_simple_line};
 ghost use Rattle.tool_decide.specs.Triples.{goal_task, file_task, TellsNotSimple, PosesTask, PosesNoTask};

@@ -7,7 +7,7 @@ ghost use Rattle.tool_explain.specs.Used.{marked, with_marked};
 use abstraction::Rule;
 use cert_checker::{Answer, check};
 use certificate::{Cert, Evidence, Style, TestNode};
-use hypothesis_kinds::{asks_only, is_short};
+use goal_forms::{asks_only, is_short};
 use kat_model::{Kat, NoMemory, Problem};
 use std::alloc::Global;
 

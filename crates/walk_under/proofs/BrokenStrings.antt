@@ -7,8 +7,8 @@ use Rattle.std.proofs.lemmas.List.{drop_all}
 use Rattle.kat_model.specs.Trees.{Term}
 use Rattle.kat_model.specs.Steps.{Atom, out}
 use Rattle.kat_model.specs.Strings.{Move, accepts}
-use Rattle.hypothesis_kinds.specs.Broken.{IsBrokenBy}
-use Rattle.hypothesis_kinds.proofs.FewerHypotheses.{first_breaks}
+use Rattle.goal_forms.specs.Broken.{IsBrokenBy}
+use Rattle.goal_forms.proofs.FewerHypotheses.{first_breaks}
 
 -- a move that the hypothesis does not accept, to an atom that it does not accept
 pub unbroken_on : (h : Term) (from : Atom) (m : Move) → (IsTrue (accepts h from (m ∷ [])) ⊎ IsTrue (out h m.atom) → ⊥) → (accepts h from (m ∷ []) ≡ false) × (out h m.atom ≡ false)

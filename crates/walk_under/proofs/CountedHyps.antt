@@ -10,7 +10,7 @@ use Rattle.kat_model.specs.Strings.{GuardedString}
 use Rattle.kat_model.proofs.Lists.{has_left, has_right, has_append}
 use Rattle.kat_model.proofs.Numbers.{below_next}
 use Rattle.kat_model.proofs.Places.{has_at}
-use Rattle.hypothesis_kinds.specs.Broken.{IsBrokenBy}
+use Rattle.goal_forms.specs.Broken.{IsBrokenBy}
 use Rattle.walk_under.specs.Counting.{AreCounted, AreBroken}
 use Rattle.walk_under.specs.declared.counting.ShortHyp.{ShortHyp}
 

@@ -16,8 +16,8 @@ use Rattle.term_nodes.specs.NodeLists.{NodeParts}
 use Rattle.term_nodes.specs.NodeTrees.{tree_at}
 use Rattle.term_nodes.specs.Growth.{Grows}
 use Rattle.string_tables.specs.Tables.{Refutes}
-use Rattle.hypothesis_kinds.specs.Broken.{IsBrokenBy}
-use Rattle.hypothesis_kinds.proofs.FewerHypotheses.{unbroken_allowed}
+use Rattle.goal_forms.specs.Broken.{IsBrokenBy}
+use Rattle.goal_forms.proofs.FewerHypotheses.{unbroken_allowed}
 use Rattle.certificate.specs.Decisions.{IsShortest}
 use Rattle.partial_derivs.specs.Moves.{IsTermOf}
 use Rattle.partial_derivs.specs.Tables.{AreRight}

@@ -27,8 +27,8 @@ use Rattle.certificate.specs.Certs.{CertParts}
 use Rattle.certificate.specs.Accepted.{set_pairs, ShowsSame, IsAccepted}
 use Rattle.certificate.specs.UnderTests.{AreReachedPairs, AreAllReached, IsConciseUnder}
 use Rattle.certificate.specs.Decisions.{IsShortest}
-use Rattle.hypothesis_kinds.proofs.LongProblems.{long_is_problem}
-use Rattle.hypothesis_kinds.proofs.FewerHypotheses.{fewer_accepted}
+use Rattle.goal_forms.proofs.LongProblems.{long_is_problem}
+use Rattle.goal_forms.proofs.FewerHypotheses.{fewer_accepted}
 use Rattle.walk_pairs.specs.Needed.{members_of, tests_of_pairs}
 use Rattle.walk_pairs.specs.Numbering.{ArePairsWithin, IsCertOf}
 use Rattle.walk_pairs.specs.StoredPairs.{AreStoredPairs}

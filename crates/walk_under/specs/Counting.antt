@@ -8,7 +8,7 @@ use Rattle.kat_model.specs.Degrees.{short_hyps}
 use Rattle.term_nodes.specs.NodeLists.{NodeParts}
 use Rattle.term_nodes.specs.NodeTrees.{tree_at}
 use Rattle.partial_derivs.specs.Moves.{IsTermOf}
-use Rattle.hypothesis_kinds.specs.Broken.{IsBrokenBy}
+use Rattle.goal_forms.specs.Broken.{IsBrokenBy}
 use Rattle.walk_under.specs.declared.counting.ShortHyp.{ShortHyp}
 
 abbrev pub tree_of : ShortHyp → Term

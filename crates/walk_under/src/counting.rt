@@ -9,10 +9,10 @@ ghost use Rattle.kat_model.specs.Strings.{accepts};
 ghost use Rattle.term_nodes.specs.NodeLists.{IsTerm};
 ghost use Rattle.term_nodes.specs.NodeTrees.{tree_at};
 ghost use Rattle.term_nodes.specs.Growth.{Grows};
-ghost use Rattle.hypothesis_kinds.specs.Broken.{IsBrokenBy};
+ghost use Rattle.goal_forms.specs.Broken.{IsBrokenBy};
 ghost use Rattle.walk_under.specs.Counting.{uncounted, AreShortHyps, AreCounted, AreBroken, StillCount, CountsSome};
 
-use hypothesis_kinds::{accepts_atom, accepts_move, is_short};
+use goal_forms::{accepts_atom, accepts_move, is_short};
 use kat_model::{Kat, MAX_TESTS, NoMemory, Problem, Test};
 use std::alloc::Global;
 use string_tables::{GString, Move};

@@ -25,8 +25,7 @@ use crate::counting::{
 use crate::smoothing::smoothed;
 use crate::walk::{FoundDifference, FoundString, RunEnd, TestedWorklist};
 use certificate::{Evidence, Style};
-use goal_forms::eliminate;
-use hypothesis_kinds::{is_short, long_problem};
+use goal_forms::{eliminate, is_short, long_problem};
 use kat_model::{NoMemory, Problem};
 use std::alloc::Global;
 use string_tables::{GString, refutes};

@@ -6,7 +6,7 @@ ghost use Rattle.test_diagrams.specs.Functions.{IsDiagramId};
 
 use crate::counting::{ShortHyp, mark_tests};
 use crate::walk::FoundString;
-use hypothesis_kinds::{accepts_atom, accepts_move};
+use goal_forms::{accepts_atom, accepts_move};
 use kat_model::{Items, MAX_TESTS, NoMemory, append};
 use std::alloc::Global;
 use string_tables::{GString, Move};

@@ -3,7 +3,7 @@ use Rattle.std.specs.Prelude.{◌≡◌, ℕ, false, List, [], ◌∷◌, ◌++�
 use Rattle.kat_model.specs.Trees.{TestTree, top, complement}
 use Rattle.kat_model.specs.Problems.{ProblemParts}
 use Rattle.kat_model.specs.Steps.{Atom, truth}
-use Rattle.hypothesis_kinds.specs.TestTerms.{IsAllowed, IsRuledOut}
+use Rattle.goal_forms.specs.TestTerms.{IsAllowed, IsRuledOut}
 use Rattle.while_lang.specs.Flows.{FlowTree, FlowStmt, empty, skip_then, abort_then, assert_then, act_then, branch_then, loop_then, skip, abort, assert, act, branch, loop}
 use Rattle.hoare_outlines.specs.Working.AtomSets.{AtomSet}
 

@@ -2,7 +2,7 @@
 use Rattle.std.specs.Prelude.{◌≡◌, ℕ, Bool, List, [], ◌∷◌, length, IsTrue}
 use Rattle.kat_model.specs.Problems.{ProblemParts}
 use Rattle.kat_model.specs.Steps.{Atom}
-use Rattle.hypothesis_kinds.specs.TestTerms.{IsAllowed}
+use Rattle.goal_forms.specs.TestTerms.{IsAllowed}
 use Rattle.outline_rules.specs.StepFunctions.{StepDiagramsParts, IsStepDiagram}
 
 abbrev pub AtomSet : Type 0

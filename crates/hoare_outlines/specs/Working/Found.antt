@@ -6,7 +6,7 @@ use Rattle.while_lang.specs.Flows.{FlowTree, FlowStmt}
 use Rattle.while_lang.specs.FlowViews.{flows_tree}
 use Rattle.while_lang.specs.declared.flow.Flow.{Flow}
 use Rattle.while_lang.specs.Encoding.{stmt_terms}
-use Rattle.hypothesis_kinds.specs.HypothesisForms.{allows}
+use Rattle.goal_forms.specs.HypothesisForms.{allows}
 use Rattle.hoare_outlines.specs.Working.AtomSets.{AtomSet, IsSetId, AreSetIds, IsAllowedSet}
 use Rattle.hoare_outlines.specs.Working.Annotated.{Annotated, StmtAnnotated}
 use Rattle.hoare_outlines.specs.Working.Reached.{Reached, ReachedInTurn, stmt_term}

@@ -4,7 +4,7 @@ use Rattle.kat_model.specs.Trees.{Term, zero, one, test, act}
 use Rattle.kat_model.specs.Problems.{ProblemParts, IsTestInRange}
 use Rattle.kat_model.specs.Steps.{Atom}
 use Rattle.kat_model.specs.Relations.{Frame, RelatesIn, RelateInTurn}
-use Rattle.hypothesis_kinds.specs.TestTerms.{IsAllowed, IsRuledOut}
+use Rattle.goal_forms.specs.TestTerms.{IsAllowed, IsRuledOut}
 use Rattle.while_lang.specs.Flows.{FlowTree, FlowStmt, empty, skip_then, abort_then, assert_then, act_then, branch_then, loop_then, skip, abort, assert, act as act_stmt, branch, loop}
 use Rattle.while_lang.specs.Encoding.{branch_term, loop_term, encoded}
 use Rattle.hoare_outlines.specs.Working.AtomSets.{AtomSet}

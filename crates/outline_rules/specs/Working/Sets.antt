@@ -13,7 +13,7 @@ use Rattle.outline_rules.specs.declared.notes.NoteNode.TheVariants.{False, True,
 use Rattle.outline_rules.specs.NoteLists.{NotesParts, node_holds}
 use Rattle.outline_rules.specs.Follows.{Condition, starts, implies, leads, ends, IsMet}
 use Rattle.outline_rules.specs.Reasons.{IsLeastUnmet}
-use Rattle.hypothesis_kinds.specs.HypothesisForms.{allows, some_rules_out}
+use Rattle.goal_forms.specs.HypothesisForms.{allows, some_rules_out}
 use Rattle.outline_rules.specs.Working.Checks.{guard_tree, condition_of}
 use Rattle.outline_rules.specs.declared.checks.Guard.{Guard}
 use Rattle.outline_rules.specs.declared.checks.Check.{Check}

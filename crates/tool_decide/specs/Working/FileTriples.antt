@@ -2,7 +2,7 @@
 use Rattle.std.specs.Prelude.{◌≡◌, ◌⊎◌, ℕ, List, Ok}
 use Rattle.while_lang.specs.Files.{FileParts}
 use Rattle.abstraction.specs.Abstracts.{AbstractParts, abstract_of}
-use Rattle.hypothesis_kinds.specs.TestTerms.{AreSimple}
+use Rattle.goal_forms.specs.TestTerms.{AreSimple}
 use Rattle.outline_rules.specs.Tasks.{task_parts}
 use Rattle.outline_rules.specs.declared.task.Task.{Task}
 use Rattle.tool_decide.specs.declared.triple.Triple.{Triple}

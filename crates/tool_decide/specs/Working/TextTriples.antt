@@ -17,7 +17,7 @@ use Rattle.abstraction.specs.Abstracts.{AbstractParts, abstract_of}
 use Rattle.abstraction.specs.ShownTables.{shown_tables}
 use Rattle.abstraction.proofs.DerivedHypotheses.{abstract_parts_of}
 use Rattle.abstraction.proofs.ShownRows.{shown_tables-abstract_of}
-use Rattle.hypothesis_kinds.specs.TestTerms.{IsNotSimple}
+use Rattle.goal_forms.specs.TestTerms.{IsNotSimple}
 use Rattle.outline_rules.specs.Tasks.{TaskParts, task_parts, IsTripleOf}
 use Rattle.outline_rules.specs.declared.task.Task.{Task}
 use Rattle.tool_inputs.specs.declared.reply.EarlyEnd.{EarlyEnd}

@@ -2,7 +2,7 @@ use Rattle.std.proofs.Common.{◌≡◌, ◌∙◌, ◌++◌, ◌∷◌, ℕ, Li
 use Rattle.kat_model.specs.Trees.{one, test_tree}
 use Rattle.kat_model.specs.Steps.{Atom, truth}
 use Rattle.outline_rules.proofs.StepSets.{KeepsSteps-trans, IsStepDiagram-kept}
-use Rattle.hypothesis_kinds.specs.HypothesisForms.{allows}
+use Rattle.goal_forms.specs.HypothesisForms.{allows}
 use Rattle.outline_rules.specs.Tasks.{task_parts}
 use Rattle.outline_rules.proofs.Soundness.{follows_same}
 use Rattle.outline_rules.proofs.TaskRanges.{task_in_range}

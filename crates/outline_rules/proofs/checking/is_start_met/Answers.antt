@@ -4,7 +4,7 @@ use Rattle.kat_model.specs.Steps.{Atom, truth}
 use Rattle.outline_rules.specs.declared.moments.Moment.TheVariants.{Before}
 use Rattle.outline_rules.proofs.StepSets.{IsStepId-kept, IsStepDiagram-kept, KeepsSteps-trans}
 use Rattle.outline_rules.specs.NoteLists.{note_holds}
-use Rattle.hypothesis_kinds.specs.HypothesisForms.{allows}
+use Rattle.goal_forms.specs.HypothesisForms.{allows}
 use Rattle.outline_rules.proofs.NodeSets.{sets_kept}
 use Rattle.outline_rules.proofs.Entailments.{entails_implied, implied_tests, starts_implied, told_same, then_same}
 use Rattle.outline_rules.proofs.checking.is_start_met.Goals as goal

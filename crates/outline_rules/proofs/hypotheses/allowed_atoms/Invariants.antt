@@ -2,7 +2,7 @@ use Rattle.std.proofs.Common.{◌≡◌, map, take}
 use Rattle.kat_model.specs.Trees.{kat_tree}
 use Rattle.outline_rules.specs.Interleaved.{atom_at_moment}
 use Rattle.outline_rules.specs.StepFunctions.{IsStepDiagram, KeepsSteps, AreStepDiagrams}
-use Rattle.hypothesis_kinds.specs.HypothesisForms.{allows}
+use Rattle.goal_forms.specs.HypothesisForms.{allows}
 use Rattle.outline_rules.proofs.hypotheses.allowed_atoms.Given as goal
 
 -- the set of the atoms that the hypotheses so far allow

@@ -1,7 +1,7 @@
 use Rattle.std.proofs.Common.{◌≡◌, map, take}
 use Rattle.kat_model.specs.Trees.{kat_tree}
 use Rattle.outline_rules.specs.StepFunctions.{IsStepDiagram, KeepsSteps, AreStepDiagrams}
-use Rattle.hypothesis_kinds.specs.HypothesisForms.{some_rules_out}
+use Rattle.goal_forms.specs.HypothesisForms.{some_rules_out}
 use Rattle.outline_rules.proofs.hypotheses.ruled_out_steps.Given as goal
 
 -- the steps that the hypotheses so far rule out

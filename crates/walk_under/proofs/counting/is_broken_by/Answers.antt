@@ -3,8 +3,8 @@ use Rattle.std.proofs.lemmas.Bool.{both_ways, false≢true}
 use Rattle.kat_model.specs.Trees.{Term, kat_tree}
 use Rattle.kat_model.specs.Steps.{Atom, out}
 use Rattle.kat_model.specs.Strings.{Move, GuardedString}
-use Rattle.hypothesis_kinds.specs.Broken.{IsBrokenBy}
-use Rattle.hypothesis_kinds.proofs.FewerHypotheses.{first_breaks}
+use Rattle.goal_forms.specs.Broken.{IsBrokenBy}
+use Rattle.goal_forms.proofs.FewerHypotheses.{first_breaks}
 use Rattle.walk_under.proofs.BrokenStrings.{IsRest, rest_start, broken_here, broken_after, rest_next, rest_end, unbroken_on}
 use Rattle.walk_under.proofs.counting.is_broken_by.Goals as goal
 

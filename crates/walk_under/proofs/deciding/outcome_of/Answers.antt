@@ -1,6 +1,6 @@
 use Rattle.std.proofs.Common.{◌∙◌}
 use Rattle.kat_model.specs.Degrees.{long_hyps, with_hyps}
-use Rattle.hypothesis_kinds.proofs.LongProblems.{long_is_problem}
+use Rattle.goal_forms.proofs.LongProblems.{long_is_problem}
 use Rattle.term_nodes.proofs.Growing.{Grows-itself, Grows-trans}
 use Rattle.walk_under.proofs.UnderDecisions.{closed_known}
 use Rattle.walk_under.proofs.deciding.outcome_of.Goals as goal

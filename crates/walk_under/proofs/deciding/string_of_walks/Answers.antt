@@ -1,6 +1,6 @@
 use Rattle.std.proofs.Common.{List, length, sym, ap, ◌∙◌, subst}
 use Rattle.kat_model.specs.Degrees.{long_hyps, with_hyps}
-use Rattle.hypothesis_kinds.proofs.LongProblems.{long_is_problem}
+use Rattle.goal_forms.proofs.LongProblems.{long_is_problem}
 use Rattle.term_nodes.proofs.Growing.{Grows-trans}
 use Rattle.walk_under.specs.Counting.{AreShortHyps}
 use Rattle.walk_under.specs.declared.counting.ShortHyp.{ShortHyp}

@@ -12,9 +12,9 @@ use Rattle.kat_model.specs.declared.tree.Kat.{Kat}
 use Rattle.kat_model.specs.declared.tree.Kat.TheVariants.{Zero}
 use Rattle.kat_model.proofs.Lists.{has_map}
 use Rattle.kat_model.proofs.Places.{place_of_member}
-use Rattle.hypothesis_kinds.specs.TestTerms.{IsSimple, AreSimple, IsNotSimple}
-use Rattle.hypothesis_kinds.specs.HypothesisForms.{is_simple}
-use Rattle.hypothesis_kinds.proofs.SimpleForms.{simple_is, is_simple_of}
+use Rattle.goal_forms.specs.TestTerms.{IsSimple, AreSimple, IsNotSimple}
+use Rattle.goal_forms.specs.HypothesisForms.{is_simple}
+use Rattle.goal_forms.proofs.SimpleForms.{simple_is, is_simple_of}
 
 abbrev fails : Kat → Bool
 fails h = not (is_simple (kat_tree h))

@@ -2,7 +2,7 @@ use Rattle.std.proofs.Common.{◌≡◌, map, drop, ◌++◌}
 use Rattle.std.specs.List.{filter}
 use Rattle.kat_model.specs.Trees.{kat_tree}
 use Rattle.kat_model.specs.Degrees.{is_long}
-use Rattle.hypothesis_kinds.proofs.hyps.long_problem.Given as goal
+use Rattle.goal_forms.proofs.hyps.long_problem.Given as goal
 
 -- the long hypotheses so far, and those among the rest
 abbrev pub invariant-loop-hyp : goal.invariant-loop-hyp

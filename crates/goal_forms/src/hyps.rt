@@ -3,7 +3,7 @@ ghost use Rattle.std.specs.Prelude.{◌≡◌, IfOk};
 ghost use Rattle.std.specs.List.{list_any};
 ghost use Rattle.kat_model.specs.Trees.{kat_tree};
 ghost use Rattle.kat_model.specs.Degrees.{degree as degree', is_short as is_short', long_hyps, with_hyps};
-ghost use Rattle.hypothesis_kinds.specs.Capped.{capped};
+ghost use Rattle.goal_forms.specs.Capped.{capped};
 
 use kat_model::{Kat, NoMemory, Problem};
 use std::alloc::Global;

@@ -3,8 +3,8 @@ use Rattle.kat_model.specs.declared.tree.Kat.{Kat}
 use Rattle.kat_model.specs.Trees.{kat_tree, product, star}
 use Rattle.kat_model.specs.Steps.{out}
 use Rattle.kat_model.specs.Strings.{Move, accepts}
-use Rattle.hypothesis_kinds.proofs.OneMove.{accepts_move-product, accepts_move-star}
-use Rattle.hypothesis_kinds.proofs.single.+accepts_move.Goals as goal
+use Rattle.goal_forms.proofs.OneMove.{accepts_move-product, accepts_move-star}
+use Rattle.goal_forms.proofs.single.+accepts_move.Goals as goal
 
 pub returns-in-Seq : goal.returns-in-Seq
 returns-in-Seq t c =

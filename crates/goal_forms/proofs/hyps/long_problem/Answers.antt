@@ -4,8 +4,8 @@ use Rattle.std.proofs.lemmas.List.{at_drop_all}
 use Rattle.kat_model.specs.Trees.{kat_tree}
 use Rattle.kat_model.specs.Degrees.{is_long, long_hyps, with_hyps}
 use Rattle.kat_model.specs.Problems.{problem_parts, problem_fault}
-use Rattle.hypothesis_kinds.proofs.LongProblems.{long_has_no_fault}
-use Rattle.hypothesis_kinds.proofs.hyps.long_problem.Goals as goal
+use Rattle.goal_forms.proofs.LongProblems.{long_has_no_fault}
+use Rattle.goal_forms.proofs.hyps.long_problem.Goals as goal
 
 pub unreachable-requires : goal.unreachable-requires
 unreachable-requires c =

@@ -2,7 +2,7 @@ use Rattle.std.proofs.Common.{◌≡◌, map, drop}
 use Rattle.std.specs.List.{list_any}
 use Rattle.kat_model.specs.Trees.{kat_tree}
 use Rattle.kat_model.specs.Degrees.{is_short}
-use Rattle.hypothesis_kinds.proofs.hyps.has_short.Given as goal
+use Rattle.goal_forms.proofs.hyps.has_short.Given as goal
 
 -- no hypothesis so far is short
 abbrev pub invariant-loop-hyp : goal.invariant-loop-hyp

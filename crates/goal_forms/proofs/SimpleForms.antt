@@ -6,8 +6,8 @@ use Rattle.std.proofs.lemmas.List.Folds.{list_all-append}
 use Rattle.kat_model.specs.Trees.{Term, zero, one, test, act, sum, product, star, is_test}
 use Rattle.kat_model.specs.Steps.{Atom, out}
 use Rattle.kat_model.proofs.Lists.{has_any, any_has}
-use Rattle.hypothesis_kinds.specs.TestTerms.{are_tests, all_true, factors, StepForm, HasStepForm, IsSimple, AreSimple, IsAllowed, RulesOut, IsRuledOut}
-use Rattle.hypothesis_kinds.specs.HypothesisForms.{is_step, is_simple, allows, rules_out, some_rules_out}
+use Rattle.goal_forms.specs.TestTerms.{are_tests, all_true, factors, StepForm, HasStepForm, IsSimple, AreSimple, IsAllowed, RulesOut, IsRuledOut}
+use Rattle.goal_forms.specs.HypothesisForms.{is_step, is_simple, allows, rules_out, some_rules_out}
 
 -- ---- factors
 

@@ -1,8 +1,8 @@
 //! Simple hypotheses, each a test or one action between tests.
 ghost use Rattle.std.specs.Prelude.{◌≡◌, not, position, IfSome, IfNone};
 ghost use Rattle.kat_model.specs.Trees.{kat_tree};
-ghost use Rattle.hypothesis_kinds.specs.TestTerms.{AreSimple, IsNotSimple};
-ghost use Rattle.hypothesis_kinds.specs.HypothesisForms.{is_step, is_simple};
+ghost use Rattle.goal_forms.specs.TestTerms.{AreSimple, IsNotSimple};
+ghost use Rattle.goal_forms.specs.HypothesisForms.{is_step, is_simple};
 
 use kat_model::{Kat, Problem};
 

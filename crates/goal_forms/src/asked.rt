@@ -1,7 +1,7 @@
 //! Whether a term depends only on some of the tests.
 ghost use Rattle.std.specs.Prelude.{◌≡◌};
 ghost use Rattle.kat_model.specs.Trees.{test_tree, kat_tree};
-ghost use Rattle.hypothesis_kinds.specs.Asked.{names_only, asks_only};
+ghost use Rattle.goal_forms.specs.Asked.{names_only, asks_only};
 
 use kat_model::{Kat, Test};
 

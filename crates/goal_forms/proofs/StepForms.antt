@@ -6,7 +6,7 @@ use Rattle.kat_model.specs.Trees.{Term, zero, one, test, act, sum, product, star
 use Rattle.kat_model.specs.Steps.{out}
 use Rattle.kat_model.specs.Relations.{Frame, RelatesIn, RelateInTurn}
 use Rattle.kat_model.proofs.ProductRelations.{in_turn_parts, in_turn_append}
-use Rattle.hypothesis_kinds.specs.TestTerms.{are_tests, all_true, factors, StepForm, HasStepForm, RulesOut}
+use Rattle.goal_forms.specs.TestTerms.{are_tests, all_true, factors, StepForm, HasStepForm, RulesOut}
 
 module _ {S : Type 0} (frame : Frame S) where
   -- a test relates each state at which it is true to itself

@@ -11,7 +11,7 @@ use Rattle.kat_model.specs.Strings.{Move, set_accepts}
 use Rattle.kat_model.specs.AllowedMoves.{IsAllowedAtom, IsAllowedMove, AreAllowed}
 use Rattle.kat_model.specs.TestedPairs.{TestedPair, AreAcceptedUnder}
 use Rattle.kat_model.proofs.Acceptance.{has_set_accepts, set_accepts_has}
-use Rattle.hypothesis_kinds.specs.Broken.{IsBrokenBy}
+use Rattle.goal_forms.specs.Broken.{IsBrokenBy}
 
 module _ (some all : List Term) (within : IsSubset some all) where
   refused : (atom : Atom) (ms : List Move) → set_accepts all atom ms ≡ false → set_accepts some atom ms ≡ false

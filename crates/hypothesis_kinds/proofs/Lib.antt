@@ -1,6 +1,0 @@
-pub mod LongProblems
-pub mod SimpleForms
-pub mod LeastHypotheses
-pub mod StepForms
-pub mod FewerHypotheses
-pub mod OneMove

@@ -1,5 +1,0 @@
-pub mod Capped
-pub mod TestTerms
-pub mod HypothesisForms
-pub mod Broken
-pub mod Asked
