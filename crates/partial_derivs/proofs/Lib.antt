@@ -1,3 +1,4 @@
+pub mod Found
 pub mod Items
 pub mod Entries
 pub mod Kept

@@ -1,3 +1,4 @@
+pub mod StoreLaws
 pub mod Moves
 pub mod Tables
 pub mod Laws

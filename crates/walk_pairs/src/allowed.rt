@@ -12,9 +12,8 @@ use crate::asking::bars_of;
 use crate::bars::Bars;
 use crate::outputs::true_atom;
 use kat_model::{NoMemory, append};
-use partial_derivs::Derivatives;
+use partial_derivs::{Derivatives, Store, TermId};
 use std::alloc::Global;
-use term_store::{Store, TermId};
 use test_diagrams::{DiagramId, Diagrams};
 
 /// The diagram of the allowed atoms, and for each action the bars that block moves.

@@ -12,9 +12,8 @@ ghost use Rattle.walk_pairs.specs.Working.Asking.{IsUnaskedTest, Asks, AreFreshT
 
 use crate::bars::{Bar, Bars, depends_on};
 use kat_model::{NoMemory, append};
-use partial_derivs::{Derivatives, Guarded};
+use partial_derivs::{Derivatives, Guarded, Store, TermId};
 use std::alloc::Global;
-use term_store::{Store, TermId};
 use test_diagrams::{DiagramId, Diagrams};
 
 // Returns whether the diagram `id` is the first to depend on `test`. If it is, sets the flag of `test` in `asked`.

@@ -12,8 +12,8 @@ use crate::entry_list::EntryList;
 use crate::outputs::and_not;
 use crate::reaching::{mark_all, reached_at, saturate};
 use kat_model::{NoMemory, append};
+use partial_derivs::TermId;
 use std::alloc::Global;
-use term_store::TermId;
 use test_diagrams::{DiagramId, Diagrams};
 
 /// The pairs that a walk has listed, the id of the universal term if the store has it, and the number of ids in the

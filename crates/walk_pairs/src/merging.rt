@@ -13,8 +13,8 @@ use crate::listing::{alike_entries, has_sets};
 use crate::pair::StoredPair;
 use crate::test_table::TestTable;
 use kat_model::{Items, NoMemory, append};
+use partial_derivs::{Store, TermId, TestId};
 use std::alloc::Global;
-use term_store::{Store, TermId, TestId};
 use test_diagrams::{DiagramId, Diagrams};
 
 // Returns the atoms of the diagram `id`, together with those of `entry` if it has these sets.

@@ -14,8 +14,8 @@ ghost use Rattle.walk_pairs.specs.Parts.{with_if, IsRegionWhere, IsPart, ArePart
 use crate::items::Item;
 use crate::outputs::{and_not, difference};
 use kat_model::{NoMemory, append};
+use partial_derivs::TermId;
 use std::alloc::Global;
-use term_store::TermId;
 use test_diagrams::{DiagramId, Diagrams};
 
 /// Some atoms, and the terms to which an action leads from each of them, on the left and on the right. The terms are in

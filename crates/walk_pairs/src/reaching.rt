@@ -8,7 +8,7 @@ ghost use Rattle.walk_pairs.specs.Reaching.{Brings, AreMarks, IsPartOf, IsReache
 
 use crate::entry::Entry;
 use kat_model::NoMemory;
-use term_store::TermId;
+use partial_derivs::TermId;
 use test_diagrams::{DiagramId, Diagrams};
 
 // Adds the atoms of `test` to the mark of `term`, if it has a mark. Returns whether the mark grew.

@@ -19,11 +19,10 @@ ghost use Rattle.walk_under.specs.Working.Walking.{WalkContext, walk_context, fi
 ghost use Rattle.walk_under.specs.declared.walk.RunEnd.TheVariants.{Full};
 
 use kat_model::{Items, NoMemory, append};
-use partial_derivs::Derivatives;
+use partial_derivs::{Derivatives, Store, TermId};
 use std::alloc::Global;
 use std::mem;
 use string_tables::{GString, Move};
-use term_store::{Store, TermId};
 use test_diagrams::{DiagramId, Diagrams};
 use walk_pairs::{
     AllowedMoves, BothSteps, ClosedIds, Entry, EntryList, Item, Listing, Part, StepOrigin,

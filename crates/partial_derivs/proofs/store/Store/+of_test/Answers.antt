@@ -2,8 +2,8 @@ use Rattle.std.proofs.Common.{◌∙◌}
 use Rattle.std.proofs.lemmas.Bool.{false≢true}
 use Rattle.term_nodes.proofs.Growing.{Grows-trans}
 use Rattle.term_nodes.proofs.TreeParts.{test_has_parts}
-use Rattle.term_store.proofs.Found.{test_found, tests_found}
-use Rattle.term_store.proofs.store.Store.+of_test.Goals as goal
+use Rattle.partial_derivs.proofs.Found.{test_found, tests_found}
+use Rattle.partial_derivs.proofs.store.Store.+of_test.Goals as goal
 
 pub of_test-returns-in_err-shape-clause-found : goal.of_test-returns-in_err-shape-clause-found
 of_test-returns-in_err-shape-clause-found t c =

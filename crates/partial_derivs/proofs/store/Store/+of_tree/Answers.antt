@@ -2,8 +2,8 @@ use Rattle.std.proofs.Common.{◌∙◌}
 use Rattle.std.proofs.lemmas.Bool.{false≢true}
 use Rattle.term_nodes.proofs.Growing.{Grows-trans}
 use Rattle.term_nodes.proofs.TreeParts.{has_parts}
-use Rattle.term_store.proofs.Found.{found, trees_found}
-use Rattle.term_store.proofs.store.Store.+of_tree.Goals as goal
+use Rattle.partial_derivs.proofs.Found.{found, trees_found}
+use Rattle.partial_derivs.proofs.store.Store.+of_tree.Goals as goal
 
 pub of_tree-returns-in_err-shape-clause-found : goal.of_tree-returns-in_err-shape-clause-found
 of_tree-returns-in_err-shape-clause-found t c =
