@@ -18,8 +18,8 @@ use Rattle.flow_tables.specs.GraphRows.{row_edges}
 use Rattle.flow_tables.specs.declared.fault.TableFault.{TableFault}
 use Rattle.flow_tables.specs.declared.fault.TableFault.TheVariants as table
 use Rattle.flow_tables.proofs.GraphRows.{all_edges_are}
-use Rattle.flow_splits.specs.declared.fault.SplitFault.{SplitFault}
-use Rattle.flow_splits.specs.declared.fault.SplitFault.TheVariants as split
+use Rattle.flow_tables.specs.declared.split_fault.SplitFault.{SplitFault}
+use Rattle.flow_tables.specs.declared.split_fault.SplitFault.TheVariants as split
 use Rattle.flow_questions.specs.declared.fault.FlowFault.{FlowFault}
 use Rattle.flow_questions.specs.declared.fault.FlowFault.TheVariants.{NoMemory, UncutLoop, TooManyPaths, TooLarge, TooManyTests, TooManyActions, ProblemTooLarge}
 use Rattle.flow_questions.specs.declared.placed.PlacedEdges.{PlacedEdges}

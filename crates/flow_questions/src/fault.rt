@@ -5,8 +5,7 @@ ghost use Rattle.flow_questions.specs.Working.Placed.{of_place_fault, of_way_fau
 
 use crate::hypothesis_fault::HypothesisFault;
 use flow_problem::{PlaceFault, TermFault};
-use flow_splits::SplitFault;
-use flow_tables::TableFault;
+use flow_tables::{SplitFault, TableFault};
 use flow_ways::WayFault;
 use kat_model::NoMemory;
 

@@ -8,8 +8,7 @@ ghost use Rattle.flow_questions.specs.Working.Splits.{AreShort, HasLongRow};
 use crate::placed::push_row;
 use flow_forms::FlowComparison;
 use flow_model::Sort;
-use flow_splits::{SplitFault, split_edges};
-use flow_tables::FlowEdge;
+use flow_tables::{FlowEdge, SplitFault, split_edges};
 use std::alloc::Global;
 
 /// Splits the edges from each place by tests.

@@ -1,3 +1,8 @@
+pub mod CellForms
+pub mod Numbered
+pub mod KnownFacts
+pub mod SplitLists
+pub mod SplitCounts
 pub mod EdgesOfTables
 mod SameActions
 mod TableRows

@@ -1,3 +1,5 @@
+pub mod CellTests
+pub mod Numbers
 pub mod EdgeViews
 pub mod EdgeTables
 pub mod GraphRows

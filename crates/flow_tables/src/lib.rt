@@ -1,16 +1,24 @@
 //! Flow graphs over their places: each way from a place is an edge, with its tests, the action that ends it, and the place
-//! that it leads to. The tests and actions of the edges have tables, and the graphs have terms over them.
+//! that it leads to. The tests and actions of the edges have tables, and the graphs have terms over them. Edges are split
+//! by the tests that say that a cell is a number.
 #![tactic(auto)]
 
 mod action;
 mod actions;
+mod cell;
+mod cell_test;
 mod comparisons;
 mod edge;
 mod edge_table;
 mod edges;
 mod fault;
 mod graph;
+mod known;
+mod number;
+mod number_action;
 mod rows;
+mod split_fault;
+mod splits;
 mod term;
 
 pub use action::FlowAction;
@@ -20,4 +28,6 @@ pub use edge::FlowEdge;
 pub use edges::edges_from;
 pub use fault::TableFault;
 pub use graph::graph_term;
+pub use split_fault::SplitFault;
+pub use splits::split_edges;
 pub use term::edge_term;

@@ -19,8 +19,8 @@ use Rattle.flow_tables.specs.EdgeTables.{table_marks}
 use Rattle.flow_tables.specs.GraphRows.{row_edges}
 use Rattle.flow_tables.specs.declared.fault.TableFault.{TableFault}
 use Rattle.flow_tables.specs.declared.fault.TableFault.TheVariants as table
-use Rattle.flow_splits.specs.declared.fault.SplitFault.{SplitFault}
-use Rattle.flow_splits.specs.declared.fault.SplitFault.TheVariants as split
+use Rattle.flow_tables.specs.declared.split_fault.SplitFault.{SplitFault}
+use Rattle.flow_tables.specs.declared.split_fault.SplitFault.TheVariants as split
 use Rattle.flow_problem.specs.declared.term_fault.TermFault.{TermFault}
 use Rattle.flow_problem.specs.declared.term_fault.TermFault.TheVariants as term
 use Rattle.flow_questions.specs.declared.hypothesis_fault.HypothesisFault.{HypothesisFault}

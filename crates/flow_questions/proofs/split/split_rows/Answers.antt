@@ -2,7 +2,7 @@ use Rattle.std.proofs.Common.{◌≡◌, ◌∷◌, ◌++◌, List, map, sym, �
 use Rattle.flow_forms.specs.Comparisons.{comparison_tree}
 use Rattle.flow_problem.specs.Edges.{Edge}
 use Rattle.flow_problem.specs.Splits.{cell_tests, split_edges}
-use Rattle.flow_splits.specs.declared.fault.SplitFault.TheVariants.{TooManyPaths}
+use Rattle.flow_tables.specs.declared.split_fault.SplitFault.TheVariants.{TooManyPaths}
 use Rattle.flow_tables.specs.GraphRows.{row_edges}
 use Rattle.flow_questions.specs.Working.Splits.{HasLongRow}
 use Rattle.flow_questions.proofs.Refusals.{refused_as}

@@ -1,5 +1,0 @@
-pub mod CellForms
-pub mod Numbered
-pub mod KnownFacts
-pub mod SplitLists
-pub mod SplitCounts

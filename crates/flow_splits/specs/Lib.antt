@@ -1,2 +1,0 @@
-pub mod CellTests
-pub mod Numbers
