@@ -1,3 +1,4 @@
+pub mod ArcTests
 pub mod CappedHypotheses
 pub mod ArcFacts
 pub mod FactsByList

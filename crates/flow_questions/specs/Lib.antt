@@ -1,3 +1,4 @@
+pub mod ArcViews
 pub mod CappedLists
 pub mod HypothesisViews
 pub mod Completions

@@ -6,8 +6,8 @@ ghost use Rattle.flow_forms.specs.Comparisons.{comparison_tree};
 ghost use Rattle.flow_problem.specs.FlowFacts.{varying_part as varying_part_of, constant_part as constant_part_of, interval_of_sum as interval_of_form, interval_below as interval_of_bound, interval_of as interval_of_test, is_same_interval_form as has_same_form};
 ghost use Rattle.flow_questions.specs.IntervalViews.{interval_tree};
 
+use crate::arcs::{Arc, modulus};
 use crate::sameness::{is_one_form, is_same_width};
-use flow_arcs::{Arc, modulus};
 use flow_forms::{FlowComparison, FlowForm, canonical};
 use kat_model::{NoMemory, Width};
 use std::alloc::Global;

@@ -5,14 +5,14 @@ ghost use Rattle.kat_model.specs.Stores.{modulus};
 ghost use Rattle.flow_problem.specs.FlowFacts.{two_arc_fact, two_arc_facts, three_arc_fact, three_arc_facts, is_same_interval_form as has_same_form};
 ghost use Rattle.flow_questions.specs.CappedLists.{capped};
 ghost use Rattle.flow_questions.specs.HypothesisViews.{flow_hypothesis};
-ghost use Rattle.flow_arcs.specs.ArcViews.{arc_of};
+ghost use Rattle.flow_questions.specs.ArcViews.{arc_of};
 ghost use Rattle.flow_questions.specs.IntervalViews.{interval_tree};
 ghost use Rattle.flow_questions.specs.FactLists.{signed_arc_facts, third_interval, interval_facts_of, interval_facts_with, interval_facts};
 
+use crate::arcs::{Arc, is_least, literal_span, two_have_common};
 use crate::hypothesis::{FlowHypothesis, FlowRule, push_hypothesis};
 use crate::interval::{Interval, is_same_interval_form};
 use crate::terms::{both, literal_test, none_of_three};
-use flow_arcs::{Arc, is_least, literal_span, two_have_common};
 use kat_model::{MAX_HYPS, NoMemory, Width};
 use std::alloc::Global;
 

@@ -1,8 +1,10 @@
 //! The problem of a question of two flow graphs, with its hypotheses: what assignments say of tests, and facts between
-//! tests. In a round, what parallel assignments make of tests gives further tests.
+//! tests. In a round, what parallel assignments make of tests gives further tests. Facts between tests of intervals
+//! compare arcs of the numbers modulo 2 to a width.
 #![tactic(auto)]
 
 mod after;
+mod arcs;
 mod assigned_forms;
 mod assignment;
 mod completion;

@@ -5,7 +5,7 @@ use Rattle.kat_model.specs.Stores.{modulus}
 use Rattle.kat_model.specs.declared.limits.TheConstants.{MAX_HYPS}
 use Rattle.flow_problem.specs.FlowFacts.{FlowHypothesis, three_arc_fact}
 use Rattle.flow_questions.specs.HypothesisViews.{flow_hypothesis}
-use Rattle.flow_arcs.specs.ArcViews.{arc_of}
+use Rattle.flow_questions.specs.ArcViews.{arc_of}
 use Rattle.flow_questions.proofs.CappedHypotheses.{capped_four}
 use Rattle.flow_questions.proofs.interval_facts.add_signed_arc_facts.Goals as goal
 

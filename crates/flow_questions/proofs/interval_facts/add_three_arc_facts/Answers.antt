@@ -4,7 +4,7 @@ use Rattle.std.proofs.lemmas.Result.{on_ok_weaker}
 use Rattle.kat_model.specs.Stores.{modulus}
 use Rattle.kat_model.specs.declared.limits.TheConstants.{MAX_HYPS}
 use Rattle.flow_questions.specs.HypothesisViews.{flow_hypothesis}
-use Rattle.flow_arcs.specs.ArcViews.{arc_of}
+use Rattle.flow_questions.specs.ArcViews.{arc_of}
 use Rattle.flow_questions.proofs.FactsByList.{three_signs}
 use Rattle.flow_questions.proofs.interval_facts.add_three_arc_facts.Goals as goal
 

@@ -2,26 +2,26 @@
 ghost use Rattle.std.specs.Prelude.{◌≡◌, ◌≤◌, ◌<◌, ◌^◌, ◌&&◌, [], ◌∷◌};
 ghost use Rattle.kat_model.specs.Stores.{modulus as modulus_of};
 ghost use Rattle.flow_problem.specs.FlowFacts.{lies_in as is_in_arc, other_arc as arc_outside, literal_arc, have_common as have_common_number, is_least as are_least};
-ghost use Rattle.flow_arcs.specs.ArcViews.{arc_of, span_of};
+ghost use Rattle.flow_questions.specs.ArcViews.{arc_of, span_of};
 
 use kat_model::Width;
 
 /// `size` successive numbers of a width, from `start` on; after the greatest number comes 0.
 #[derive(Clone, Copy)]
-pub struct Arc {
+pub(crate) struct Arc {
     pub start: u64,
     pub size: u64,
 }
 
 /// An arc, or the numbers outside one: their size can be 2^64.
 #[derive(Clone, Copy)]
-pub struct Span {
+pub(crate) struct Span {
     pub start: u64,
     pub size: u128,
 }
 
 /// Returns the number of values of a width.
-pub fn modulus(width: Width) -> u128
+pub(crate) fn modulus(width: Width) -> u128
     ensures value { result ≡ modulus_of width }
     ensures some { 0 < result }
     ensures most { result ≤ 2 ^ 64 }
@@ -47,7 +47,7 @@ fn outside(width: Width, arc: Arc) -> Span
 }
 
 /// Returns the arc, or the numbers outside it.
-pub fn literal_span(width: Width, arc: Arc, holds: bool) -> Span
+pub(crate) fn literal_span(width: Width, arc: Arc, holds: bool) -> Span
     ensures { span_of result ≡ literal_arc (modulus_of width) (arc_of arc) holds }
 {
     if !holds {
@@ -81,7 +81,7 @@ fn lies_in_three(width: Width, a: &Span, b: &Span, c: &Span, number: u64) -> boo
 
 /// Whether two arcs have a number in common. If so, it can be the start of one of them.
 #[tactic(auto, using(crate::proofs::ArcTests::two_common))]
-pub fn two_have_common(width: Width, a: &Span, b: &Span) -> bool
+pub(crate) fn two_have_common(width: Width, a: &Span, b: &Span) -> bool
     ensures { result ≡ have_common_number (modulus_of width) (span_of a.now ∷ span_of b.now ∷ []) }
 {
     lies_in_two(width, a, b, a.start) || lies_in_two(width, a, b, b.start)
@@ -97,7 +97,7 @@ fn three_have_common(width: Width, a: &Span, b: &Span, c: &Span) -> bool
 }
 
 /// Whether three arcs have no number in common, while each two of them have one.
-pub fn is_least(width: Width, a: &Span, b: &Span, c: &Span) -> bool
+pub(crate) fn is_least(width: Width, a: &Span, b: &Span, c: &Span) -> bool
     ensures { result ≡ are_least (modulus_of width) (span_of a.now) (span_of b.now) (span_of c.now) }
 {
     two_have_common(width, a, b)

@@ -1,7 +1,7 @@
 -- The arcs of the program.
 use Rattle.flow_problem.specs.FlowFacts.{Arc}
-use Rattle.flow_arcs.specs.declared.arcs.Arc.{Arc as AnArc}
-use Rattle.flow_arcs.specs.declared.arcs.Span.{Span}
+use Rattle.flow_questions.specs.declared.arcs.Arc.{Arc as AnArc}
+use Rattle.flow_questions.specs.declared.arcs.Span.{Span}
 
 abbrev pub arc_of : AnArc → Arc
 arc_of a = record { start = a.start; size = a.size }
