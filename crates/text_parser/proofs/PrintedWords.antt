@@ -2,12 +2,12 @@
 use Rattle.std.proofs.Common.{◌≡◌, ◌<◌, ◌^◌, ◌+◌, ◌%◌, ℕ, List, [], ◌∷◌, ◌++◌, Bool, true, false, ◌&&◌, ◌||◌, ◌==◌, refl, sym, ◌∙◌, subst, arith}
 use Rattle.std.proofs.lemmas.Bool.{and_parts}
 use Rattle.std.proofs.lemmas.Bool.Decides.{nat_tests}
-use Rattle.std.proofs.lemmas.List.Folds.{list_all-append, list_any-append}
+use Rattle.std.proofs.lemmas.List.Folds.{list_all-append}
 use Rattle.std.proofs.lemmas.Fmt.{decimal_by_steps}
 use Rattle.std.proofs.lemmas.Str.{chars-IsAscii, IsUtf8-from_ascii}
 use Rattle.std.proofs.lemmas.Str.Ascii.{IsAscii-cons, IsAscii-nil}
 use Rattle.std.specs.Cmp.Derive.{both_true}
-use Rattle.std.specs.Prelude.{bytes_eq, decimal}
+use Rattle.std.specs.Prelude.{decimal}
 use Rattle.std.specs.List.{list_all}
 use Rattle.std.specs.Char.{is_ascii_digit, is_ascii_alphabetic, is_ascii_alphanumeric}
 use Rattle.std.specs.Str.{IsAscii}
@@ -16,7 +16,6 @@ use Rattle.unicode_ident.proofs.IdentLemmas.{is_xid_start-ascii, is_xid_continue
 use Rattle.text_parser.specs.declared.token.Kind.TheVariants.{Name, Number}
 use Rattle.text_parser.specs.Kinds.{is_name, begins_name, IsToken}
 use Rattle.text_parser.specs.Keywords.{keywords, is_keyword}
-use Rattle.text_parser.specs.Working.KeywordParts.{item_words, program_words, is_item_word, is_program_word}
 use Rattle.text_parser.proofs.Beginnings.{passes_all, name_from_parts}
 
 -- ---- ASCII names
@@ -58,10 +57,6 @@ word_is_name (b ∷ bs) e =
     let ascii : IsAscii (b ∷ bs) = IsAscii-cons b bs (begins_small b parts.0) (continue_ascii bs parts.1) in
     let named : is_name (b ∷ bs) ≡ true = both_true (begins_name_word b parts.0) (continue_names bs parts.1) in
     name_from_parts (b ∷ bs) (IsUtf8-from_ascii (b ∷ bs) ascii) (subst (λ cs. is_name cs ≡ true) (sym (chars-IsAscii (b ∷ bs) ascii)) named)
-
--- a text is a keyword of items or of programs
-pub keyword_parts : (bytes : List ℕ) → is_keyword bytes ≡ (is_item_word bytes || is_program_word bytes)
-keyword_parts bytes = list_any-append (bytes_eq bytes) item_words program_words
 
 pub keyword_is_name : (bytes : List ℕ) → is_keyword bytes ≡ true → IsToken Name bytes
 keyword_is_name bytes keyword = word_is_name bytes (passes_all is_word bytes keywords keyword refl)

@@ -1,8 +1,15 @@
--- The keywords by their length: a text is no word of another length.
-use Rattle.std.proofs.Common.{◌≡◌, ◌≢◌, ℕ, List, length, Bool, true, false, refl, ap, ◌∙◌, arith}
+-- The keywords by their length: a text is no word of another length. A text is a keyword if its terminal is not `Name`.
+use Rattle.std.proofs.Common.{◌≡◌, ◌≢◌, ℕ, List, [], ◌∷◌, length, Bool, true, false, not, ◌||◌, cond, refl, sym, ap, ◌∙◌, arith}
 use Rattle.std.specs.Prelude.{codes}
 use Rattle.std.specs.Str.{bytes_eq}
+use Rattle.std.specs.List.{list_any}
+use Rattle.std.proofs.lemmas.List.Folds.{list_any-append}
 use Rattle.std.proofs.lemmas.Slice.Eq.{bytes_eq-Decides}
+use Rattle.text_parser.specs.declared.terminal.Keyword.TheVariants as word
+use Rattle.text_parser.specs.declared.terminal.Terminal.{Terminal}
+use Rattle.text_parser.specs.declared.terminal.Terminal.TheVariants.{True, False, Name, Keyword}
+use Rattle.text_parser.specs.Keywords.{is_keyword}
+use Rattle.text_parser.specs.Lexemes.{is_terminal}
 use Rattle.text_parser.specs.Terminals.{keyword_terminal}
 use Rattle.text_parser.specs.Working.Words.{word_of_four, word_of_five, word_of_six, other_word}
 
@@ -104,3 +111,59 @@ other_word_is text not_four not_five not_six =
       unlike 4 text (codes "else") not_four refl,
       unlike 5 text (codes "while") not_five refl,
     ) refl
+
+-- ---- keywords by their terminals
+
+-- `b` decides whether the terminal is not `Name`
+record DecidesWord (s : Terminal) (b : Bool) : Type 0 where
+  is : not (is_terminal Name s) ≡ b
+
+-- a choice whose first terminal is not `Name`
+choice : (b : Bool) (s rest : Terminal) (words : Bool) → is_terminal Name s ≡ false → DecidesWord rest words → DecidesWord (cond b s rest) (b || words)
+choice true s rest words other h = record { is = ap not other }
+choice false s rest words other h = record { is = h.is }
+
+-- the keywords whose terminal is a `Keyword`
+abbrev plain_words : List (List ℕ)
+plain_words =
+    codes "test" ∷ codes "action" ∷ codes "var" ∷ codes "prog" ∷ codes "term" ∷ codes "hyp" ∷ codes "rounds"
+    ∷ codes "width" ∷ codes "goal" ∷ codes "equal" ∷ codes "below" ∷ codes "triple" ∷ codes "skip" ∷ codes "abort"
+    ∷ codes "assert" ∷ codes "if" ∷ codes "else" ∷ codes "while" ∷ []
+
+decided : (text : List ℕ) → DecidesWord (keyword_terminal text) (bytes_eq text (codes "true") || (bytes_eq text (codes "false") || list_any (bytes_eq text) plain_words))
+decided text =
+    choice (bytes_eq text (codes "true")) True _ _ refl (
+    choice (bytes_eq text (codes "false")) False _ _ refl (
+    choice (bytes_eq text (codes "test")) (Keyword word.Test) _ _ refl (
+    choice (bytes_eq text (codes "action")) (Keyword word.Action) _ _ refl (
+    choice (bytes_eq text (codes "var")) (Keyword word.Var) _ _ refl (
+    choice (bytes_eq text (codes "prog")) (Keyword word.Prog) _ _ refl (
+    choice (bytes_eq text (codes "term")) (Keyword word.Term) _ _ refl (
+    choice (bytes_eq text (codes "hyp")) (Keyword word.Hyp) _ _ refl (
+    choice (bytes_eq text (codes "rounds")) (Keyword word.Rounds) _ _ refl (
+    choice (bytes_eq text (codes "width")) (Keyword word.Width) _ _ refl (
+    choice (bytes_eq text (codes "goal")) (Keyword word.Goal) _ _ refl (
+    choice (bytes_eq text (codes "equal")) (Keyword word.Equal) _ _ refl (
+    choice (bytes_eq text (codes "below")) (Keyword word.Below) _ _ refl (
+    choice (bytes_eq text (codes "triple")) (Keyword word.Triple) _ _ refl (
+    choice (bytes_eq text (codes "skip")) (Keyword word.Skip) _ _ refl (
+    choice (bytes_eq text (codes "abort")) (Keyword word.Abort) _ _ refl (
+    choice (bytes_eq text (codes "assert")) (Keyword word.Assert) _ _ refl (
+    choice (bytes_eq text (codes "if")) (Keyword word.If) _ _ refl (
+    choice (bytes_eq text (codes "else")) (Keyword word.Else) _ _ refl (
+    choice (bytes_eq text (codes "while")) (Keyword word.While) Name false refl (
+    record { is = refl }))))))))))))))))))))
+
+last_first : (a b words : Bool) → (words || (a || (b || false))) ≡ (a || (b || words))
+last_first true b true = refl
+last_first true b false = refl
+last_first false true true = refl
+last_first false true false = refl
+last_first false false true = refl
+last_first false false false = refl
+
+pub keyword_by_terminal : (text : List ℕ) → is_keyword text ≡ not (is_terminal Name (keyword_terminal text))
+keyword_by_terminal text =
+    list_any-append (bytes_eq text) plain_words (codes "true" ∷ codes "false" ∷ [])
+    ∙ last_first (bytes_eq text (codes "true")) (bytes_eq text (codes "false")) (list_any (bytes_eq text) plain_words)
+    ∙ sym (decided text).is

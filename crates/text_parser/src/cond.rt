@@ -78,20 +78,8 @@ fn comparison<R: Reading>(
 }
 
 /// Reads the condition that begins at `from`, in the way that [`crate::parse_term`] reads a term.
-pub fn parse_cond<R: Reading>(
-    reading: &R,
-    toks: &[Token],
-    from: usize,
-    context: Context,
-) -> Result<(R::Cond, usize), TextFault>
-    ensures value { Reads R.memory R.cond (lexemes toks.now) result (parse_cond (R.actions reading.now).conds disjunction context (drop from (lexemes toks.now))) }
-    ensures goes { Goes from (length toks.now) result }
-{
-    disjunction(reading, toks, from, context)
-}
-
 #[cycle(conds)]
-fn disjunction<R: Reading>(
+pub fn parse_cond<R: Reading>(
     reading: &R,
     toks: &[Token],
     from: usize,
@@ -197,6 +185,6 @@ fn parenthesis<R: Reading>(
     ensures goes { Goes from (length toks.now) result }
 {
     let inside = context.enter(at)?;
-    let (cond, end) = disjunction(reading, toks, from, inside)?;
+    let (cond, end) = parse_cond(reading, toks, from, inside)?;
     then_expect(toks, reading.enclosed_cond(cond), end, Terminal::RoundClose)
 }

@@ -21,20 +21,8 @@ fn operator_at(toks: &[Token], i: usize) -> Operator
 }
 
 /// Reads the expression that begins at `from`, in the way that [`crate::parse_term`] reads a term.
-pub fn parse_expr<R: Reading>(
-    reading: &R,
-    toks: &[Token],
-    from: usize,
-    context: Context,
-) -> Result<(R::Expr, usize), TextFault>
-    ensures value { Reads R.memory R.expr (lexemes toks.now) result (parse_expr (R.actions reading.now).conds.exprs sums context (drop from (lexemes toks.now))) }
-    ensures goes { Goes from (length toks.now) result }
-{
-    sum(reading, toks, from, context)
-}
-
 #[cycle(exprs)]
-fn sum<R: Reading>(
+pub fn parse_expr<R: Reading>(
     reading: &R,
     toks: &[Token],
     from: usize,
@@ -113,6 +101,6 @@ fn parenthesis<R: Reading>(
     ensures goes { Goes from (length toks.now) result }
 {
     let inside = context.enter(at)?;
-    let (expr, end) = sum(reading, toks, from, inside)?;
+    let (expr, end) = parse_expr(reading, toks, from, inside)?;
     then_expect(toks, reading.enclosed_expr(expr), end, Terminal::RoundClose)
 }

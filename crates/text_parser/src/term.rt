@@ -16,20 +16,8 @@ use crate::token::Token;
 /// fault in the text: `Syntax` at a token that is not allowed there (with the place `usize::MAX` after the last token),
 /// `TooDeep` at a token that takes the number of open constructs beyond `MAX_OPEN`, `NumberTooWide` at a number of 2^64
 /// or more, or the fault with which an action rejects a part. Only an action fails with `NoMemory`.
-pub fn parse_term<R: Reading>(
-    reading: &R,
-    toks: &[Token],
-    from: usize,
-    context: Context,
-) -> Result<(R::Term, usize), TextFault>
-    ensures value { Reads R.memory R.term (lexemes toks.now) result (parse_term (R.actions reading.now) choice context (drop from (lexemes toks.now))) }
-    ensures goes { Goes from (length toks.now) result }
-{
-    choice(reading, toks, from, context)
-}
-
 #[cycle(terms)]
-fn choice<R: Reading>(
+pub fn parse_term<R: Reading>(
     reading: &R,
     toks: &[Token],
     from: usize,
@@ -158,6 +146,6 @@ fn parenthesis<R: Reading>(
     ensures goes { Goes from (length toks.now) result }
 {
     let inside = context.enter(at)?;
-    let (term, end) = choice(reading, toks, from, inside)?;
+    let (term, end) = parse_term(reading, toks, from, inside)?;
     then_expect(toks, reading.enclosed_term(term), end, Terminal::RoundClose)
 }

@@ -209,7 +209,7 @@ fn other_word(text: &str) -> Terminal
 }
 
 // Compares the text only with the keywords of its length.
-fn keyword_terminal(text: &str) -> Terminal
+pub(crate) fn keyword_terminal(text: &str) -> Terminal
     ensures { result ≡ keyword_terminal text.now }
 {
     match text.len() {
@@ -325,7 +325,7 @@ pub(crate) fn is_round_close_at(toks: &[Token], i: usize) -> bool
     is_symbol_at(toks, i, b')')
 }
 
-fn is_terminal(wanted: Terminal, terminal: Terminal) -> bool
+pub(crate) fn is_terminal(wanted: Terminal, terminal: Terminal) -> bool
     ensures { result ≡ is_terminal wanted terminal }
 {
     wanted == terminal

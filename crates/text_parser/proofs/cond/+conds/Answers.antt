@@ -162,50 +162,50 @@ conjunction-parts-preserved g t c =
       value = conjunction_next x (g.R.Reading.conds c.parts.list) c.args.context c.parts.at ts (g.R.Reading.cond c.in_ok-more.more, drop c.in_ok-more.next ts) (g.R.Reading.conds c.in_ok-list-2.list) (sym c.is_at.ensures.value ∙ c.parts-test.true) c.in_ok-more.ensures.value c.in_ok-list-2.ensures ∙ c.parts.invariant.value;
     }
 
-pub disjunction-returns-in_err-first-clause-value : goal.disjunction-returns-in_err-first-clause-value
-disjunction-returns-in_err-first-clause-value g t c =
+pub parse_cond-returns-in_err-first-clause-value : goal.parse_cond-returns-in_err-first-clause-value
+parse_cond-returns-in_err-first-clause-value g t c =
     let x = (g.R.Reading.actions c.args.reading.now).conds in
     let ts = lexemes c.args.toks.now in
     let us = drop c.args.from ts in
     fault_read g.R.Reading.memory g.R.Reading.cond g.R.Reading.cond ts c.from_residual.result c.in_err-first.field-0.0 (parse_cond x conjunction c.args.context us) (parse_cond x disjunction c.args.context us) c.from_residual.ensures.1 c.in_err-first.ensures.value
     (disjunction_fault x c.args.context us c.in_err-first.field-0.0)
 
-pub disjunction-returns-in_err-first-clause-goes : goal.disjunction-returns-in_err-first-clause-goes
-disjunction-returns-in_err-first-clause-goes g t c = fault_goes c.args.from _ c.from_residual.result c.in_err-first.field-0.0 c.from_residual.ensures.1
+pub parse_cond-returns-in_err-first-clause-goes : goal.parse_cond-returns-in_err-first-clause-goes
+parse_cond-returns-in_err-first-clause-goes g t c = fault_goes c.args.from _ c.from_residual.result c.in_err-first.field-0.0 c.from_residual.ensures.1
 
-pub disjunction-returns-in_err-list-clause-value : goal.disjunction-returns-in_err-list-clause-value
-disjunction-returns-in_err-list-clause-value g t c =
+pub parse_cond-returns-in_err-list-clause-value : goal.parse_cond-returns-in_err-list-clause-value
+parse_cond-returns-in_err-list-clause-value g t c =
     let x = (g.R.Reading.actions c.args.reading.now).conds in
     let ts = lexemes c.args.toks.now in
     let us = drop c.args.from ts in
     memory_lacks g.R.Reading.memory g.R.Reading.conds g.R.Reading.cond ts c.from_residual-in_err-list.result c.in_err-list.field-0.0 (x.one_of (g.R.Reading.cond c.in_ok-first.first)) (parse_cond x disjunction c.args.context us) c.from_residual-in_err-list.ensures.1 c.in_err-list.ensures
 
-pub disjunction-returns-in_err-list-clause-goes : goal.disjunction-returns-in_err-list-clause-goes
-disjunction-returns-in_err-list-clause-goes g t c = fault_goes c.args.from _ c.from_residual-in_err-list.result c.in_err-list.field-0.0 c.from_residual-in_err-list.ensures.1
+pub parse_cond-returns-in_err-list-clause-goes : goal.parse_cond-returns-in_err-list-clause-goes
+parse_cond-returns-in_err-list-clause-goes g t c = fault_goes c.args.from _ c.from_residual-in_err-list.result c.in_err-list.field-0.0 c.from_residual-in_err-list.ensures.1
 
-pub disjunction-returns-in_err-more-clause-value : goal.disjunction-returns-in_err-more-clause-value
-disjunction-returns-in_err-more-clause-value g t c =
+pub parse_cond-returns-in_err-more-clause-value : goal.parse_cond-returns-in_err-more-clause-value
+parse_cond-returns-in_err-more-clause-value g t c =
     let x = (g.R.Reading.actions c.args.reading.now).conds in
     let ts = lexemes c.args.toks.now in
     let us = drop c.args.from ts in
     fault_read g.R.Reading.memory g.R.Reading.cond g.R.Reading.cond ts c.from_residual-in_err-more.result c.in_err-more.field-0.0 (parse_cond x conjunction c.args.context (drop (c.parts.at + 1) ts)) (parse_cond x disjunction c.args.context us) c.from_residual-in_err-more.ensures.1 c.in_err-more.ensures.value
     (λ h. sym c.parts.invariant.value ∙ disjunction_next_fault x (g.R.Reading.conds c.parts.list) c.args.context c.parts.at ts c.in_err-more.field-0.0 (sym c.is_at.ensures.value ∙ c.parts-test.true) h)
 
-pub disjunction-returns-in_err-more-clause-goes : goal.disjunction-returns-in_err-more-clause-goes
-disjunction-returns-in_err-more-clause-goes g t c = fault_goes c.args.from _ c.from_residual-in_err-more.result c.in_err-more.field-0.0 c.from_residual-in_err-more.ensures.1
+pub parse_cond-returns-in_err-more-clause-goes : goal.parse_cond-returns-in_err-more-clause-goes
+parse_cond-returns-in_err-more-clause-goes g t c = fault_goes c.args.from _ c.from_residual-in_err-more.result c.in_err-more.field-0.0 c.from_residual-in_err-more.ensures.1
 
-pub disjunction-returns-in_err-list-2-clause-value : goal.disjunction-returns-in_err-list-2-clause-value
-disjunction-returns-in_err-list-2-clause-value g t c =
+pub parse_cond-returns-in_err-list-2-clause-value : goal.parse_cond-returns-in_err-list-2-clause-value
+parse_cond-returns-in_err-list-2-clause-value g t c =
     let x = (g.R.Reading.actions c.args.reading.now).conds in
     let ts = lexemes c.args.toks.now in
     let us = drop c.args.from ts in
     memory_lacks g.R.Reading.memory g.R.Reading.conds g.R.Reading.cond ts c.from_residual-in_err-list-2.result c.in_err-list-2.field-0.0 (x.more (g.R.Reading.conds c.parts.list) (g.R.Reading.cond c.in_ok-more.more)) (parse_cond x disjunction c.args.context us) c.from_residual-in_err-list-2.ensures.1 c.in_err-list-2.ensures
 
-pub disjunction-returns-in_err-list-2-clause-goes : goal.disjunction-returns-in_err-list-2-clause-goes
-disjunction-returns-in_err-list-2-clause-goes g t c = fault_goes c.args.from _ c.from_residual-in_err-list-2.result c.in_err-list-2.field-0.0 c.from_residual-in_err-list-2.ensures.1
+pub parse_cond-returns-in_err-list-2-clause-goes : goal.parse_cond-returns-in_err-list-2-clause-goes
+parse_cond-returns-in_err-list-2-clause-goes g t c = fault_goes c.args.from _ c.from_residual-in_err-list-2.result c.in_err-list-2.field-0.0 c.from_residual-in_err-list-2.ensures.1
 
-pub disjunction-returns-clause-value : goal.disjunction-returns-clause-value
-disjunction-returns-clause-value g t c =
+pub parse_cond-returns-clause-value : goal.parse_cond-returns-clause-value
+parse_cond-returns-clause-value g t c =
     let x = (g.R.Reading.actions c.args.reading.now).conds in
     let ts = lexemes c.args.toks.now in
     let us = drop c.args.from ts in
@@ -213,13 +213,13 @@ disjunction-returns-clause-value g t c =
     end_made g.R.Reading.memory g.R.Reading.cond ts c.parts.at c.with_end.result c.any.result (Ok (x.any list)) (parse_cond x disjunction c.args.context us) c.with_end.ensures c.any.ensures
     (sym c.parts.invariant.value ∙ disjunction_end x list c.args.context (drop c.parts.at ts) (x.any list) (sym c.is_at.ensures.value ∙ c.parts-test.false) refl)
 
-pub disjunction-returns-clause-goes : goal.disjunction-returns-clause-goes
-disjunction-returns-clause-goes g t c =
+pub parse_cond-returns-clause-goes : goal.parse_cond-returns-clause-goes
+parse_cond-returns-clause-goes g t c =
     let place = c.parts.invariant.place in
     end_goes c.args.from _ c.parts.at c.with_end.result c.any.result c.with_end.ensures place.0 place.1
 
-pub disjunction-parts-init : goal.disjunction-parts-init
-disjunction-parts-init g t c =
+pub parse_cond-parts-init : goal.parse_cond-parts-init
+parse_cond-parts-init g t c =
     let x = (g.R.Reading.actions c.args.reading.now).conds in
     let ts = lexemes c.args.toks.now in
     record {
@@ -227,8 +227,8 @@ disjunction-parts-init g t c =
       value = disjunction_first x c.args.context (drop c.args.from ts) (g.R.Reading.cond c.in_ok-first.first, drop c.in_ok-first.next ts) (g.R.Reading.conds c.in_ok-list.list) c.in_ok-first.ensures.value c.in_ok-list.ensures;
     }
 
-pub disjunction-parts-preserved : goal.disjunction-parts-preserved
-disjunction-parts-preserved g t c =
+pub parse_cond-parts-preserved : goal.parse_cond-parts-preserved
+parse_cond-parts-preserved g t c =
     let x = (g.R.Reading.actions c.args.reading.now).conds in
     let ts = lexemes c.args.toks.now in
     let place = c.in_ok-more.ensures.goes in
@@ -335,8 +335,8 @@ literal-parenthesis-requires g t c κs within = (omega (arith, c.in-Some.ensures
 pub negation-literal-requires : goal.negation-literal-requires
 negation-literal-requires g t c κs within = (omega arith, within)
 
-pub parenthesis-disjunction-requires : goal.parenthesis-disjunction-requires
-parenthesis-disjunction-requires g t c κs within = (omega arith, within)
+pub parenthesis-parse_cond-requires : goal.parenthesis-parse_cond-requires
+parenthesis-parse_cond-requires g t c κs within = (omega arith, within)
 
 pub conjunction-literal-requires : goal.conjunction-literal-requires
 conjunction-literal-requires g t c κs within = (omega arith, within)
@@ -344,11 +344,11 @@ conjunction-literal-requires g t c κs within = (omega arith, within)
 pub conjunction-literal-requires-in-parts : goal.conjunction-literal-requires-in-parts
 conjunction-literal-requires-in-parts g t c κs within = (omega (arith, c.parts.invariant.place.0), within)
 
-pub disjunction-conjunction-requires : goal.disjunction-conjunction-requires
-disjunction-conjunction-requires g t c κs within = (omega arith, within)
+pub parse_cond-conjunction-requires : goal.parse_cond-conjunction-requires
+parse_cond-conjunction-requires g t c κs within = (omega arith, within)
 
-pub disjunction-conjunction-requires-in-parts : goal.disjunction-conjunction-requires-in-parts
-disjunction-conjunction-requires-in-parts g t c κs within = (omega (arith, c.parts.invariant.place.0), within)
+pub parse_cond-conjunction-requires-in-parts : goal.parse_cond-conjunction-requires-in-parts
+parse_cond-conjunction-requires-in-parts g t c κs within = (omega (arith, c.parts.invariant.place.0), within)
 
 pub literal-always-requires : goal.literal-always-requires
 literal-always-requires g t c κs = λ within. within
@@ -380,11 +380,11 @@ conjunction-more_conds-requires g t c κs = λ within. within
 pub conjunction-all-requires : goal.conjunction-all-requires
 conjunction-all-requires g t c κs = λ within. within
 
-pub disjunction-one_cond-requires : goal.disjunction-one_cond-requires
-disjunction-one_cond-requires g t c κs = λ within. within
+pub parse_cond-one_cond-requires : goal.parse_cond-one_cond-requires
+parse_cond-one_cond-requires g t c κs = λ within. within
 
-pub disjunction-more_conds-requires : goal.disjunction-more_conds-requires
-disjunction-more_conds-requires g t c κs = λ within. within
+pub parse_cond-more_conds-requires : goal.parse_cond-more_conds-requires
+parse_cond-more_conds-requires g t c κs = λ within. within
 
-pub disjunction-any-requires : goal.disjunction-any-requires
-disjunction-any-requires g t c κs = λ within. within
+pub parse_cond-any-requires : goal.parse_cond-any-requires
+parse_cond-any-requires g t c κs = λ within. within

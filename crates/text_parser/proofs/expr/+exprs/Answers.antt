@@ -134,19 +134,19 @@ product-returns-clause-value g t c =
     let ts = lexemes c.args.toks.now in
     sym c.parts.invariant.value ∙ products_end x (g.R.Reading.expr c.parts.all) c.args.context (drop c.parts.at ts) (sym c.is_at.ensures.value ∙ c.parts-test.false)
 
-pub sum-returns-in_err-first-clause-value : goal.sum-returns-in_err-first-clause-value
-sum-returns-in_err-first-clause-value g t c =
+pub parse_expr-returns-in_err-first-clause-value : goal.parse_expr-returns-in_err-first-clause-value
+parse_expr-returns-in_err-first-clause-value g t c =
     let x = (g.R.Reading.actions c.args.reading.now).conds.exprs in
     let ts = lexemes c.args.toks.now in
     let us = drop c.args.from ts in
     fault_read g.R.Reading.memory g.R.Reading.expr g.R.Reading.expr ts c.from_residual.result c.in_err-first.field-0.0 (parse_expr x products c.args.context us) (parse_expr x sums c.args.context us) c.from_residual.ensures.1 c.in_err-first.ensures.value
     (sums_fault x c.args.context us c.in_err-first.field-0.0)
 
-pub sum-returns-in_err-first-clause-goes : goal.sum-returns-in_err-first-clause-goes
-sum-returns-in_err-first-clause-goes g t c = fault_goes c.args.from _ c.from_residual.result c.in_err-first.field-0.0 c.from_residual.ensures.1
+pub parse_expr-returns-in_err-first-clause-goes : goal.parse_expr-returns-in_err-first-clause-goes
+parse_expr-returns-in_err-first-clause-goes g t c = fault_goes c.args.from _ c.from_residual.result c.in_err-first.field-0.0 c.from_residual.ensures.1
 
-pub sum-parts-init : goal.sum-parts-init
-sum-parts-init g t c =
+pub parse_expr-parts-init : goal.parse_expr-parts-init
+parse_expr-parts-init g t c =
     let x = (g.R.Reading.actions c.args.reading.now).conds.exprs in
     let ts = lexemes c.args.toks.now in
     record {
@@ -154,28 +154,28 @@ sum-parts-init g t c =
       value = sums_first x c.args.context (drop c.args.from ts) (g.R.Reading.expr c.in_ok-first.first, drop c.in_ok-first.next ts) c.in_ok-first.ensures.value;
     }
 
-pub sum-returns-in_err-more-clause-value : goal.sum-returns-in_err-more-clause-value
-sum-returns-in_err-more-clause-value g t c =
+pub parse_expr-returns-in_err-more-clause-value : goal.parse_expr-returns-in_err-more-clause-value
+parse_expr-returns-in_err-more-clause-value g t c =
     let x = (g.R.Reading.actions c.args.reading.now).conds.exprs in
     let ts = lexemes c.args.toks.now in
     let us = drop c.args.from ts in
     fault_read g.R.Reading.memory g.R.Reading.expr g.R.Reading.expr ts c.from_residual-in_err-more.result c.in_err-more.field-0.0 (parse_expr x products c.args.context (drop (c.parts.at + 1) ts)) (parse_expr x sums c.args.context us) c.from_residual-in_err-more.ensures.1 c.in_err-more.ensures.value
     (λ h. sym c.parts.invariant.value ∙ sums_next_fault x (g.R.Reading.expr c.parts.all) c.args.context c.parts.at ts c.in_err-more.field-0.0 (sym c.is_sum_at.ensures.value ∙ c.parts-test.true) h)
 
-pub sum-returns-in_err-more-clause-goes : goal.sum-returns-in_err-more-clause-goes
-sum-returns-in_err-more-clause-goes g t c = fault_goes c.args.from _ c.from_residual-in_err-more.result c.in_err-more.field-0.0 c.from_residual-in_err-more.ensures.1
+pub parse_expr-returns-in_err-more-clause-goes : goal.parse_expr-returns-in_err-more-clause-goes
+parse_expr-returns-in_err-more-clause-goes g t c = fault_goes c.args.from _ c.from_residual-in_err-more.result c.in_err-more.field-0.0 c.from_residual-in_err-more.ensures.1
 
-pub sum-returns-in_err-all-clause-value : goal.sum-returns-in_err-all-clause-value
-sum-returns-in_err-all-clause-value g t c =
+pub parse_expr-returns-in_err-all-clause-value : goal.parse_expr-returns-in_err-all-clause-value
+parse_expr-returns-in_err-all-clause-value g t c =
     let x = (g.R.Reading.actions c.args.reading.now).conds.exprs in
     let ts = lexemes c.args.toks.now in
     memory_lacks g.R.Reading.memory g.R.Reading.expr g.R.Reading.expr ts c.from_residual-in_err-all.result c.in_err-all.field-0.0 (x.join c.operator_at-operator.result (g.R.Reading.expr c.parts.all) (g.R.Reading.expr c.in_ok-more.more)) (parse_expr x sums c.args.context (drop c.args.from ts)) c.from_residual-in_err-all.ensures.1 c.in_err-all.ensures
 
-pub sum-returns-in_err-all-clause-goes : goal.sum-returns-in_err-all-clause-goes
-sum-returns-in_err-all-clause-goes g t c = fault_goes c.args.from _ c.from_residual-in_err-all.result c.in_err-all.field-0.0 c.from_residual-in_err-all.ensures.1
+pub parse_expr-returns-in_err-all-clause-goes : goal.parse_expr-returns-in_err-all-clause-goes
+parse_expr-returns-in_err-all-clause-goes g t c = fault_goes c.args.from _ c.from_residual-in_err-all.result c.in_err-all.field-0.0 c.from_residual-in_err-all.ensures.1
 
-pub sum-parts-preserved : goal.sum-parts-preserved
-sum-parts-preserved g t c =
+pub parse_expr-parts-preserved : goal.parse_expr-parts-preserved
+parse_expr-parts-preserved g t c =
     let x = (g.R.Reading.actions c.args.reading.now).conds.exprs in
     let ts = lexemes c.args.toks.now in
     let place = c.in_ok-more.ensures.goes in
@@ -184,8 +184,8 @@ sum-parts-preserved g t c =
       value = sums_next x (g.R.Reading.expr c.parts.all) c.args.context c.parts.at ts (g.R.Reading.expr c.in_ok-more.more, drop c.in_ok-more.next ts) (g.R.Reading.expr c.in_ok-all.all) (sym c.is_sum_at.ensures.value ∙ c.parts-test.true) c.in_ok-more.ensures.value (ap (λ o. Ok (x.join o (g.R.Reading.expr c.parts.all) (g.R.Reading.expr c.in_ok-more.more))) (sym c.operator_at-operator.ensures) ∙ c.in_ok-all.ensures) ∙ c.parts.invariant.value;
     }
 
-pub sum-returns-clause-value : goal.sum-returns-clause-value
-sum-returns-clause-value g t c =
+pub parse_expr-returns-clause-value : goal.parse_expr-returns-clause-value
+parse_expr-returns-clause-value g t c =
     let x = (g.R.Reading.actions c.args.reading.now).conds.exprs in
     let ts = lexemes c.args.toks.now in
     sym c.parts.invariant.value ∙ sums_end x (g.R.Reading.expr c.parts.all) c.args.context (drop c.parts.at ts) (sym c.is_sum_at.ensures.value ∙ c.parts-test.false)
@@ -232,8 +232,8 @@ factor-returns-in-RoundOpen-clause-goes g t c = goes_later c.args.from _ c.paren
 pub factor-parenthesis-requires : goal.factor-parenthesis-requires
 factor-parenthesis-requires g t c κs within = (omega (arith, c.in-Some.ensures.1), within)
 
-pub parenthesis-sum-requires : goal.parenthesis-sum-requires
-parenthesis-sum-requires g t c κs within = (omega arith, within)
+pub parenthesis-parse_expr-requires : goal.parenthesis-parse_expr-requires
+parenthesis-parse_expr-requires g t c κs within = (omega arith, within)
 
 pub product-factor-requires : goal.product-factor-requires
 product-factor-requires g t c κs within = (omega arith, within)
@@ -241,11 +241,11 @@ product-factor-requires g t c κs within = (omega arith, within)
 pub product-factor-requires-in-parts : goal.product-factor-requires-in-parts
 product-factor-requires-in-parts g t c κs within = (omega (arith, c.parts.invariant.place.0), within)
 
-pub sum-product-requires : goal.sum-product-requires
-sum-product-requires g t c κs within = (omega arith, within)
+pub parse_expr-product-requires : goal.parse_expr-product-requires
+parse_expr-product-requires g t c κs within = (omega arith, within)
 
-pub sum-product-requires-in-parts : goal.sum-product-requires-in-parts
-sum-product-requires-in-parts g t c κs within = (omega (arith, c.parts.invariant.place.0), within)
+pub parse_expr-product-requires-in-parts : goal.parse_expr-product-requires-in-parts
+parse_expr-product-requires-in-parts g t c κs within = (omega (arith, c.parts.invariant.place.0), within)
 
 pub factor-number-requires : goal.factor-number-requires
 factor-number-requires g t c κs = λ within. within
@@ -262,5 +262,5 @@ parenthesis-enclosed_expr-requires g t c κs = λ within. within
 pub product-join-requires : goal.product-join-requires
 product-join-requires g t c κs = λ within. within
 
-pub sum-join-requires : goal.sum-join-requires
-sum-join-requires g t c κs = λ within. within
+pub parse_expr-join-requires : goal.parse_expr-join-requires
+parse_expr-join-requires g t c κs = λ within. within

@@ -12,8 +12,8 @@ decreases-parenthesis g l = 4 * (length l.toks.now - l.from) + 3
 abbrev pub decreases-product : goal.decreases-product
 decreases-product g l = 4 * (length l.toks.now - l.from) + 1
 
-abbrev pub decreases-sum : goal.decreases-sum
-decreases-sum g l = 4 * (length l.toks.now - l.from) + 2
+abbrev pub decreases-parse_expr : goal.decreases-parse_expr
+decreases-parse_expr g l = 4 * (length l.toks.now - l.from) + 2
 
 abbrev pub invariant-product-parts : goal.invariant-product-parts
 invariant-product-parts g l = record {
@@ -24,11 +24,11 @@ invariant-product-parts g l = record {
 abbrev pub decreases-product-parts : goal.decreases-product-parts
 decreases-product-parts g l = length l.toks - l.at
 
-abbrev pub invariant-sum-parts : goal.invariant-sum-parts
-invariant-sum-parts g l = record {
+abbrev pub invariant-parse_expr-parts : goal.invariant-parse_expr-parts
+invariant-parse_expr-parts g l = record {
   place : (l.from < l.at) × (l.at ≤ length l.toks);
   value : parse_expr (g.R.Reading.actions l.reading).conds.exprs (sums_after (g.R.Reading.expr l.all)) l.context (drop l.at (lexemes l.toks)) ≡ parse_expr (g.R.Reading.actions l.reading).conds.exprs sums l.context (drop l.from (lexemes l.toks));
 }
 
-abbrev pub decreases-sum-parts : goal.decreases-sum-parts
-decreases-sum-parts g l = length l.toks - l.at
+abbrev pub decreases-parse_expr-parts : goal.decreases-parse_expr-parts
+decreases-parse_expr-parts g l = length l.toks - l.at

@@ -75,50 +75,50 @@ unit-returns-in_default-terminal-clause-value g t c =
     let other = c.in_default-terminal in
     unit_other x c.args.context us c.in-Some.terminal c.in-Some.at (text_at c.args.toks.now c.args.from) (drop (c.args.from + 1) ts) c.in-Some.ensures.0 other.not-RoundOpen other.not-SquareOpen other.not-Bang other.not-Zero other.not-One other.not-Name
 
-pub choice-returns-in_err-first-clause-value : goal.choice-returns-in_err-first-clause-value
-choice-returns-in_err-first-clause-value g t c =
+pub parse_term-returns-in_err-first-clause-value : goal.parse_term-returns-in_err-first-clause-value
+parse_term-returns-in_err-first-clause-value g t c =
     let x = (g.R.Reading.actions c.args.reading.now) in
     let ts = lexemes c.args.toks.now in
     let us = drop c.args.from ts in
     fault_read g.R.Reading.memory g.R.Reading.term g.R.Reading.term ts c.from_residual.result c.in_err-first.field-0.0 (parse_term x sequence c.args.context us) (parse_term x choice c.args.context us) c.from_residual.ensures.1 c.in_err-first.ensures.value
     (choice_fault x c.args.context us c.in_err-first.field-0.0)
 
-pub choice-returns-in_err-first-clause-goes : goal.choice-returns-in_err-first-clause-goes
-choice-returns-in_err-first-clause-goes g t c = fault_goes c.args.from _ c.from_residual.result c.in_err-first.field-0.0 c.from_residual.ensures.1
+pub parse_term-returns-in_err-first-clause-goes : goal.parse_term-returns-in_err-first-clause-goes
+parse_term-returns-in_err-first-clause-goes g t c = fault_goes c.args.from _ c.from_residual.result c.in_err-first.field-0.0 c.from_residual.ensures.1
 
-pub choice-returns-in_err-list-clause-value : goal.choice-returns-in_err-list-clause-value
-choice-returns-in_err-list-clause-value g t c =
+pub parse_term-returns-in_err-list-clause-value : goal.parse_term-returns-in_err-list-clause-value
+parse_term-returns-in_err-list-clause-value g t c =
     let x = (g.R.Reading.actions c.args.reading.now) in
     let ts = lexemes c.args.toks.now in
     let us = drop c.args.from ts in
     memory_lacks g.R.Reading.memory g.R.Reading.terms g.R.Reading.term ts c.from_residual-in_err-list.result c.in_err-list.field-0.0 (x.one_of (g.R.Reading.term c.in_ok-first.first)) (parse_term x choice c.args.context us) c.from_residual-in_err-list.ensures.1 c.in_err-list.ensures
 
-pub choice-returns-in_err-list-clause-goes : goal.choice-returns-in_err-list-clause-goes
-choice-returns-in_err-list-clause-goes g t c = fault_goes c.args.from _ c.from_residual-in_err-list.result c.in_err-list.field-0.0 c.from_residual-in_err-list.ensures.1
+pub parse_term-returns-in_err-list-clause-goes : goal.parse_term-returns-in_err-list-clause-goes
+parse_term-returns-in_err-list-clause-goes g t c = fault_goes c.args.from _ c.from_residual-in_err-list.result c.in_err-list.field-0.0 c.from_residual-in_err-list.ensures.1
 
-pub choice-returns-in_err-more-clause-value : goal.choice-returns-in_err-more-clause-value
-choice-returns-in_err-more-clause-value g t c =
+pub parse_term-returns-in_err-more-clause-value : goal.parse_term-returns-in_err-more-clause-value
+parse_term-returns-in_err-more-clause-value g t c =
     let x = (g.R.Reading.actions c.args.reading.now) in
     let ts = lexemes c.args.toks.now in
     let us = drop c.args.from ts in
     fault_read g.R.Reading.memory g.R.Reading.term g.R.Reading.term ts c.from_residual-in_err-more.result c.in_err-more.field-0.0 (parse_term x sequence c.args.context (drop (c.parts.at + 1) ts)) (parse_term x choice c.args.context us) c.from_residual-in_err-more.ensures.1 c.in_err-more.ensures.value
     (λ h. sym c.parts.invariant.value ∙ choice_next_fault x (g.R.Reading.terms c.parts.list) c.args.context c.parts.at ts c.in_err-more.field-0.0 (sym c.is_at.ensures.value ∙ c.parts-test.true) h)
 
-pub choice-returns-in_err-more-clause-goes : goal.choice-returns-in_err-more-clause-goes
-choice-returns-in_err-more-clause-goes g t c = fault_goes c.args.from _ c.from_residual-in_err-more.result c.in_err-more.field-0.0 c.from_residual-in_err-more.ensures.1
+pub parse_term-returns-in_err-more-clause-goes : goal.parse_term-returns-in_err-more-clause-goes
+parse_term-returns-in_err-more-clause-goes g t c = fault_goes c.args.from _ c.from_residual-in_err-more.result c.in_err-more.field-0.0 c.from_residual-in_err-more.ensures.1
 
-pub choice-returns-in_err-list-2-clause-value : goal.choice-returns-in_err-list-2-clause-value
-choice-returns-in_err-list-2-clause-value g t c =
+pub parse_term-returns-in_err-list-2-clause-value : goal.parse_term-returns-in_err-list-2-clause-value
+parse_term-returns-in_err-list-2-clause-value g t c =
     let x = (g.R.Reading.actions c.args.reading.now) in
     let ts = lexemes c.args.toks.now in
     let us = drop c.args.from ts in
     memory_lacks g.R.Reading.memory g.R.Reading.terms g.R.Reading.term ts c.from_residual-in_err-list-2.result c.in_err-list-2.field-0.0 (x.more (g.R.Reading.terms c.parts.list) (g.R.Reading.term c.in_ok-more.more)) (parse_term x choice c.args.context us) c.from_residual-in_err-list-2.ensures.1 c.in_err-list-2.ensures
 
-pub choice-returns-in_err-list-2-clause-goes : goal.choice-returns-in_err-list-2-clause-goes
-choice-returns-in_err-list-2-clause-goes g t c = fault_goes c.args.from _ c.from_residual-in_err-list-2.result c.in_err-list-2.field-0.0 c.from_residual-in_err-list-2.ensures.1
+pub parse_term-returns-in_err-list-2-clause-goes : goal.parse_term-returns-in_err-list-2-clause-goes
+parse_term-returns-in_err-list-2-clause-goes g t c = fault_goes c.args.from _ c.from_residual-in_err-list-2.result c.in_err-list-2.field-0.0 c.from_residual-in_err-list-2.ensures.1
 
-pub choice-returns-clause-value : goal.choice-returns-clause-value
-choice-returns-clause-value g t c =
+pub parse_term-returns-clause-value : goal.parse_term-returns-clause-value
+parse_term-returns-clause-value g t c =
     let x = (g.R.Reading.actions c.args.reading.now) in
     let ts = lexemes c.args.toks.now in
     let us = drop c.args.from ts in
@@ -126,13 +126,13 @@ choice-returns-clause-value g t c =
     end_made g.R.Reading.memory g.R.Reading.term ts c.parts.at c.with_end.result c.sum.result (Ok (x.sum list)) (parse_term x choice c.args.context us) c.with_end.ensures c.sum.ensures
     (sym c.parts.invariant.value ∙ choice_end x list c.args.context (drop c.parts.at ts) (x.sum list) (sym c.is_at.ensures.value ∙ c.parts-test.false) refl)
 
-pub choice-returns-clause-goes : goal.choice-returns-clause-goes
-choice-returns-clause-goes g t c =
+pub parse_term-returns-clause-goes : goal.parse_term-returns-clause-goes
+parse_term-returns-clause-goes g t c =
     let place = c.parts.invariant.place in
     end_goes c.args.from _ c.parts.at c.with_end.result c.sum.result c.with_end.ensures place.0 place.1
 
-pub choice-parts-init : goal.choice-parts-init
-choice-parts-init g t c =
+pub parse_term-parts-init : goal.parse_term-parts-init
+parse_term-parts-init g t c =
     let x = (g.R.Reading.actions c.args.reading.now) in
     let ts = lexemes c.args.toks.now in
     record {
@@ -140,8 +140,8 @@ choice-parts-init g t c =
       value = choice_first x c.args.context (drop c.args.from ts) (g.R.Reading.term c.in_ok-first.first, drop c.in_ok-first.next ts) (g.R.Reading.terms c.in_ok-list.list) c.in_ok-first.ensures.value c.in_ok-list.ensures;
     }
 
-pub choice-parts-preserved : goal.choice-parts-preserved
-choice-parts-preserved g t c =
+pub parse_term-parts-preserved : goal.parse_term-parts-preserved
+parse_term-parts-preserved g t c =
     let x = (g.R.Reading.actions c.args.reading.now) in
     let ts = lexemes c.args.toks.now in
     let place = c.in_ok-more.ensures.goes in
@@ -340,8 +340,8 @@ unit-parenthesis-requires g t c κs within = (omega (arith, c.in-Some.ensures.1)
 pub negation-unit-requires : goal.negation-unit-requires
 negation-unit-requires g t c κs within = (omega arith, within)
 
-pub parenthesis-choice-requires : goal.parenthesis-choice-requires
-parenthesis-choice-requires g t c κs within = (omega arith, within)
+pub parenthesis-parse_term-requires : goal.parenthesis-parse_term-requires
+parenthesis-parse_term-requires g t c κs within = (omega arith, within)
 
 pub sequence-unit-requires : goal.sequence-unit-requires
 sequence-unit-requires g t c κs within = (omega arith, within)
@@ -349,11 +349,11 @@ sequence-unit-requires g t c κs within = (omega arith, within)
 pub sequence-unit-requires-in-parts : goal.sequence-unit-requires-in-parts
 sequence-unit-requires-in-parts g t c κs within = (omega (arith, c.parts.invariant.place.0), within)
 
-pub choice-sequence-requires : goal.choice-sequence-requires
-choice-sequence-requires g t c κs within = (omega arith, within)
+pub parse_term-sequence-requires : goal.parse_term-sequence-requires
+parse_term-sequence-requires g t c κs within = (omega arith, within)
 
-pub choice-sequence-requires-in-parts : goal.choice-sequence-requires-in-parts
-choice-sequence-requires-in-parts g t c κs within = (omega (arith, c.parts.invariant.place.0), within)
+pub parse_term-sequence-requires-in-parts : goal.parse_term-sequence-requires-in-parts
+parse_term-sequence-requires-in-parts g t c κs within = (omega (arith, c.parts.invariant.place.0), within)
 
 pub unit-zero-requires : goal.unit-zero-requires
 unit-zero-requires g t c κs = λ within. within
@@ -385,11 +385,11 @@ sequence-more_terms-requires g t c κs = λ within. within
 pub sequence-product-requires : goal.sequence-product-requires
 sequence-product-requires g t c κs = λ within. within
 
-pub choice-one_term-requires : goal.choice-one_term-requires
-choice-one_term-requires g t c κs = λ within. within
+pub parse_term-one_term-requires : goal.parse_term-one_term-requires
+parse_term-one_term-requires g t c κs = λ within. within
 
-pub choice-more_terms-requires : goal.choice-more_terms-requires
-choice-more_terms-requires g t c κs = λ within. within
+pub parse_term-more_terms-requires : goal.parse_term-more_terms-requires
+parse_term-more_terms-requires g t c κs = λ within. within
 
-pub choice-sum-requires : goal.choice-sum-requires
-choice-sum-requires g t c κs = λ within. within
+pub parse_term-sum-requires : goal.parse_term-sum-requires
+parse_term-sum-requires g t c κs = λ within. within

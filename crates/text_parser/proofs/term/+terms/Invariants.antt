@@ -15,8 +15,8 @@ decreases-parenthesis g l = 4 * (length l.toks.now - l.from) + 3
 abbrev pub decreases-sequence : goal.decreases-sequence
 decreases-sequence g l = 4 * (length l.toks.now - l.from) + 1
 
-abbrev pub decreases-choice : goal.decreases-choice
-decreases-choice g l = 4 * (length l.toks.now - l.from) + 2
+abbrev pub decreases-parse_term : goal.decreases-parse_term
+decreases-parse_term g l = 4 * (length l.toks.now - l.from) + 2
 
 abbrev pub invariant-sequence-parts : goal.invariant-sequence-parts
 invariant-sequence-parts g l = record {
@@ -27,11 +27,11 @@ invariant-sequence-parts g l = record {
 abbrev pub decreases-sequence-parts : goal.decreases-sequence-parts
 decreases-sequence-parts g l = length l.toks - l.at
 
-abbrev pub invariant-choice-parts : goal.invariant-choice-parts
-invariant-choice-parts g l = record {
+abbrev pub invariant-parse_term-parts : goal.invariant-parse_term-parts
+invariant-parse_term-parts g l = record {
   place : (l.from < l.at) × (l.at ≤ length l.toks);
   value : parse_term (g.R.Reading.actions l.reading) (choice_after (g.R.Reading.terms l.list)) l.context (drop l.at (lexemes l.toks)) ≡ parse_term (g.R.Reading.actions l.reading) choice l.context (drop l.from (lexemes l.toks));
 }
 
-abbrev pub decreases-choice-parts : goal.decreases-choice-parts
-decreases-choice-parts g l = length l.toks - l.at
+abbrev pub decreases-parse_term-parts : goal.decreases-parse_term-parts
+decreases-parse_term-parts g l = length l.toks - l.at
