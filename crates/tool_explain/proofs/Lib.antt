@@ -12,3 +12,5 @@ pub mod WrittenRules
 pub mod MarkedLists
 pub mod UsedTexts
 pub mod WrittenStates
+pub mod StringMoves
+pub mod PlaceLines

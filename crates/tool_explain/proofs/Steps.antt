@@ -69,10 +69,10 @@ module _ (x : GuardedString) (base : List ℕ) (list : List Flow) (start j k : �
 
 -- ---- blocks and loops
 
--- the end of a block, whose path is that of the statement with the number of the block
-pub block_end : (x y : GuardedString) (path pushed inner : List ℕ) (block : ℕ) (f : FlowTree) (k l : ℕ) (why : Option Stop) → y ≡ x → pushed ≡ path ++ block ∷ [] → end_of why l inner ≡ list_end y pushed 0 f k
+-- the end of a block of the statement at the path, from the string and the path during the walk
+pub block_end : (x y : GuardedString) (path now inner : List ℕ) (block : ℕ) (f : FlowTree) (k l : ℕ) (why : Option Stop) → y ≡ x → now ≡ path → end_of why l inner ≡ list_end y (path_in now block) 0 f k
     → end_of why l inner ≡ list_end x (path_in path block) 0 f k
-block_end x y path pushed inner block f k l why same at walked = walked ∙ ap (λ z. list_end z pushed 0 f k) same ∙ ap (λ p. list_end x p 0 f k) at
+block_end x y path now inner block f k l why same back walked = walked ∙ ap (λ z. list_end z (path_in now block) 0 f k) same ∙ ap (λ p. list_end x (path_in p block) 0 f k) back
 
 -- the end of a part that has ended, and of one at which the walk stops
 pub part_over : (why : Option Stop) (l : ℕ) (path : List ℕ) (e : End) → why ≡ None → end_of why l path ≡ e → over l ≡ e

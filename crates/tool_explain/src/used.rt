@@ -8,7 +8,7 @@ use abstraction::Rule;
 use cert_checker::{Answer, check};
 use certificate::{Cert, Evidence, Style, TestNode};
 use goal_forms::{asks_only, is_short};
-use kat_model::{Kat, NoMemory, Problem};
+use kat_model::{Kat, NoMemory, Problem, append};
 use std::alloc::Global;
 
 // Marks the parts of a test.
@@ -88,7 +88,7 @@ pub(crate) fn marked_rules(
     let mut kept = Vec::new(alloc);
     for (mark, rule) in marks.iter().zip(rules) {
         if *mark {
-            kept.push(*rule)?;
+            append(&mut kept, *rule)?;
         }
     }
     Ok(kept)
@@ -105,7 +105,7 @@ pub(crate) fn marked_hyps(
     let mut kept = Vec::new(alloc);
     for (mark, hyp) in marks.iter().zip(problem.hyps()) {
         if *mark {
-            kept.push(hyp.copy(alloc)?)?;
+            append(&mut kept, hyp.copy(alloc)?)?;
         }
     }
     Ok(kept)

@@ -3,11 +3,12 @@ ghost use Rattle.std.specs.Prelude.{◌≡◌, ◌≤◌, ◌++◌, ℕ, List, [
 ghost use Rattle.kat_model.specs.Trees.{test_tree};
 ghost use Rattle.while_lang.specs.Flows.{assert, act};
 ghost use Rattle.while_lang.specs.FlowViews.{flow_stmt, flows_tree};
+ghost use Rattle.tool_explain.specs.Places.{path_in};
 ghost use Rattle.tool_explain.specs.Working.Walks.{end_of, list_end, stmt_end, without_last};
 
 use crate::cursor::Cursor;
 use kat_model::{NoMemory, Test};
-use while_lang::Flow;
+use while_lang::{Flow, Flows};
 
 /// Why a walk stops at a statement.
 #[derive(Clone, Copy)]
@@ -79,22 +80,14 @@ fn walk_stmt(
         Flow::Act(a) => Ok(walk_act(*a, cursor)),
         Flow::If(b, f, g) => {
             if cursor.holds(b) {
-                push_number(path, 0)?;
-                let first = walk_list(&f.list, cursor, path)?;
-                leave(first, path);
-                return Ok(first);
+                return walk_block(f, 0, cursor, path);
             }
-            push_number(path, 1)?;
-            let second = walk_list(&g.list, cursor, path)?;
-            leave(second, path);
-            Ok(second)
+            walk_block(g, 1, cursor, path)
         }
         Flow::While(b, f) => {
             'turns: while cursor.holds(b) {
                 let before = cursor.at;
-                push_number(path, 0)?;
-                let turn = walk_list(&f.list, cursor, path)?;
-                leave(turn, path);
+                let turn = walk_block(f, 0, cursor, path)?;
                 if let Some(stop) = turn {
                     return Ok(Some(stop));
                 }
@@ -105,6 +98,26 @@ fn walk_stmt(
             Ok(None)
         }
     }
+}
+
+// Walks through the block with this number of the statement at the path. If it ends, returns `None`, and the path is as
+// before. Otherwise the path leads to the statement at which the walk stops.
+#[cycle(walks)]
+fn walk_block(
+    block: &Flows,
+    number: usize,
+    cursor: &mut Cursor<'_>,
+    path: &mut Vec<usize>,
+) -> Result<Option<Stop>, NoMemory>
+    ensures walked { IfOk result (λ stop. end_of stop cursor.new.at path.new.items ≡ list_end cursor.old.string.now (path_in path.old.items number) 0 block.now cursor.old.at) }
+    ensures back { IfOk result (λ stop. stop ≡ None → path.new.items ≡ path.old.items) }
+    ensures string { cursor.new.string.now ≡ cursor.old.string.now }
+    ensures onward { cursor.old.at ≤ cursor.new.at }
+{
+    push_number(path, number)?;
+    let stop = walk_list(&block.list, cursor, path)?;
+    leave(stop, path);
+    Ok(stop)
 }
 
 /// Walks through statements in order, whose base is the path. If all of them end, returns `None`, and the path is as

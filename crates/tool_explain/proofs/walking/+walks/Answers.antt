@@ -2,7 +2,8 @@ use Rattle.std.proofs.Common.{◌≡◌, ◌∙◌, ◌<◌, ◌++◌, [], ◌�
 use Rattle.kat_model.specs.Trees.{test_tree}
 use Rattle.kat_model.specs.Steps.{truth}
 use Rattle.while_lang.specs.FlowViews.{flows_tree}
-use Rattle.tool_explain.specs.Working.Walks.{atom_from}
+use Rattle.tool_explain.specs.Places.{path_in}
+use Rattle.tool_explain.specs.Working.Walks.{atom_from, list_end}
 use Rattle.tool_explain.proofs.Steps.{path_left, list_continues, list_stops, list_over, block_end, part_over, part_halted, path_kept, loop_left, turn_ended, turn_repeats, turn_stopped}
 use Rattle.tool_explain.proofs.walking.+walks.Goals as goal
 
@@ -36,6 +37,22 @@ pub walk_list-returns-clause-walked : goal.walk_list-returns-clause-walked
 walk_list-returns-clause-walked t c =
     list_over c.args.cursor.now.string.now c.args.path.now.items c.args.list.now c.args.cursor.now.at c.loop-k.k c.loop-k.cursor.at c.loop-k-test.false c.loop-k.invariant.whole
 
+-- ---- blocks
+
+pub walk_block-returns-clause-walked : goal.walk_block-returns-clause-walked
+walk_block-returns-clause-walked t c =
+    let x = c.args.cursor.now.string.now in
+    let k = c.args.cursor.now.at in
+    c.leave.ensures.kept c.walk_list.new.cursor.at
+    ∙ c.in_ok-stop.ensures.walked
+    ∙ ap (λ p. list_end x p 0 (flows_tree c.deref.result.now) k) c.in_ok-push_number.ensures
+    ∙ ap (λ f. list_end x (path_in c.args.path.now.items c.args.number) 0 f k) (ap flows_tree c.deref.ensures.value ∙ c.block.view_is)
+
+pub walk_block-returns-clause-back : goal.walk_block-returns-clause-back
+walk_block-returns-clause-back t c none =
+    path_left c.args.path.now.items c.push_number.new.path.items c.walk_list.new.path.items c.leave.new.path.items c.args.number
+    c.in_ok-push_number.ensures (c.in_ok-stop.ensures.back none) (c.leave.ensures.left none)
+
 -- ---- loops
 
 pub walk_stmt-turns-preserved : goal.walk_stmt-turns-preserved
@@ -43,22 +60,19 @@ walk_stmt-turns-preserved t c =
     let x = c.args.cursor.now.string.now in
     let base = c.args.path.now.items in
     let b = test_tree c.in-While.b in
-    let f = flows_tree c.f-in-While.inside.list.items in
+    let f = c.in-While.f in
     let k = c.turns.cursor.at in
-    let l = c.walk_list-in-turns.new.cursor.at in
-    let inner = c.walk_list-in-turns.new.path.items in
-    let pushed = c.push_number-in-turns.new.path.items in
+    let l = c.walk_block-in-turns.new.cursor.at in
+    let inner = c.walk_block-in-turns.new.path.items in
     let none = c.in_default.is in
     let on : truth b (atom_from x k) ≡ true = ap (λ y. truth b (atom_from y k)) (sym c.turns.invariant.string) ∙ sym c.holds-in-turns.ensures ∙ c.turns-test.true in
-    let at = c.in_ok-push_number-in-While.ensures ∙ ap (λ p. p ++ 0 ∷ []) c.turns.invariant.back in
-    let walked = c.in_ok-turn-in-While.ensures.walked in
-    let end = block_end x c.turns.cursor.string.now base pushed inner 0 f k l c.in_ok-turn-in-While.turn c.turns.invariant.string at (rw (← c.deref-in-turns.ensures.value) walked) in
-    let later : k < l = omega (arith, c.walk_list-in-turns.ensures.onward, c.if-cursor-before.false) in
+    let end = block_end x c.turns.cursor.string.now base c.turns.path.items inner 0 f k l c.in_ok-turn-in-While.turn c.turns.invariant.string c.turns.invariant.back c.in_ok-turn-in-While.ensures.walked in
+    let later : k < l = omega (arith, c.walk_block-in-turns.ensures.onward, c.if-cursor-before.false) in
     record {
       whole = c.turns.invariant.whole ∙ turn_ended x base b f k on l later (part_over c.in_ok-turn-in-While.turn l inner _ none end);
-      back = path_left base pushed inner c.leave-in-turns.new.path.items 0 at (c.in_ok-turn-in-While.ensures.back none) (c.leave-in-turns.ensures.left none);
-      string = c.walk_list-in-turns.ensures.string ∙ c.turns.invariant.string;
-      onward = omega (arith, c.turns.invariant.onward, c.walk_list-in-turns.ensures.onward);
+      back = c.in_ok-turn-in-While.ensures.back none ∙ c.turns.invariant.back;
+      string = c.walk_block-in-turns.ensures.string ∙ c.turns.invariant.string;
+      onward = omega (arith, c.turns.invariant.onward, c.walk_block-in-turns.ensures.onward);
     }
 
 pub walk_stmt-returns-in-Some-clause-walked : goal.walk_stmt-returns-in-Some-clause-walked
@@ -66,45 +80,37 @@ walk_stmt-returns-in-Some-clause-walked t c =
     let x = c.args.cursor.now.string.now in
     let base = c.args.path.now.items in
     let b = test_tree c.in-While.b in
-    let f = flows_tree c.f-in-While.inside.list.items in
+    let f = c.in-While.f in
     let k = c.turns.cursor.at in
-    let l = c.walk_list-in-turns.new.cursor.at in
-    let inner = c.walk_list-in-turns.new.path.items in
-    let pushed = c.push_number-in-turns.new.path.items in
+    let l = c.walk_block-in-turns.new.cursor.at in
+    let inner = c.walk_block-in-turns.new.path.items in
     let on : truth b (atom_from x k) ≡ true = ap (λ y. truth b (atom_from y k)) (sym c.turns.invariant.string) ∙ sym c.holds-in-turns.ensures ∙ c.turns-test.true in
-    let at = c.in_ok-push_number-in-While.ensures ∙ ap (λ p. p ++ 0 ∷ []) c.turns.invariant.back in
-    let walked = c.in_ok-turn-in-While.ensures.walked in
-    let end = block_end x c.turns.cursor.string.now base pushed inner 0 f k l c.in_ok-turn-in-While.turn c.turns.invariant.string at (rw (← c.deref-in-turns.ensures.value) walked) in
-    rw (c.in-While.is, ← c.f-in-While.view_is)
-    (path_kept c.in_ok-turn-in-While.turn l c.leave-in-turns.new.path.items inner _ c.in-Some.stop c.in-Some.is (c.leave-in-turns.ensures.kept l)
-    (sym (c.turns.invariant.whole ∙ turn_stopped x base b f k on c.in-Some.stop l inner (part_halted c.in_ok-turn-in-While.turn l inner _ c.in-Some.stop c.in-Some.is end))))
+    let end = block_end x c.turns.cursor.string.now base c.turns.path.items inner 0 f k l c.in_ok-turn-in-While.turn c.turns.invariant.string c.turns.invariant.back c.in_ok-turn-in-While.ensures.walked in
+    rw c.in-While.is
+    (sym (c.turns.invariant.whole ∙ turn_stopped x base b f k on c.in-Some.stop l inner (part_halted c.in_ok-turn-in-While.turn l inner _ c.in-Some.stop c.in-Some.is end)))
 
 pub walk_stmt-returns-then-cursor-before-clause-walked : goal.walk_stmt-returns-then-cursor-before-clause-walked
 walk_stmt-returns-then-cursor-before-clause-walked t c =
     let x = c.args.cursor.now.string.now in
     let base = c.args.path.now.items in
     let b = test_tree c.in-While.b in
-    let f = flows_tree c.f-in-While.inside.list.items in
+    let f = c.in-While.f in
     let k = c.turns.cursor.at in
-    let l = c.walk_list-in-turns.new.cursor.at in
-    let inner = c.walk_list-in-turns.new.path.items in
-    let pushed = c.push_number-in-turns.new.path.items in
-    let left = c.leave-in-turns.new.path.items in
+    let l = c.walk_block-in-turns.new.cursor.at in
+    let inner = c.walk_block-in-turns.new.path.items in
     let none = c.in_default.is in
     let on : truth b (atom_from x k) ≡ true = ap (λ y. truth b (atom_from y k)) (sym c.turns.invariant.string) ∙ sym c.holds-in-turns.ensures ∙ c.turns-test.true in
-    let at = c.in_ok-push_number-in-While.ensures ∙ ap (λ p. p ++ 0 ∷ []) c.turns.invariant.back in
-    let walked = c.in_ok-turn-in-While.ensures.walked in
-    let end = block_end x c.turns.cursor.string.now base pushed inner 0 f k l c.in_ok-turn-in-While.turn c.turns.invariant.string at (rw (← c.deref-in-turns.ensures.value) walked) in
-    let back = path_left base pushed inner left 0 at (c.in_ok-turn-in-While.ensures.back none) (c.leave-in-turns.ensures.left none) in
-    rw (c.in-While.is, ← c.f-in-While.view_is)
-    (turn_repeats x base b f k on l left c.if-cursor-before.true back (part_over c.in_ok-turn-in-While.turn l inner _ none end) ∙ sym c.turns.invariant.whole)
+    let end = block_end x c.turns.cursor.string.now base c.turns.path.items inner 0 f k l c.in_ok-turn-in-While.turn c.turns.invariant.string c.turns.invariant.back c.in_ok-turn-in-While.ensures.walked in
+    rw c.in-While.is
+    (turn_repeats x base b f k on l inner c.if-cursor-before.true (c.in_ok-turn-in-While.ensures.back none ∙ c.turns.invariant.back) (part_over c.in_ok-turn-in-While.turn l inner _ none end)
+    ∙ sym c.turns.invariant.whole)
 
 pub walk_stmt-returns-after-turns-clause-walked : goal.walk_stmt-returns-after-turns-clause-walked
 walk_stmt-returns-after-turns-clause-walked t c =
     let x = c.args.cursor.now.string.now in
     let base = c.args.path.now.items in
     let b = test_tree c.in-While.b in
-    let f = flows_tree c.f-in-While.inside.list.items in
+    let f = c.in-While.f in
     let k = c.turns.cursor.at in
     let off : truth b (atom_from x k) ≡ false = ap (λ y. truth b (atom_from y k)) (sym c.turns.invariant.string) ∙ sym c.holds-in-turns.ensures ∙ c.turns-test.false in
-    rw (c.in-While.is, ← c.f-in-While.view_is) (sym (c.turns.invariant.whole ∙ loop_left x base b f k off))
+    rw c.in-While.is (sym (c.turns.invariant.whole ∙ loop_left x base b f k off))

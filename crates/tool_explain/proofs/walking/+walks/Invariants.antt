@@ -17,8 +17,8 @@ invariant-walk_list-loop-k l = record {
 -- the loop ends as the loop from here
 abbrev pub invariant-walk_stmt-turns : goal.invariant-walk_stmt-turns
 invariant-walk_stmt-turns l = record {
-  whole : loop_end l.initial.cursor.string.now l.initial.path.items (test_tree l.b) (flows_tree l.f-inside.list.items) l.initial.cursor.at
-      ≡ loop_end l.initial.cursor.string.now l.initial.path.items (test_tree l.b) (flows_tree l.f-inside.list.items) l.cursor.at;
+  whole : loop_end l.initial.cursor.string.now l.initial.path.items (test_tree l.b) l.f l.initial.cursor.at
+      ≡ loop_end l.initial.cursor.string.now l.initial.path.items (test_tree l.b) l.f l.cursor.at;
   back : l.path.items ≡ l.initial.path.items;
   string : l.cursor.string.now ≡ l.initial.cursor.string.now;
   onward : l.initial.cursor.at ≤ l.cursor.at;
