@@ -1,2 +1,3 @@
 pub mod Wanting
 pub mod Assigning
+pub mod Words

@@ -10,6 +10,7 @@ ghost use Rattle.flow_syntax.specs.Syntax as spelled;
 ghost use Rattle.flow_text.specs.ScopeViews.{sight_parts};
 ghost use Rattle.flow_syntax.specs.SyntaxViews.{tokens_syntax, exprs_syntax, cond_syntax, statement_syntax, statements_syntax};
 
+use crate::faults::{name_fault, repeat_fault, sort_fault};
 use crate::meaning::Meaning;
 use crate::resolve_cond::resolve_cond;
 use crate::resolve_expr::resolve_expr;
@@ -36,10 +37,10 @@ fn target_of(
     ensures { result ≡ target_of before.now (parts_of_token name.now) k sort }
 {
     match sort {
-        None => Err(TextFault::UnknownName(name.at)),
+        None => name_fault(name),
         Some(sort) => {
             if is_set(before, k) {
-                Err(TextFault::DoubleName(name.at))
+                repeat_fault(name)
             } else {
                 Ok((k, sort))
             }
@@ -55,12 +56,12 @@ fn next_target(
     ensures { result ≡ next_target (sight_parts sight.now) before.now (parts_of_token name.now) }
 {
     match sight.meaning(name) {
-        None => Err(TextFault::UnknownName(name.at)),
+        None => name_fault(name),
         Some(meaning) => match meaning {
             Meaning::Variable(k) => target_of(before, name, k, sort_at(sight.variables, k)),
-            Meaning::SortName(_) => Err(TextFault::Sort(name.at)),
-            Meaning::Function(_) => Err(TextFault::Sort(name.at)),
-            Meaning::GraphName(_) => Err(TextFault::Sort(name.at)),
+            Meaning::SortName(_) => sort_fault(name),
+            Meaning::Function(_) => sort_fault(name),
+            Meaning::GraphName(_) => sort_fault(name),
         },
     }
 }
@@ -150,7 +151,7 @@ fn assign(
 {
     let targets = targets(alloc, sight, names)?;
     if names.len() != exprs.len() {
-        return Err(TextFault::Sort(becomes.at));
+        return sort_fault(becomes);
     }
     assignment(alloc, sight, &targets, exprs)
 }

@@ -11,6 +11,7 @@ ghost use Rattle.flow_text.specs.ScopeViews.{sight_parts};
 ghost use Rattle.flow_syntax.specs.SyntaxViews.{exprs_syntax, cond_syntax, jump_syntax, block_syntax, blocks_syntax};
 
 use crate::check::{check_statements, resolve_all};
+use crate::faults::{limit_fault, name_fault, repeat_fault, sort_fault};
 use crate::limits::MAX_BLOCKS;
 use crate::resolve_cond::resolve_cond;
 use crate::sight::Sight;
@@ -60,7 +61,7 @@ fn block_named(names: &BTreeMap<String, usize>, name: &Token) -> Result<usize, T
 {
     match number_of(names, name) {
         Some(number) => Ok(number),
-        None => Err(TextFault::UnknownName(name.at)),
+        None => name_fault(name),
     }
 }
 
@@ -69,15 +70,15 @@ fn may_have_block(names: &BTreeMap<String, usize>, k: usize, name: &Token) -> Re
     ensures { result ≡ may_have_block k (parts_of_token name.now) (get_by_text names.now name.now.text.now) }
 {
     match number_of(names, name) {
-        None => Err(TextFault::UnknownName(name.at)),
+        None => name_fault(name),
         Some(first) => {
             if first != k {
-                return Err(TextFault::DoubleName(name.at));
+                return repeat_fault(name);
             }
             if k < MAX_BLOCKS {
                 return Ok(());
             }
-            Err(TextFault::TooMany(name.at))
+            limit_fault(name)
         }
     }
 }
@@ -93,7 +94,7 @@ fn return_of(
     ensures { Makes (Unit {0}) jump_of result (returned (sight_parts sight.now) (Some sorts.now) (parts_of_token word.now) (exprs_syntax exprs.now)) }
 {
     if sorts.len() != exprs.len() {
-        return Err(TextFault::Sort(word.at));
+        return sort_fault(word);
     }
     let values = resolve_all(alloc, sight, sorts, exprs)?;
     Ok(CheckedJump::Return(values))

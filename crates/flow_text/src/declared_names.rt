@@ -10,10 +10,33 @@ use std::alloc::Global;
 use text_parser::Token;
 
 /// The names of the variables and of the functions that a file declares, in the order of their declarations.
-#[derive(Drop)]
 pub(crate) struct DeclaredNames {
     pub(crate) variables: Vec<String>,
     pub(crate) functions: Vec<String>,
+}
+
+// Explicit, so that it is proved once and not at each end of each function that owns the names.
+impl Drop for DeclaredNames {
+    fn drop(self) {
+        let DeclaredNames {
+            variables: _variables,
+            functions: _functions,
+        } = self;
+    }
+}
+
+impl DeclaredNames {
+    /// Returns the names of the variables and those of the functions.
+    pub(crate) fn into_lists(self) -> (Vec<String>, Vec<String>)
+        ensures variables { result.0 ≡ self.variables }
+        ensures functions { result.1 ≡ self.functions }
+    {
+        let DeclaredNames {
+            variables,
+            functions,
+        } = self;
+        (variables, functions)
+    }
 }
 
 // Adds a name.

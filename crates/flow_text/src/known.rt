@@ -10,6 +10,7 @@ ghost use Rattle.flow_text.specs.KnownViews.{known_parts};
 ghost use Rattle.flow_syntax.specs.SyntaxViews.{tokens_syntax, blocks_syntax, item_syntax, items_syntax};
 
 use crate::check_blocks::check_graph;
+use crate::faults::{limit_fault, name_fault, repeat_fault, sort_fault};
 use crate::limits::MAX_PARAMETERS;
 use crate::meaning::Meaning;
 use crate::scope::Scope;
@@ -71,12 +72,12 @@ fn sort_meant(token: &Token, meaning: Option<Meaning>) -> Result<Sort, TextFault
     ensures { result ≡ sort_meant (parts_of_token token.now) meaning }
 {
     match meaning {
-        None => Err(TextFault::UnknownName(token.at)),
+        None => name_fault(token),
         Some(meaning) => match meaning {
             Meaning::SortName(k) => Ok(Sort::Opaque(k)),
-            Meaning::Function(_) => Err(TextFault::Sort(token.at)),
-            Meaning::Variable(_) => Err(TextFault::Sort(token.at)),
-            Meaning::GraphName(_) => Err(TextFault::Sort(token.at)),
+            Meaning::Function(_) => sort_fault(token),
+            Meaning::Variable(_) => sort_fault(token),
+            Meaning::GraphName(_) => sort_fault(token),
         },
     }
 }
@@ -98,7 +99,7 @@ fn next_parameter(scope: &Scope, token: &Token, count: usize) -> Result<Sort, Te
     if count < MAX_PARAMETERS {
         return Ok(sort);
     }
-    Err(TextFault::TooMany(token.at))
+    limit_fault(token)
 }
 
 #[tactic(auto, using(flow_syntax::proofs::Stacked::pushes, crate::proofs::KnownSteps::parameters, crate::proofs::LastTaken::last))]
@@ -123,9 +124,9 @@ fn few_rounds(token: &Token, number: Option<u64>) -> Result<u64, TextFault>
             if n < MAX_ROUNDS + 1 {
                 return Ok(n);
             }
-            Err(TextFault::TooMany(token.at))
+            limit_fault(token)
         }
-        None => Err(TextFault::TooMany(token.at)),
+        None => limit_fault(token),
     }
 }
 
@@ -133,12 +134,12 @@ fn graph_meant(token: &Token, meaning: Option<Meaning>) -> Result<usize, TextFau
     ensures { result ≡ graph_meant (parts_of_token token.now) meaning }
 {
     match meaning {
-        None => Err(TextFault::UnknownName(token.at)),
+        None => name_fault(token),
         Some(meaning) => match meaning {
             Meaning::GraphName(k) => Ok(k),
-            Meaning::SortName(_) => Err(TextFault::Sort(token.at)),
-            Meaning::Function(_) => Err(TextFault::Sort(token.at)),
-            Meaning::Variable(_) => Err(TextFault::Sort(token.at)),
+            Meaning::SortName(_) => sort_fault(token),
+            Meaning::Function(_) => sort_fault(token),
+            Meaning::Variable(_) => sort_fault(token),
         },
     }
 }
@@ -158,45 +159,45 @@ impl<'a> Known<'a> {
         }
     }
 
-    fn declare_sorts(&mut self, names: &[Token]) -> Result<(), TextFault>
-        ensures { Does (Unit {0}) result (known_parts self.new) (sorts_known (known_parts self.old) (tokens_syntax names.now)) }
+    fn declare_sorts(&mut self, names: Vec<Token>) -> Result<(), TextFault>
+        ensures { Does (Unit {0}) result (known_parts self.new) (sorts_known (known_parts self.old) (tokens_syntax names.entry.items)) }
     {
-        self.scope.declare_sorts(names)?;
+        self.scope.declare_sorts(&names)?;
         Ok(())
     }
 
     fn declare_function(
         &mut self,
-        result_sort: &Token,
-        name: &Token,
-        parameters: &[Token],
+        result_sort: Token,
+        name: Token,
+        parameters: Vec<Token>,
     ) -> Result<(), TextFault>
-        ensures { Does (Unit {0}) result (known_parts self.new) (function_known (known_parts self.old) (parts_of_token result_sort.now) (parts_of_token name.now) (tokens_syntax parameters.now)) }
+        ensures { Does (Unit {0}) result (known_parts self.new) (function_known (known_parts self.old) (parts_of_token result_sort.entry) (parts_of_token name.entry) (tokens_syntax parameters.entry.items)) }
     {
-        let result_sort = sort_named(&self.scope, result_sort)?;
-        self.scope.may_have_function(name)?;
-        let parameters = parameter_sorts(self.alloc, &self.scope, parameters)?;
-        self.scope.declare_function(name, result_sort, parameters)?;
+        let result_sort = sort_named(&self.scope, &result_sort)?;
+        self.scope.may_have_function(&name)?;
+        let parameters = parameter_sorts(self.alloc, &self.scope, &parameters)?;
+        self.scope.declare_function(&name, result_sort, parameters)?;
         Ok(())
     }
 
-    fn declare_variables(&mut self, sort: &Token, names: &[Token]) -> Result<(), TextFault>
-        ensures { Does (Unit {0}) result (known_parts self.new) (variables_known (known_parts self.old) (parts_of_token sort.now) (tokens_syntax names.now)) }
+    fn declare_variables(&mut self, sort: Token, names: Vec<Token>) -> Result<(), TextFault>
+        ensures { Does (Unit {0}) result (known_parts self.new) (variables_known (known_parts self.old) (parts_of_token sort.entry) (tokens_syntax names.entry.items)) }
     {
-        let sort = sort_named(&self.scope, sort)?;
-        self.scope.declare_variables(sort, names)?;
+        let sort = sort_named(&self.scope, &sort)?;
+        self.scope.declare_variables(sort, &names)?;
         Ok(())
     }
 
     fn add_graph(
         &mut self,
-        word: &Token,
-        name: &Token,
+        word: Token,
+        name: Token,
         blocks: Vec<Block<'a>>,
     ) -> Result<(), TextFault>
-        ensures { Does (Unit {0}) result (known_parts self.new) (graph_known (known_parts self.old) (parts_of_token word.now) (parts_of_token name.now) (blocks_syntax blocks.entry.items)) }
+        ensures { Does (Unit {0}) result (known_parts self.new) (graph_known (known_parts self.old) (parts_of_token word.entry) (parts_of_token name.entry) (blocks_syntax blocks.entry.items)) }
     {
-        self.scope.may_have_graph(name)?;
+        self.scope.may_have_graph(&name)?;
         let sight = sight_of_all(&self.scope);
         let _ = check_graph(self.alloc, &sight, None, &blocks)?;
         let Some(nodes) = nodes_with(self.nodes, &blocks) else {
@@ -209,44 +210,44 @@ impl<'a> Known<'a> {
             graphs: self.scope.graphs,
             blocks,
         };
-        self.scope.declare_graph(name, self.graphs.len())?;
+        self.scope.declare_graph(&name, self.graphs.len())?;
         append(&mut self.graphs, graph)?;
         self.scope.graphs = self.graphs.len();
         self.nodes = nodes;
         Ok(())
     }
 
-    fn set_rounds(&mut self, word: &Token, number: &Token) -> Result<(), TextFault>
-        ensures { Does (Unit {0}) result (known_parts self.new) (rounds_known (known_parts self.old) (parts_of_token word.now) (parts_of_token number.now)) }
+    fn set_rounds(&mut self, word: Token, number: Token) -> Result<(), TextFault>
+        ensures { Does (Unit {0}) result (known_parts self.new) (rounds_known (known_parts self.old) (parts_of_token word.entry) (parts_of_token number.entry)) }
     {
         match self.rounds {
-            Some(_) => Err(TextFault::DoubleName(word.at)),
+            Some(_) => repeat_fault(&word),
             None => {
-                let rounds = few_rounds(number, spelled_number(number))?;
+                let rounds = few_rounds(&number, spelled_number(&number))?;
                 self.rounds = Some(rounds);
                 Ok(())
             }
         }
     }
 
-    fn set_split(&mut self, word: &Token) -> Result<(), TextFault>
-        ensures { Does (Unit {0}) result (known_parts self.new) (split_known (known_parts self.old) (parts_of_token word.now)) }
+    fn set_split(&mut self, word: Token) -> Result<(), TextFault>
+        ensures { Does (Unit {0}) result (known_parts self.new) (split_known (known_parts self.old) (parts_of_token word.entry)) }
     {
         if self.splits {
-            return Err(TextFault::DoubleName(word.at));
+            return repeat_fault(&word);
         }
         self.splits = true;
         Ok(())
     }
 
-    fn set_goal(&mut self, word: &Token, before: &Token, after: &Token) -> Result<(), TextFault>
-        ensures { Does (Unit {0}) result (known_parts self.new) (goal_known (known_parts self.old) (parts_of_token word.now) (parts_of_token before.now) (parts_of_token after.now)) }
+    fn set_goal(&mut self, word: Token, before: Token, after: Token) -> Result<(), TextFault>
+        ensures { Does (Unit {0}) result (known_parts self.new) (goal_known (known_parts self.old) (parts_of_token word.entry) (parts_of_token before.entry) (parts_of_token after.entry)) }
     {
         match self.goal {
             Some(_) => Err(TextFault::TwoGoals(word.at)),
             None => {
-                let before = graph_meant(before, self.scope.meaning(before))?;
-                let after = graph_meant(after, self.scope.meaning(after))?;
+                let before = graph_meant(&before, self.scope.meaning(&before))?;
+                let after = graph_meant(&after, self.scope.meaning(&after))?;
                 self.goal = Some((before, after));
                 Ok(())
             }
@@ -274,15 +275,15 @@ impl<'a> Known<'a> {
         ensures { Does (Unit {0}) result (known_parts self.new) (item_known (known_parts self.old) (item_syntax item.entry)) }
     {
         match item {
-            Item::Sorts(_, names) => self.declare_sorts(&names),
+            Item::Sorts(_, names) => self.declare_sorts(names),
             Item::Function(_, result_sort, name, parameters) => {
-                self.declare_function(&result_sort, &name, &parameters)
+                self.declare_function(result_sort, name, parameters)
             }
-            Item::Variables(_, sort, names) => self.declare_variables(&sort, &names),
-            Item::Graph(word, name, blocks) => self.add_graph(&word, &name, blocks),
-            Item::Rounds(word, number) => self.set_rounds(&word, &number),
-            Item::Split(word) => self.set_split(&word),
-            Item::Equal(word, before, after) => self.set_goal(&word, &before, &after),
+            Item::Variables(_, sort, names) => self.declare_variables(sort, names),
+            Item::Graph(word, name, blocks) => self.add_graph(word, name, blocks),
+            Item::Rounds(word, number) => self.set_rounds(word, number),
+            Item::Split(word) => self.set_split(word),
+            Item::Equal(word, before, after) => self.set_goal(word, before, after),
         }
     }
 }

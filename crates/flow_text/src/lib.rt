@@ -4,6 +4,7 @@
 mod check;
 mod check_blocks;
 mod declared_names;
+mod faults;
 mod known;
 mod laws;
 mod limits;

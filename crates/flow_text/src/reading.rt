@@ -159,6 +159,7 @@ fn file_with_goal(
     let graphs = whole_graphs(alloc, &known.scope, goal, &known.graphs)?;
     let rounds = rounds_or_one(known.rounds);
     let splits = known.splits;
+    let (variable_names, function_names) = names.into_lists();
     Ok(FlowFile {
         sorts: known.into_variables(),
         graphs,
@@ -166,8 +167,8 @@ fn file_with_goal(
         after: goal.1,
         rounds,
         splits,
-        variable_names: names.variables,
-        function_names: names.functions,
+        variable_names,
+        function_names,
     })
 }
 

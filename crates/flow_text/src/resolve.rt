@@ -2,12 +2,13 @@
 ghost use Rattle.std.specs.Prelude.{◌≡◌, [], ◌∷◌, ◌++◌, map, Ok, Some, IfSome, IfNone, OnOk};
 ghost use Rattle.text_parser.specs.TokenParts.{parts_of_token};
 ghost use Rattle.text_parser.specs.Parsed.{Makes};
-ghost use Rattle.flow_text.specs.Resolving.{operand, number_in, number_of_width, with_sort_wanted, application_of, function_in, variable_in, conversion_in, operator_on, operator_in, with_parameters, with_operand, node_in, sort_wanted, next_node, resolved};
-ghost use Rattle.flow_text.specs.Scopes.{meaning, width_named};
+ghost use Rattle.flow_text.specs.Resolving.{operand, second_operand, number_in, number_of_width, with_sort_wanted, application_of, function_in, variable_in, conversion_in, operator_on, operator_in, with_parameters, with_operand, node_in, sort_wanted, next_node, resolved};
+ghost use Rattle.flow_text.specs.Scopes.{meaning_in, width_named};
 ghost use Rattle.flow_text.specs.ScopeViews.{function_of, sight_parts};
 ghost use Rattle.flow_syntax.specs.SyntaxViews.{node_syntax, expr_syntax};
 ghost use Rattle.flow_text.specs.Working.Wanting.{wanted_syntax, wanted_stack, Gives};
 
+use crate::faults::{name_fault, sort_fault, width_fault};
 use crate::meaning::Meaning;
 use crate::scope::Function;
 use crate::sight::{Sight, function_at, sort_at, sort_or_u64, width_named};
@@ -31,6 +32,12 @@ fn push_wanted<'a>(stack: &mut Vec<Wanted<'a>>, wanted: Wanted<'a>) -> Result<()
     append(stack, wanted)
 }
 
+fn push_operand(stack: &mut Vec<Wanted>, sort: Sort) -> Result<(), NoMemory>
+    ensures { OnOk result (wanted_stack stack.new.items ≡ operand sort ∷ wanted_stack stack.old.items) }
+{
+    push_wanted(stack, Wanted::Operand(sort))
+}
+
 #[tactic(auto, using(crate::proofs::WantedStacks::wants))]
 fn pop_wanted<'a>(stack: &mut Vec<Wanted<'a>>) -> Option<Wanted<'a>>
     ensures some { IfSome result (λ wanted. wanted_stack stack.old.items ≡ wanted_syntax wanted ∷ wanted_stack stack.new.items) }
@@ -46,7 +53,7 @@ fn push_operands(stack: &mut Vec<Wanted>, sorts: &[Sort]) -> Result<(), NoMemory
     let mut left = sorts.len();
     'sorts: while left > 0 {
         left -= 1;
-        push_wanted(stack, Wanted::Operand(sorts[left]))?;
+        push_operand(stack, sorts[left])?;
     }
     Ok(())
 }
@@ -57,7 +64,7 @@ fn sort_wanted(wanted: Wanted) -> Result<Sort, TextFault>
     match wanted {
         Wanted::Operand(sort) => Ok(sort),
         Wanted::SecondOperand(operator, sort) => match sort {
-            Sort::Opaque(_) => Err(TextFault::Sort(operator.at)),
+            Sort::Opaque(_) => sort_fault(&operator),
             Sort::Number(width) => Ok(Sort::Number(width)),
         },
     }
@@ -67,12 +74,12 @@ fn number_of_width(width: Width, token: &Token, number: Option<u64>) -> Result<E
     ensures { result ≡ number_of_width width (parts_of_token token.now) number }
 {
     match number {
-        None => Err(TextFault::NumberTooWide(token.at)),
+        None => width_fault(token),
         Some(n) => {
             if n <= width.greatest() {
                 Ok(ExprNode::Number(width, n))
             } else {
-                Err(TextFault::NumberTooWide(token.at))
+                width_fault(token)
             }
         }
     }
@@ -82,7 +89,7 @@ fn number_in(wanted: Sort, token: &Token) -> Result<ExprNode, TextFault>
     ensures { result ≡ number_in wanted (parts_of_token token.now) }
 {
     match wanted {
-        Sort::Opaque(_) => Err(TextFault::Sort(token.at)),
+        Sort::Opaque(_) => sort_fault(token),
         Sort::Number(width) => number_of_width(width, token, spelled_number(token)),
     }
 }
@@ -97,32 +104,27 @@ fn with_sort_wanted(
     ensures { result ≡ with_sort_wanted wanted (parts_of_token token.now) (ExprNode.Variable variable) sort }
 {
     match sort {
-        None => Err(TextFault::UnknownName(token.at)),
+        None => name_fault(token),
         Some(sort) => {
             if sort == wanted {
                 Ok(ExprNode::Variable(variable))
             } else {
-                Err(TextFault::Sort(token.at))
+                sort_fault(token)
             }
         }
     }
 }
 
-fn variable_in(
-    sight: &Sight,
-    wanted: Sort,
-    token: &Token,
-    meaning: Option<Meaning>,
-) -> Result<ExprNode, TextFault>
-    ensures { result ≡ variable_in (sight_parts sight.now) wanted (parts_of_token token.now) meaning }
+fn variable_in(sight: &Sight, wanted: Sort, token: &Token) -> Result<ExprNode, TextFault>
+    ensures { result ≡ variable_in (sight_parts sight.now) wanted (parts_of_token token.now) (meaning_in (sight_parts sight.now) (parts_of_token token.now)) }
 {
-    match meaning {
-        None => Err(TextFault::UnknownName(token.at)),
+    match sight.meaning(token) {
+        None => name_fault(token),
         Some(meaning) => match meaning {
             Meaning::Variable(k) => with_sort_wanted(wanted, token, k, sort_at(sight.variables, k)),
-            Meaning::SortName(_) => Err(TextFault::Sort(token.at)),
-            Meaning::Function(_) => Err(TextFault::Sort(token.at)),
-            Meaning::GraphName(_) => Err(TextFault::Sort(token.at)),
+            Meaning::SortName(_) => sort_fault(token),
+            Meaning::Function(_) => sort_fault(token),
+            Meaning::GraphName(_) => sort_fault(token),
         },
     }
 }
@@ -142,7 +144,7 @@ fn apply_function(
         push_operands(stack, &function.parameters)?;
         return Ok(ExprNode::Applied(k, function.result_sort, count));
     }
-    Err(TextFault::Sort(token.at))
+    sort_fault(token)
 }
 
 fn function_in(
@@ -150,21 +152,20 @@ fn function_in(
     wanted: Sort,
     token: &Token,
     count: usize,
-    meaning: Option<Meaning>,
     stack: &mut Vec<Wanted>,
 ) -> Result<ExprNode, TextFault>
-    ensures { Gives result (wanted_stack stack.new.items) (with_parameters (wanted_stack stack.old.items) (function_in (sight_parts sight.now) wanted (parts_of_token token.now) count meaning)) }
+    ensures { Gives result (wanted_stack stack.new.items) (with_parameters (wanted_stack stack.old.items) (function_in (sight_parts sight.now) wanted (parts_of_token token.now) count (meaning_in (sight_parts sight.now) (parts_of_token token.now)))) }
 {
-    match meaning {
-        None => Err(TextFault::UnknownName(token.at)),
+    match sight.meaning(token) {
+        None => name_fault(token),
         Some(meaning) => match meaning {
             Meaning::Function(k) => match function_at(sight.functions, k) {
-                None => Err(TextFault::UnknownName(token.at)),
+                None => name_fault(token),
                 Some(function) => apply_function(wanted, token, count, k, function, stack),
             },
-            Meaning::SortName(_) => Err(TextFault::Sort(token.at)),
-            Meaning::Variable(_) => Err(TextFault::Sort(token.at)),
-            Meaning::GraphName(_) => Err(TextFault::Sort(token.at)),
+            Meaning::SortName(_) => sort_fault(token),
+            Meaning::Variable(_) => sort_fault(token),
+            Meaning::GraphName(_) => sort_fault(token),
         },
     }
 }
@@ -179,14 +180,14 @@ fn conversion_in(
     ensures { result ≡ conversion_in wanted (parts_of_token token.now) word operand }
 {
     match word {
-        None => Err(TextFault::Sort(token.at)),
+        None => sort_fault(token),
         Some((signed, to)) => match operand {
-            Sort::Opaque(_) => Err(TextFault::Sort(token.at)),
+            Sort::Opaque(_) => sort_fault(token),
             Sort::Number(from) => {
                 if Sort::Number(to) == wanted {
                     Ok((ExprNode::Converted(signed, from, to), from))
                 } else {
-                    Err(TextFault::Sort(token.at))
+                    sort_fault(token)
                 }
             }
         },
@@ -212,18 +213,31 @@ fn operator_in(wanted: Sort, text: &str) -> ExprNode
     }
 }
 
-// Returns the conversion, and pushes its operand.
-fn convert<'a>(
+// Returns the conversion of an operand of this sort, and pushes the operand.
+fn convert(
     wanted: Sort,
-    word: Token<'a>,
+    word: &Token,
     sort: Sort,
+    stack: &mut Vec<Wanted>,
+) -> Result<ExprNode, TextFault>
+    ensures { Gives result (wanted_stack stack.new.items) (with_operand (wanted_stack stack.old.items) (conversion_in wanted (parts_of_token word.now) (width_named word.now.text.now) sort)) }
+{
+    let (made, from) = conversion_in(wanted, word, width_named(word.text), sort)?;
+    push_operand(stack, Sort::Number(from))?;
+    Ok(made)
+}
+
+// Returns the operator, and pushes its operands.
+fn operate<'a>(
+    wanted: Sort,
+    operator: &Token<'a>,
     stack: &mut Vec<Wanted<'a>>,
 ) -> Result<ExprNode, TextFault>
-    ensures { Gives result (wanted_stack stack.new.items) (with_operand (wanted_stack stack.old.items) (conversion_in wanted (parts_of_token word.entry) (width_named word.entry.text.now) sort)) }
+    ensures { Gives result (wanted_stack stack.new.items) (Ok (operator_in wanted operator.now.text.now, operand wanted ∷ second_operand (parts_of_token operator.now) wanted ∷ wanted_stack stack.old.items)) }
 {
-    let (made, from) = conversion_in(wanted, &word, width_named(word.text), sort)?;
-    push_wanted(stack, Wanted::Operand(Sort::Number(from)))?;
-    Ok(made)
+    push_wanted(stack, Wanted::SecondOperand(*operator, wanted))?;
+    push_operand(stack, wanted)?;
+    Ok(operator_in(wanted, operator.text))
 }
 
 // Returns the node where a sort is wanted, and pushes what is wanted of its operands.
@@ -235,21 +249,15 @@ fn node_in<'a>(
 ) -> Result<ExprNode, TextFault>
     ensures { Gives result (wanted_stack stack.new.items) (node_in (sight_parts sight.now) wanted (wanted_stack stack.old.items) (node_syntax node.now)) }
 {
-    match *node {
-        Node::Numeral(token) => number_in(wanted, &token),
-        Node::Named(name) => variable_in(sight, wanted, &name, sight.meaning(&name)),
-        Node::Called(name, count) => {
-            function_in(sight, wanted, &name, count, sight.meaning(&name), stack)
-        }
+    match node {
+        Node::Numeral(token) => number_in(wanted, token),
+        Node::Named(name) => variable_in(sight, wanted, name),
+        Node::Called(name, count) => function_in(sight, wanted, name, *count, stack),
         Node::Converted(word, first) => {
             let sort = sort_or_u64(sight.sort_of_first(first));
             convert(wanted, word, sort, stack)
         }
-        Node::Operation(operator) => {
-            push_wanted(stack, Wanted::SecondOperand(operator, wanted))?;
-            push_wanted(stack, Wanted::Operand(wanted))?;
-            Ok(operator_in(wanted, operator.text))
-        }
+        Node::Operation(operator) => operate(wanted, operator, stack),
     }
 }
 
@@ -276,7 +284,7 @@ pub(crate) fn resolve<'a>(
     ensures { Makes (Unit {0}) (λ v. v.items) result (resolved (sight_parts sight.now) wanted (expr_syntax expr.now)) }
 {
     let mut stack = Vec::new(alloc);
-    push_wanted(&mut stack, Wanted::Operand(wanted))?;
+    push_operand(&mut stack, wanted)?;
     let mut nodes = Vec::new(alloc);
     let mut rest = expr;
     'nodes: while let Some((node, _)) = rest.split_last() {

@@ -5,8 +5,10 @@ ghost use Rattle.text_parser.specs.Parsed.{Makes};
 ghost use Rattle.flow_text.specs.Trees.{cond_part, cond_of};
 ghost use Rattle.flow_text.specs.Resolving.{rel_named, sort_of_sides, signed_rel_named, relation_on, width_of_sort, comparison_of, signed_comparison_of, part_of, parts_after, condition_of};
 ghost use Rattle.flow_text.specs.ScopeViews.{sight_parts};
+ghost use Rattle.flow_text.specs.Working.Words.{listed_rel};
 ghost use Rattle.flow_syntax.specs.SyntaxViews.{cond_node_syntax, cond_syntax, expr_syntax};
 
+use crate::faults::sort_fault;
 use crate::resolve_expr::resolve_expr;
 use crate::sight::Sight;
 use flow_model::Sort;
@@ -15,28 +17,39 @@ use kat_model::{Rel, Width, append};
 use std::alloc::Global;
 use text_parser::{TextFault, Token};
 
+/// The symbols of relations, but for that of `Ge`.
+const RELATIONS: &[(&str, Rel)] = &[
+    ("==", Rel::Eq),
+    ("!=", Rel::Ne),
+    ("<", Rel::Lt),
+    ("<=", Rel::Le),
+    (">", Rel::Gt),
+];
+
+/// The words of signed relations, but for that of `Ge`.
+const SIGNED_RELATIONS: &[(&str, Rel)] = &[("slt", Rel::Lt), ("sle", Rel::Le), ("sgt", Rel::Gt)];
+
+fn listed_rel(list: &[(&str, Rel)], other: Rel, text: &str) -> Rel
+    ensures { result ≡ listed_rel list.now other text.now }
+{
+    for (listed, rel) in list {
+        if text == *listed {
+            return *rel;
+        }
+    }
+    other
+}
+
 fn rel_named(text: &str) -> Rel
     ensures { result ≡ rel_named text.now }
 {
-    match text.as_bytes() {
-        b"==" => Rel::Eq,
-        b"!=" => Rel::Ne,
-        b"<" => Rel::Lt,
-        b"<=" => Rel::Le,
-        b">" => Rel::Gt,
-        _ => Rel::Ge,
-    }
+    listed_rel(RELATIONS, Rel::Ge, text)
 }
 
 fn signed_rel_named(text: &str) -> Rel
     ensures { result ≡ signed_rel_named text.now }
 {
-    match text.as_bytes() {
-        b"slt" => Rel::Lt,
-        b"sle" => Rel::Le,
-        b"sgt" => Rel::Gt,
-        _ => Rel::Ge,
-    }
+    listed_rel(SIGNED_RELATIONS, Rel::Ge, text)
 }
 
 fn relation_on(sort: Sort, token: &Token, rel: Rel) -> Result<Rel, TextFault>
@@ -47,7 +60,7 @@ fn relation_on(sort: Sort, token: &Token, rel: Rel) -> Result<Rel, TextFault>
         Sort::Opaque(_) => match rel {
             Rel::Eq => Ok(Rel::Eq),
             Rel::Ne => Ok(Rel::Ne),
-            _ => Err(TextFault::Sort(token.at)),
+            _ => sort_fault(token),
         },
     }
 }
@@ -57,7 +70,7 @@ fn width_of_sort(sort: Sort, token: &Token) -> Result<Width, TextFault>
 {
     match sort {
         Sort::Number(width) => Ok(width),
-        Sort::Opaque(_) => Err(TextFault::Sort(token.at)),
+        Sort::Opaque(_) => sort_fault(token),
     }
 }
 

@@ -64,7 +64,7 @@ fn first_sorts(sorts: &mut [Option<Sort>], sight: &Sight, exprs: &[Vec<Node>])
         let Some((expr, _)) = rest.split_last() else {
             return;
         };
-        *sort = first_sort(*sort, sight.sort_of_first(first_name(expr)));
+        *sort = first_sort(*sort, sight.sort_of_first(&first_name(expr)));
         rest = &rest[..rest.len() - 1];
     }
 }
@@ -81,7 +81,7 @@ fn named_sorts(
     let mut known = Vec::new(alloc);
     let mut rest = exprs;
     'exprs: while let Some((expr, _)) = rest.split_last() {
-        append(&mut known, sight.sort_of_first(first_name(expr)))?;
+        append(&mut known, sight.sort_of_first(&first_name(expr)))?;
         rest = &rest[..rest.len() - 1];
     }
     Ok(known)

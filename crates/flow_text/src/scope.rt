@@ -6,6 +6,7 @@ ghost use Rattle.flow_text.specs.Scopes.{no_names, meaning, may_declare, with_so
 ghost use Rattle.flow_syntax.specs.SyntaxViews.{tokens_syntax};
 ghost use Rattle.flow_text.specs.ScopeViews.{scope_parts};
 
+use crate::faults::{limit_fault, repeat_fault};
 use crate::limits::{MAX_FUNCTIONS, MAX_SORTS, MAX_VARIABLES};
 use crate::meaning::Meaning;
 use crate::names::Names;
@@ -82,12 +83,12 @@ impl Scope {
         ensures within { OnOk result (count < limit) }
     {
         match self.meaning(name) {
-            Some(_) => Err(TextFault::DoubleName(name.at)),
+            Some(_) => repeat_fault(name),
             None => {
                 if count < limit {
                     Ok(())
                 } else {
-                    Err(TextFault::TooMany(name.at))
+                    limit_fault(name)
                 }
             }
         }

@@ -3,8 +3,9 @@ ghost use Rattle.std.specs.Prelude.{◌≡◌, slice_get};
 ghost use Rattle.std.specs.Option.{option_map};
 ghost use Rattle.text_parser.specs.TokenParts.{parts_of_token};
 ghost use Rattle.flow_text.specs.Scopes.{is_declared, meaning_in, width_named};
-ghost use Rattle.flow_text.specs.Resolving.{sort_of_meaning, sort_of_word, sort_of_first, sort_or_u64, sort_of_sides};
+ghost use Rattle.flow_text.specs.Resolving.{result_of, sort_of_meaning, sort_of_word, sort_of_first, sort_or_u64, sort_of_sides};
 ghost use Rattle.flow_text.specs.ScopeViews.{function_of, functions_of, scope_parts, sight_parts};
+ghost use Rattle.flow_text.specs.Working.Words.{listed_width};
 ghost use Rattle.flow_syntax.specs.SyntaxViews.{first_syntax, expr_syntax};
 
 use crate::meaning::Meaning;
@@ -38,21 +39,34 @@ pub(crate) fn sight_of_all<'s>(scope: &'s Scope) -> Sight<'s>
     }
 }
 
+/// The words that name widths, with whether each names a signed one.
+const WIDTHS: &[(&str, (bool, Width))] = &[
+    ("u8", (false, Width::W8)),
+    ("u16", (false, Width::W16)),
+    ("u32", (false, Width::W32)),
+    ("u64", (false, Width::W64)),
+    ("s8", (true, Width::W8)),
+    ("s16", (true, Width::W16)),
+    ("s32", (true, Width::W32)),
+    ("s64", (true, Width::W64)),
+];
+
+fn listed_width(list: &[(&str, (bool, Width))], text: &str) -> Option<(bool, Width)>
+    ensures { result ≡ listed_width list.now text.now }
+{
+    for (listed, width) in list {
+        if text == *listed {
+            return Some(*width);
+        }
+    }
+    None
+}
+
 /// Returns the width that a word names, if it does, and whether it names a signed one.
 pub(crate) fn width_named(text: &str) -> Option<(bool, Width)>
     ensures { result ≡ width_named text.now }
 {
-    match text {
-        "u8" => Some((false, Width::W8)),
-        "u16" => Some((false, Width::W16)),
-        "u32" => Some((false, Width::W32)),
-        "u64" => Some((false, Width::W64)),
-        "s8" => Some((true, Width::W8)),
-        "s16" => Some((true, Width::W16)),
-        "s32" => Some((true, Width::W32)),
-        "s64" => Some((true, Width::W64)),
-        _ => None,
-    }
+    listed_width(WIDTHS, text)
 }
 
 /// Returns the sort, or u64 if there is none.
@@ -87,6 +101,15 @@ pub(crate) fn function_at(functions: &[Function], k: usize) -> Option<&Function>
     ensures { option_map (λ f. function_of f.now) result ≡ slice_get (functions_of functions.now) k }
 {
     functions.get(k)
+}
+
+fn result_sort_at(functions: &[Function], k: usize) -> Option<Sort>
+    ensures { result ≡ result_of (slice_get (functions_of functions.now) k) }
+{
+    match function_at(functions, k) {
+        Some(function) => Some(function.result_sort),
+        None => None,
+    }
 }
 
 impl<'s> Sight<'s> {
@@ -124,10 +147,7 @@ impl<'s> Sight<'s> {
             None => None,
             Some(meaning) => match meaning {
                 Meaning::Variable(k) => sort_at(self.variables, k),
-                Meaning::Function(k) => match function_at(self.functions, k) {
-                    Some(function) => Some(function.result_sort),
-                    None => None,
-                },
+                Meaning::Function(k) => result_sort_at(self.functions, k),
                 Meaning::SortName(_) => None,
                 Meaning::GraphName(_) => None,
             },
@@ -135,12 +155,12 @@ impl<'s> Sight<'s> {
     }
 
     /// Returns the sort of the first name of an expression.
-    pub(crate) fn sort_of_first(&self, first: FirstName) -> Option<Sort>
-        ensures { result ≡ sort_of_first (sight_parts self.now) (first_syntax first.entry) }
+    pub(crate) fn sort_of_first(&self, first: &FirstName) -> Option<Sort>
+        ensures { result ≡ sort_of_first (sight_parts self.now) (first_syntax first.now) }
     {
         match first {
             FirstName::NoName => None,
-            FirstName::Name(name) => self.sort_of_meaning(self.meaning(&name)),
+            FirstName::Name(name) => self.sort_of_meaning(self.meaning(name)),
             FirstName::Word(word) => sort_of_word(width_named(word.text)),
         }
     }
@@ -150,6 +170,6 @@ impl<'s> Sight<'s> {
         ensures { result ≡ sort_of_sides (sight_parts self.now) (expr_syntax left.now) (expr_syntax right.now) }
     {
         let first = first_of(first_name(left), first_name(right));
-        sort_or_u64(self.sort_of_first(first))
+        sort_or_u64(self.sort_of_first(&first))
     }
 }

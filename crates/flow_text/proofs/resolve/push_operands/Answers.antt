@@ -5,7 +5,7 @@ use Rattle.flow_text.proofs.WantedStacks.{operand_before}
 use Rattle.flow_text.proofs.resolve.push_operands.Goals as goal
 
 pub sorts-preserved : goal.sorts-preserved
-sorts-preserved c = (omega arith, operand_before c.args.sorts.now c.sorts.left _ _ _ _ c.sorts-test.true c.sorts.invariant.0 c.in_ok-push_wanted.ensures c.sorts.invariant.1)
+sorts-preserved c = (omega arith, operand_before c.args.sorts.now c.sorts.left _ _ _ _ c.sorts-test.true c.sorts.invariant.0 c.in_ok-push_operand.ensures c.sorts.invariant.1)
 
 pub returns : goal.returns
 returns c =
