@@ -137,14 +137,13 @@ fn all_graphs(
 // Returns the graphs with their results, of which those of the goal have the same sorts.
 fn whole_graphs(
     alloc: Global,
-    scope: &Scope,
+    known: &Known,
     goal: (usize, usize),
-    graphs: &[WrittenGraph],
 ) -> Result<Vec<Vec<Block>>, TextFault>
-    ensures { Makes (Unit {0}) (λ v. graphs_of v.items) result (graphs_after (scope_parts scope.now) goal (shared_sorts (scope_parts scope.now) goal (map graph_syntax graphs.now)) [] (map graph_syntax graphs.now)) }
+    ensures { Makes (Unit {0}) (λ v. graphs_of v.items) result (graphs_after (known_parts known.now).scope goal (shared_sorts (known_parts known.now).scope goal (known_parts known.now).graphs) [] (known_parts known.now).graphs) }
 {
-    let shared = shared_sorts(alloc, scope, goal, graphs)?;
-    all_graphs(alloc, scope, goal, &shared, graphs)
+    let shared = shared_sorts(alloc, &known.scope, goal, &known.graphs)?;
+    all_graphs(alloc, &known.scope, goal, &shared, &known.graphs)
 }
 
 // Returns the file of what is known of all items, with its goal.
@@ -156,7 +155,7 @@ fn file_with_goal(
 ) -> Result<FlowFile, TextFault>
     ensures { Makes (Unit {0}) file_parts result (with_goal (map string_bytes names.variables.items) (map string_bytes names.functions.items) (known_parts known.entry) (Some goal)) }
 {
-    let graphs = whole_graphs(alloc, &known.scope, goal, &known.graphs)?;
+    let graphs = whole_graphs(alloc, &known, goal)?;
     let rounds = rounds_or_one(known.rounds);
     let splits = known.splits;
     let (variable_names, function_names) = names.into_lists();
