@@ -14,3 +14,4 @@ pub mod OneAnswer
 pub mod GkatPieces
 pub mod SeparateGkat
 pub mod PrintedGkat
+pub mod WrittenGkat

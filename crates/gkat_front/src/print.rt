@@ -1,5 +1,5 @@
 //! Prints expressions.
-ghost use Rattle.std.specs.Prelude.{◌≡◌, [], ◌++◌, codes, OnOk, IfOk};
+ghost use Rattle.std.specs.Prelude.{◌≡◌, [], ◌∷◌, ◌++◌, codes, if◌then◌else◌, OnOk, IfOk};
 ghost use Rattle.kat_model.specs.Trees.{test_tree};
 ghost use Rattle.text_parser.specs.Pieces.{spelled};
 ghost use Rattle.text_print.specs.Printing.{name_of};
@@ -7,7 +7,7 @@ ghost use Rattle.gkat_front.specs.Expressions.{test, gkat_tree};
 ghost use Rattle.gkat_front.specs.Printing.{is_loop, guard_text, gkat_text, gkat_pieces};
 
 use crate::gkat::Gkat;
-use kat_model::{NoMemory, Test};
+use kat_model::{NoMemory, Test, append};
 use std::alloc::Global;
 use text_parser::{Meaning, Scope};
 use text_print::{put_name, put_test};
@@ -48,41 +48,52 @@ fn is_loop(expr: &Gkat) -> bool
     matches!(expr, Gkat::Loop(_, _))
 }
 
+// Appends what is between the operands of a choice.
+fn put_choice_mark(out: &mut Vec<u8>, guard: &Test, scope: &Scope) -> Result<(), NoMemory>
+    ensures { OnOk result (out.new.items ≡ out.old.items ++ (codes " +" ++ guard_text (name_of scope.now) (test_tree guard.now) ++ codes " ")) }
+{
+    out.extend_from_slice(b" +")?;
+    put_guard(out, guard, scope)?;
+    append(out, b' ')
+}
+
+// Appends the bracket if it is needed.
+fn put_round(out: &mut Vec<u8>, bracket: u8, needed: bool) -> Result<(), NoMemory>
+    ensures { OnOk result (out.new.items ≡ out.old.items ++ (if needed then bracket ∷ [] else [])) }
+{
+    if needed {
+        return append(out, bracket);
+    }
+    Ok(())
+}
+
 fn put_gkat(out: &mut Vec<u8>, expr: &Gkat, scope: &Scope) -> Result<(), NoMemory>
     ensures { OnOk result (out.new.items ≡ out.old.items ++ gkat_text (name_of scope.now) (gkat_tree expr.now)) }
 {
     match expr {
-        Gkat::Test(b) => put_tested(out, b, scope)?,
-        Gkat::Act(a) => put_name(out, scope, Meaning::Action(*a))?,
+        Gkat::Test(b) => put_tested(out, b, scope),
+        Gkat::Act(a) => put_name(out, scope, Meaning::Action(*a)),
         Gkat::Seq(e, f) => {
-            out.push(b'(')?;
+            append(out, b'(')?;
             put_gkat(out, e, scope)?;
-            out.push(b'.')?;
+            append(out, b'.')?;
             put_gkat(out, f, scope)?;
-            out.push(b')')?;
+            append(out, b')')
         }
         Gkat::Choice(b, e, f) => {
-            out.push(b'(')?;
+            append(out, b'(')?;
             put_gkat(out, e, scope)?;
-            out.extend_from_slice(b" +")?;
-            put_guard(out, b, scope)?;
-            out.push(b' ')?;
+            put_choice_mark(out, b, scope)?;
             put_gkat(out, f, scope)?;
-            out.push(b')')?;
+            append(out, b')')
         }
         Gkat::Loop(b, e) => {
-            if is_loop(e) {
-                out.push(b'(')?;
-                put_gkat(out, e, scope)?;
-                out.push(b')')?;
-                put_turns(out, b, scope)?;
-            } else {
-                put_gkat(out, e, scope)?;
-                put_turns(out, b, scope)?;
-            }
+            put_round(out, b'(', is_loop(e))?;
+            put_gkat(out, e, scope)?;
+            put_round(out, b')', is_loop(e))?;
+            put_turns(out, b, scope)
         }
     }
-    Ok(())
 }
 
 /// Returns the text of an expression, with the names of the scope: `0`, `1`, a name, `[c]` for other tests, `(x.y)`,
