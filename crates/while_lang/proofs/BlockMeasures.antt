@@ -29,6 +29,7 @@ use Rattle.while_lang.specs.BlockBuilding.{spliced, named_stmts, target_var, blo
 use Rattle.while_lang.specs.BlockMeasuring.{extent, with_node, beside, deeper, spliced_extent, named_extent, check_target, block_extents}
 use Rattle.while_lang.specs.BlockSound.{BlockIsSound, block_nesting}
 use Rattle.while_lang.specs.BlockLaws.{AreLimited, MeasuresBlock, MeasuresAreOfTrees}
+use Rattle.while_lang.proofs.ProgramCounts.{prog_size-with_stmt}
 use Rattle.while_lang.proofs.BlockNestings.{block_judged}
 
 -- ---- node counts
@@ -69,15 +70,6 @@ tells_node m v a b s t e f =
     sum ∙ ap (λ (k : ℕ). capped (k + 1)) (tells_beside m v a b s t e f) ∙ told_one (max a b) (s + t)
 
 -- ---- the sizes of lists of statements
-
-prog_size-with_stmt : (s : StmtTree) (rest : ProgTree) → prog_size (with_stmt s rest) ≡ prog_size (with_stmt s empty) + prog_size rest
-prog_size-with_stmt skip rest = omega arith
-prog_size-with_stmt abort rest = omega arith
-prog_size-with_stmt (assert b) rest = omega arith
-prog_size-with_stmt (act a) rest = omega arith
-prog_size-with_stmt (assign x e) rest = omega arith
-prog_size-with_stmt (branch_stmt b p q) rest = omega arith
-prog_size-with_stmt (loop b p) rest = omega arith
 
 largest_in-with_stmt : (s : StmtTree) (rest : ProgTree) → largest_in (with_stmt s rest) ≡ max (largest_in (with_stmt s empty)) (largest_in rest)
 largest_in-with_stmt skip rest = omega arith

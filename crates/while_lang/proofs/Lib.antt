@@ -1,6 +1,7 @@
 pub mod RangesGrow
 pub mod Choices
 pub mod ProgramLists
+pub mod ProgramCounts
 pub mod StoreValues
 pub mod Turns
 pub mod Reached

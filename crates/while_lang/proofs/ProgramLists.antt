@@ -81,7 +81,7 @@ module _ (items : List Stmt) (i : ℕ) (x : Stmt) (lt : i < length items) (is : 
   rest = list_tree (drop (i + 1) items)
 
   -- the remaining statements are the first one and the others
-  left : list_tree (drop i items) ≡ with_stmt (stmt_tree x) rest
+  pub left : list_tree (drop i items) ≡ with_stmt (stmt_tree x) (list_tree (drop (i + 1) items))
   left = ap list_tree (drop_more items i x lt ∙ ap (λ (y : Stmt). y ∷ drop (i + 1) items) (sym is))
 
   -- after a concrete statement, the others decide

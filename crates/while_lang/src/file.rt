@@ -6,6 +6,7 @@ ghost use Rattle.while_lang.specs.Trees.{goal_tree};
 ghost use Rattle.while_lang.specs.Concrete.{AsksOfProgs, IsConcrete};
 
 use crate::named::NamedProg;
+use crate::numbered::prog_at;
 use crate::prog::Prog;
 use kat_model::{Cond, Kat, Width};
 use std::marker::Model;
@@ -125,7 +126,7 @@ pub fn prog_meant(progs: &[NamedProg], meaning: Option<Meaning>) -> Option<&Name
     ensures { option_map (λ n. prog_parts n.now) result ≡ prog_meant (parts_of_progs progs.now) meaning }
 {
     match meaning {
-        Some(Meaning::Prog(i)) => progs.get(i),
+        Some(Meaning::Prog(i)) => prog_at(progs, i),
         _ => None,
     }
 }

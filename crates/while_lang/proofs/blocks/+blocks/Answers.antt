@@ -339,3 +339,60 @@ otherwise-returns-in_err-end-clause-goes g t c = no_index (λ x. c.args.from ≤
 
 pub otherwise-returns-in_err-end-clause-within : goal.otherwise-returns-in_err-end-clause-within
 otherwise-returns-in_err-end-clause-within g t c h = no_index (λ x. x.1 ≤ length c.args.toks.now) c.from_residual-in_err-end.result c.in_err-end.field-0.0 c.from_residual-in_err-end.ensures.1
+
+pub branch-read_cond-requires : goal.branch-read_cond-requires
+branch-read_cond-requires g t c κs = λ within. within
+
+pub branch-branch-reading-requires : goal.branch-branch-reading-requires
+branch-branch-reading-requires g t c κs = λ within. within
+
+pub otherwise-none-requires : goal.otherwise-none-requires
+otherwise-none-requires g t c κs = λ within. within
+
+pub otherwise-none-list-requires : goal.otherwise-none-list-requires
+otherwise-none-list-requires g t c κs = λ within. within
+
+pub otherwise-chained-requires : goal.otherwise-chained-requires
+otherwise-chained-requires g t c κs = λ within. within
+
+pub read_block-braced-requires : goal.read_block-braced-requires
+read_block-braced-requires g t c κs = λ within. within
+
+pub stmt-skip-requires : goal.stmt-skip-requires
+stmt-skip-requires g t c κs = λ within. within
+
+pub stmt-abort-requires : goal.stmt-abort-requires
+stmt-abort-requires g t c κs = λ within. within
+
+pub stmt-assertion-requires : goal.stmt-assertion-requires
+stmt-assertion-requires g t c κs = λ within. within
+
+pub stmts-none-list-requires : goal.stmts-none-list-requires
+stmts-none-list-requires g t c κs = λ within. within
+
+pub turn-read_cond-requires : goal.turn-read_cond-requires
+turn-read_cond-requires g t c κs = λ within. within
+
+pub turn-turn-requires : goal.turn-turn-requires
+turn-turn-requires g t c κs = λ within. within
+
+pub branch-read_block-requires : goal.branch-read_block-requires
+branch-read_block-requires g t c κs within = (omega (arith, c.in_ok-cond.ensures.goes.0, c.in_ok-cond.ensures.goes.1), within)
+
+pub branch-otherwise-requires : goal.branch-otherwise-requires
+branch-otherwise-requires g t c κs within = (omega (arith, c.in_ok-cond.ensures.goes.0, c.in_ok-first.ensures.goes.0, c.in_ok-first.ensures.goes.1), within)
+
+pub read_block-stmts-requires : goal.read_block-stmts-requires
+read_block-stmts-requires g t c κs within = (omega (arith, c.in_ok-next.ensures.goes.0, c.in_ok-next.ensures.goes.1), within)
+
+pub stmt-branch-reading-requires : goal.stmt-branch-reading-requires
+stmt-branch-reading-requires g t c κs within = (omega (arith, c.in-Some.ensures.1), within)
+
+pub stmt-turn-requires : goal.stmt-turn-requires
+stmt-turn-requires g t c κs within = (omega (arith, c.in-Some.ensures.1), within)
+
+pub turn-read_block-requires : goal.turn-read_block-requires
+turn-read_block-requires g t c κs within = (omega (arith, c.in_ok-cond.ensures.goes.0, c.in_ok-cond.ensures.goes.1), within)
+
+pub stmts-stmts-smaller : goal.stmts-stmts-smaller
+stmts-stmts-smaller g t c = omega (arith, c.in_ok-at.ensures.goes.0, c.in_ok-at.ensures.goes.1)
