@@ -31,11 +31,15 @@ fn cmp_width(left: Width, right: Width) -> Ordering
 fn cmp_sort(left: Sort, right: Sort) -> Ordering
     ensures { result ≡ sort_cmp left right }
 {
-    match (left, right) {
-        (Sort::Number(v), Sort::Number(w)) => cmp_width(v, w),
-        (Sort::Number(_), Sort::Opaque(_)) => Ordering::Less,
-        (Sort::Opaque(_), Sort::Number(_)) => Ordering::Greater,
-        (Sort::Opaque(j), Sort::Opaque(k)) => j.cmp(&k),
+    match left {
+        Sort::Number(v) => match right {
+            Sort::Number(w) => cmp_width(v, w),
+            Sort::Opaque(_) => Ordering::Less,
+        },
+        Sort::Opaque(j) => match right {
+            Sort::Number(_) => Ordering::Greater,
+            Sort::Opaque(k) => j.cmp(&k),
+        },
     }
 }
 

@@ -51,12 +51,16 @@ fn cell_in(alloc: Global, place: Place, sort: Sort, form: FlowForm) -> Result<Fl
     ensures fits { IfOk result (λ _. cell_fits_in place sort (form_tree form) ≡ true) }
     ensures refused { IfErr result (λ e. e ≡ FormFault.TooLarge → cell_fits_in place sort (form_tree form) ≡ false) }
 {
-    match (place, sort) {
-        (Place::InNumber(width), Sort::Number(own)) => in_number(alloc, width, own, form),
-        (Place::InNumber(_), Sort::Opaque(_)) => Ok(form),
-        (Place::AsValue, Sort::Number(_)) => stacked(alloc, sort, form, FlowForm::NoArguments),
-        (Place::AsValue, Sort::Opaque(_)) => Ok(form),
-        (Place::AsArgument, _) => stacked(alloc, sort, form, FlowForm::NoArguments),
+    match place {
+        Place::InNumber(width) => match sort {
+            Sort::Number(own) => in_number(alloc, width, own, form),
+            Sort::Opaque(_) => Ok(form),
+        },
+        Place::AsValue => match sort {
+            Sort::Number(_) => stacked(alloc, sort, form, FlowForm::NoArguments),
+            Sort::Opaque(_) => Ok(form),
+        },
+        Place::AsArgument => stacked(alloc, sort, form, FlowForm::NoArguments),
     }
 }
 
