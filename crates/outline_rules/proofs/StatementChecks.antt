@@ -10,27 +10,31 @@ use Rattle.outline_rules.specs.Places.{last_place}
 use Rattle.outline_rules.specs.Follows.{Condition, implies, conditions_from}
 use Rattle.outline_rules.specs.Working.Checks.{place_after, conditions_of_stmt}
 
-branch_lists : {X : Type 0} (m f g : List X) (a b c d : X) → ((((((m ++ (a ∷ [])) ++ f) ++ (b ∷ [])) ++ g) ++ (c ∷ [])) ++ (d ∷ [])) ≡ m ++ (a ∷ (f ++ (b ∷ (g ++ (c ∷ (d ∷ []))))))
+branch_lists : {X : Type 0} (m f g : List X) (a b c d : X) → ((((m ++ (a ∷ f)) ++ (b ∷ g)) ++ (c ∷ [])) ++ (d ∷ [])) ≡ m ++ (a ∷ (f ++ (b ∷ (g ++ (c ∷ (d ∷ []))))))
 branch_lists m f g a b c d = simp append_assoc
 
-loop_lists : {X : Type 0} (m f : List X) (a b c d : X) → (((((m ++ (a ∷ [])) ++ (b ∷ [])) ++ f) ++ (c ∷ [])) ++ (d ∷ [])) ≡ m ++ (a ∷ (b ∷ (f ++ (c ∷ (d ∷ [])))))
+loop_lists : {X : Type 0} (m f : List X) (a b c d : X) → ((((m ++ (a ∷ [])) ++ (b ∷ f)) ++ (c ∷ [])) ++ (d ∷ [])) ≡ m ++ (a ∷ (b ∷ (f ++ (c ∷ (d ∷ [])))))
 loop_lists m f a b c d = simp append_assoc
 
-pub branch_checked : (b : TestTree) (f g : FlowTree) (n first first_end second second_end : ℕ) (m0 m1 m2 m3 m4 m5 m6 : List Condition) → first ≡ suc n → first_end ≡ last_place f first → second ≡ suc first_end → second_end ≡ last_place g second
-    → m1 ≡ m0 ++ implies n b (suc n) ∷ [] → m2 ≡ m1 ++ conditions_from f first → m3 ≡ m2 ++ implies n (complement b) (suc first_end) ∷ [] → m4 ≡ m3 ++ conditions_from g second
-    → m5 ≡ m4 ++ implies first_end top (suc second_end) ∷ [] → m6 ≡ m5 ++ implies second_end top (suc second_end) ∷ [] → m6 ≡ m0 ++ conditions_of_stmt (branch b f g) n
-branch_checked b f g n first first_end second second_end m0 m1 m2 m3 m4 m5 m6 p1 p2 p3 p4 e1 e2 e3 e4 e5 e6 =
+-- a block after the check of its first note
+pub block_checked : (f tree : FlowTree) (n first : ℕ) (m0 m1 m2 : List Condition) (x : Condition) → tree ≡ f → first ≡ n → m1 ≡ m0 ++ x ∷ [] → m2 ≡ m1 ++ conditions_from tree first → m2 ≡ m0 ++ x ∷ conditions_from f n
+block_checked f tree n first m0 m1 m2 x same place before after = rw (after, before, place, same) (append_assoc m0 (x ∷ []) (conditions_from f n))
+
+pub branch_checked : (b : TestTree) (f g : FlowTree) (n first_end second_end : ℕ) (m0 m1 m2 m3 m4 : List Condition) → first_end ≡ last_place f (suc n) → second_end ≡ last_place g (suc first_end)
+    → m1 ≡ m0 ++ implies n b (suc n) ∷ conditions_from f (suc n) → m2 ≡ m1 ++ implies n (complement b) (suc first_end) ∷ conditions_from g (suc first_end)
+    → m3 ≡ m2 ++ implies first_end top (suc second_end) ∷ [] → m4 ≡ m3 ++ implies second_end top (suc second_end) ∷ [] → m4 ≡ m0 ++ conditions_of_stmt (branch b f g) n
+branch_checked b f g n first_end second_end m0 m1 m2 m3 m4 p1 p2 e1 e2 e3 e4 =
     let k = last_place f (suc n) in
     let l = last_place g (suc k) in
-    rw (e6, e5, e4, e3, e2, e1, p4, p3, p2, p1)
+    rw (e4, e3, e2, e1, p2, p1)
     (branch_lists m0 (conditions_from f (suc n)) (conditions_from g (suc k)) (implies n b (suc n)) (implies n (complement b) (suc k)) (implies k top (suc l)) (implies l top (suc l)))
 
-pub loop_checked : (b : TestTree) (f : FlowTree) (n invariant body body_end : ℕ) (m0 m1 m2 m3 m4 m5 : List Condition) → invariant ≡ suc n → body ≡ suc invariant → body_end ≡ last_place f body
-    → m1 ≡ m0 ++ implies n top (suc n) ∷ [] → m2 ≡ m1 ++ implies invariant b (suc invariant) ∷ [] → m3 ≡ m2 ++ conditions_from f body → m4 ≡ m3 ++ implies body_end top invariant ∷ []
-    → m5 ≡ m4 ++ implies invariant (complement b) (suc body_end) ∷ [] → m5 ≡ m0 ++ conditions_of_stmt (loop b f) n
-loop_checked b f n invariant body body_end m0 m1 m2 m3 m4 m5 p1 p2 p3 e1 e2 e3 e4 e5 =
+pub loop_checked : (b : TestTree) (f : FlowTree) (n invariant body_end : ℕ) (m0 m1 m2 m3 m4 : List Condition) → invariant ≡ suc n → body_end ≡ last_place f (suc invariant)
+    → m1 ≡ m0 ++ implies n top (suc n) ∷ [] → m2 ≡ m1 ++ implies invariant b (suc invariant) ∷ conditions_from f (suc invariant) → m3 ≡ m2 ++ implies body_end top invariant ∷ []
+    → m4 ≡ m3 ++ implies invariant (complement b) (suc body_end) ∷ [] → m4 ≡ m0 ++ conditions_of_stmt (loop b f) n
+loop_checked b f n invariant body_end m0 m1 m2 m3 m4 p1 p2 e1 e2 e3 e4 =
     let k = last_place f (suc (suc n)) in
-    rw (e5, e4, e3, e2, e1, p3, p2, p1)
+    rw (e4, e3, e2, e1, p2, p1)
     (loop_lists m0 (conditions_from f (suc (suc n))) (implies n top (suc n)) (implies (suc n) b (suc (suc n))) (implies k top (suc n)) (implies (suc n) (complement b) (suc k)))
 
 -- a place that is returned after a check was appended

@@ -414,7 +414,7 @@ pub fn check_notes(
         return Ok(NoteAnswer::Rejected(NoteReason::Range(node)));
     }
     let mut checks = Vec::new(alloc);
-    let last = push_checks(&mut checks, &task.flow, 0)?;
+    let last = push_checks(&mut checks, &task.flow.list, 0)?;
     let count = next_place(last)?;
     if notes.notes().len() != count {
         return Ok(NoteAnswer::Rejected(NoteReason::Count(count)));

@@ -1,7 +1,7 @@
 //! The checks of an outline, in the order of the program: all its conditions but the first and the last.
 ghost use Rattle.std.specs.Prelude.{◌≡◌, [], ◌∷◌, ◌++◌, suc, map, IfOk, OnOk};
 ghost use Rattle.while_lang.specs.Flows.{with_stmt, empty};
-ghost use Rattle.while_lang.specs.FlowViews.{flow_stmt};
+ghost use Rattle.while_lang.specs.FlowViews.{flow_stmt, flows_tree};
 ghost use Rattle.outline_rules.specs.Places.{last_place};
 ghost use Rattle.outline_rules.specs.Follows.{implies, leads, conditions_from};
 ghost use Rattle.outline_rules.specs.Working.Checks.{guard_tree, condition_of, place_after, conditions_of_stmt};
@@ -81,36 +81,51 @@ fn push_stmt_checks<'a>(
         Flow::Assert(b) => push_implied(checks, place, Guard::Holds(b), place),
         Flow::Act(a) => push_led(checks, place, *a),
         Flow::If(b, f, g) => {
-            let first = push_implied(checks, place, Guard::Holds(b), place)?;
-            let first_end = push_checks(checks, f, first)?;
-            let second = push_implied(checks, place, Guard::Fails(b), first_end)?;
-            let second_end = push_checks(checks, g, second)?;
+            let first_end = push_block(checks, place, Guard::Holds(b), place, f)?;
+            let second_end = push_block(checks, place, Guard::Fails(b), first_end, g)?;
             let joined = push_implied(checks, first_end, Guard::Always, second_end);
             joined.and(push_implied(checks, second_end, Guard::Always, second_end))
         }
         Flow::While(b, f) => {
             let invariant = push_implied(checks, place, Guard::Always, place)?;
-            let body = push_implied(checks, invariant, Guard::Holds(b), invariant)?;
-            let body_end = push_checks(checks, f, body)?;
+            let body_end = push_block(checks, invariant, Guard::Holds(b), invariant, f)?;
             let again = push_check(checks, Check::Implies(body_end, Guard::Always, invariant));
             again.and(push_implied(checks, invariant, Guard::Fails(b), body_end))
         }
     }
 }
 
+// Appends the check that the note at `from` and the guard imply the first note of a block, which is at the place after
+// `previous`, and the checks of the block. Returns the last place of the block.
+#[cycle(checks)]
+fn push_block<'a>(
+    checks: &mut Vec<Check<'a>>,
+    from: usize,
+    guard: Guard<'a>,
+    previous: usize,
+    block: &'a Flows,
+) -> Result<usize, NoMemory>
+    ensures place { IfOk result (λ last. last ≡ last_place block.now (suc previous)) }
+    ensures checks { OnOk result (map condition_of checks.new.items
+        ≡ map condition_of checks.old.items ++ implies from (guard_tree guard.entry) (suc previous) ∷ conditions_from block.now (suc previous)) }
+{
+    let first = push_implied(checks, from, guard, previous)?;
+    push_checks(checks, &block.list, first)
+}
+
 // Appends the checks of a list of statements whose first place is `place`, and returns its last place.
 #[cycle(checks)]
 pub(crate) fn push_checks<'a>(
     checks: &mut Vec<Check<'a>>,
-    flow: &'a Flows,
+    list: &'a [Flow],
     place: usize,
 ) -> Result<usize, NoMemory>
-    ensures place { IfOk result (λ last. last ≡ last_place flow.now place) }
+    ensures place { IfOk result (λ last. last ≡ last_place (flows_tree list.now) place) }
     ensures checks { OnOk result (map condition_of checks.new.items
-        ≡ map condition_of checks.old.items ++ conditions_from flow.now place) }
+        ≡ map condition_of checks.old.items ++ conditions_from (flows_tree list.now) place) }
 {
     let mut at = place;
-    for stmt in &flow.list {
+    for stmt in list {
         at = push_stmt_checks(checks, stmt, at)?;
     }
     Ok(at)

@@ -8,6 +8,6 @@ use Rattle.outline_rules.proofs.checks.+checks.Given as goal
 -- the remaining statements end at the last place, and their checks are the missing ones
 abbrev pub invariant-push_checks-loop-stmt : goal.invariant-push_checks-loop-stmt
 invariant-push_checks-loop-stmt l = record {
-  place : last_place (flows_tree (drop l.stmt-index l.stmt-items)) l.at ≡ last_place (flows_tree l.stmt-items) l.fn.place;
-  checks : map condition_of l.checks.items ++ conditions_from (flows_tree (drop l.stmt-index l.stmt-items)) l.at ≡ map condition_of l.initial.checks.items ++ conditions_from (flows_tree l.stmt-items) l.fn.place;
+  place : last_place (flows_tree (drop l.stmt-index l.list)) l.at ≡ last_place (flows_tree l.list) l.fn.place;
+  checks : map condition_of l.checks.items ++ conditions_from (flows_tree (drop l.stmt-index l.list)) l.at ≡ map condition_of l.initial.checks.items ++ conditions_from (flows_tree l.list) l.fn.place;
 }
