@@ -21,3 +21,4 @@ pub mod NodeSets
 pub mod Against
 pub mod Soundness
 pub mod StatementChecks
+pub mod CheckedNotes

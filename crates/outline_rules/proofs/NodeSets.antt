@@ -1,5 +1,5 @@
 -- The sets of the nodes of notes, extended by one node at a time, and the sets of the notes.
-use Rattle.std.proofs.Common.{◌≡◌, ℕ, zero, suc, ◌+◌, ◌<◌, inl, inr, All, List, [], ◌∷◌, ◌++◌, map, length, take, get_or, slice_get, Bool, false, Some, refl, sym, ap, ◌∙◌, subst, arith, length-append}
+use Rattle.std.proofs.Common.{◌≡◌, ℕ, zero, suc, ◌+◌, ◌<◌, inl, inr, All, List, [], ◌∷◌, ◌++◌, map, length, take, get_or, slice_get, Bool, true, false, if◌then◌else◌, Some, refl, sym, ap, ◌∙◌, subst, arith, length-append}
 use mathlib.Core.Path.{ap₂}
 use Rattle.std.specs.Option.{option_map}
 use Rattle.std.proofs.lemmas.List.{map-append, get_or-map, take_more}
@@ -112,3 +112,16 @@ note_set_some d moment ns ids place k id are sets at lt is =
           value_at (λ e. step_value d e x y) ids k id lt is ∙ ap (λ vs. get_or vs k false) (sets.values x y lx ly)
           ∙ sym (get_or_from_slice_get (map (λ n. holds_at ns.nodes n atom) ns.notes) place (holds_at ns.nodes k atom) false (slice_get-map (λ n. holds_at ns.nodes n atom) ns.notes place ∙ ap (option_map (λ n. holds_at ns.nodes n atom)) at));
     }
+
+-- ---- a branch holds as its node for the value of its test
+
+pub branch_holds : (atom : Atom) (earlier : List ℕ) (value : ℕ → Bool) (node : NoteNode) (test low high l h : ℕ) → node ≡ Branch test low high → low < length earlier → high < length earlier
+    → l ≡ get_or earlier low l → h ≡ get_or earlier high h → (if get_or atom test false then value h else value l) ≡ node_holds atom (map value earlier) node
+branch_holds atom earlier value node test low high l h is below_low below_high at_low at_high = rw is (by_value (get_or atom test false))
+  where
+    read : (k id : ℕ) → k < length earlier → id ≡ get_or earlier k id → value id ≡ get_or (map value earlier) k false
+    read k id lt at = ap value at ∙ sym (get_or-map value earlier k id false lt)
+
+    by_value : (b : Bool) → (if b then value h else value l) ≡ get_or (map value earlier) (if b then high else low) false
+    by_value true = read high h below_high at_high
+    by_value false = read low l below_low at_low

@@ -1,5 +1,6 @@
-use Rattle.std.proofs.Common.{◌≡◌, ◌<◌, ◌∙◌, ℕ, [], length, sym, ap, subst, arith}
-use Rattle.std.proofs.lemmas.List.{length-take-le}
+use Rattle.std.proofs.Common.{◌≡◌, ◌<◌, ◌∙◌, ℕ, [], All, length, sym, ap, subst, arith}
+use Rattle.std.proofs.lemmas.List.{length-take-le, take_all}
+use Rattle.outline_rules.specs.StepFunctions.{IsStepId}
 use Rattle.outline_rules.proofs.StepSets.{KeepsSteps-itself, KeepsSteps-trans}
 use Rattle.outline_rules.specs.Follows.{HasTests}
 use Rattle.outline_rules.specs.Working.Sets.{AreNodeSets}
@@ -34,3 +35,11 @@ loop-node-preserved c = record {
   kept = KeepsSteps-trans _ _ _ c.loop-node.invariant.kept c.in_ok-set.ensures.kept;
   sound = c.in_ok-set.ensures.sound;
 }
+
+pub node_set-requires-clause-earlier : goal.node_set-requires-clause-earlier
+node_set-requires-clause-earlier c = subst (λ ids. All (IsStepId c.loop-node.diagrams) ids) (sym c.deref.ensures.value) c.loop-node.invariant.sets.in_range
+
+pub returns-clause-sets : goal.returns-clause-sets
+returns-clause-sets c =
+    subst (λ nodes. AreNodeSets c.loop-node.diagrams c.args.moment nodes c.loop-node.sets.items)
+    (take_all c.loop-node.node-index c.nodes-node-items.result.now c.loop-node-test.false ∙ c.nodes-node-items.ensures.value) c.loop-node.invariant.sets
