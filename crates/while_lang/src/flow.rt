@@ -5,7 +5,7 @@ ghost use Rattle.while_lang.specs.Flows.{with_stmt, empty};
 ghost use Rattle.while_lang.specs.FlowViews.{flow_stmt};
 ghost use Rattle.while_lang.specs.Encoding.{branch_term, loop_term, encoded};
 
-use kat_model::{Kat, NoMemory, Test, seq_of};
+use kat_model::{Kat, NoMemory, Test, append, seq_of};
 use std::alloc::Global;
 use std::marker::Model;
 
@@ -98,7 +98,7 @@ pub fn loop_term(alloc: Global, guard: &Test, body: Kat) -> Result<Kat, NoMemory
 fn push_term(terms: &mut Vec<Kat>, term: Kat) -> Result<(), NoMemory>
     ensures { OnOk result (map kat_tree terms.new.items ≡ map kat_tree terms.old.items ++ kat_tree term ∷ []) }
 {
-    Ok(terms.push(term)?)
+    append(terms, term)
 }
 
 #[cycle(encodings)]

@@ -5,7 +5,7 @@ ghost use Rattle.while_lang.specs.Programs.{is_concrete_cond, is_concrete, with_
 ghost use Rattle.while_lang.specs.ProgramViews.{stmt_tree};
 
 use crate::equality::{same_cond, same_expr};
-use kat_model::{Cond, Expr, NoMemory};
+use kat_model::{Cond, Expr, NoMemory, append};
 use std::alloc::Global;
 use std::marker::Model;
 
@@ -75,7 +75,7 @@ impl Model for Prog {
 pub fn push_stmt(list: &mut Vec<Stmt>, stmt: Stmt) -> Result<(), NoMemory>
     ensures { OnOk result (map stmt_tree list.new.items ≡ map stmt_tree list.old.items ++ stmt_tree stmt ∷ []) }
 {
-    Ok(list.push(stmt)?)
+    append(list, stmt)
 }
 
 /// Copies a statement. Fails only when out of memory.
