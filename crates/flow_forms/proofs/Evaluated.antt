@@ -1,5 +1,5 @@
 -- The forms of nodes over a stack are those of the expressions.
-use Rattle.std.proofs.Common.{◌≡◌, ℕ, zero, suc, ◌&&◌, Bool, true, false, List, [], ◌∷◌, drop, map, Some, None, slice_get, option_map, refl, ◌∙◌, ap}
+use Rattle.std.proofs.Common.{◌≡◌, ℕ, zero, suc, ◌&&◌, Bool, true, false, List, [], ◌∷◌, drop, map, Some, None, slice_get, option_map, refl, sym, ◌∙◌, ap}
 use mathlib.Core.Path.{ap₂}
 use Rattle.std.proofs.lemmas.Option.{slice_get-map}
 use Rattle.flow_model.specs.declared.sort.Sort.{Sort}
@@ -104,6 +104,11 @@ fits_with_node sorts env (node.Converted signed from to) (e ∷ es) =
 fits_with_node sorts env (node.Applied f result n) es =
     swapped (expr_fits sorts env (arguments_of n es)) (is_small (form_of_cell result (applied f result (form_of sorts env (arguments_of n es))))) (all_fit sorts env (drop n es))
     ∙ ap₂ (λ b args. b && is_small (form_of_cell result (applied f result args))) (parts_fit sorts env n es) (first_forms sorts env n es)
+
+-- a node over a stack that fits
+pub fits_after : (sorts : List Sort) (env : List FlowFormTree) (n : ExprNode) (es : List ExprTree) (st : FlowFormTree) (b : Bool) → st ≡ forms_of sorts env es → all_fit sorts env es ≡ true → node_fits n st ≡ b → all_fit sorts env (with_node n es) ≡ b
+fits_after sorts env n es st b made fits own =
+    fits_with_node sorts env n es ∙ ap (λ a. a && node_fits n (forms_of sorts env es)) fits ∙ ap (node_fits n) (sym made) ∙ own
 
 -- the first expression
 
