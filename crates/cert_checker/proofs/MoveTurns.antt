@@ -1,18 +1,22 @@
 -- The loop over the forbidden pairs of tests of a move.
-use Rattle.std.proofs.Common.{◌≡◌, ◌⊎◌, ℕ, ◌+◌, ◌<◌, inl, inr, ⊎_elim, List, [], ◌∷◌, length, get_or, take, refl, sym, ap, ◌∙◌, subst, true, false, Option, Some, None}
+use Rattle.std.proofs.Common.{◌≡◌, ◌⊎◌, ℕ, ◌+◌, ◌<◌, ◌≤◌, inl, inr, ⊎_elim, List, [], ◌∷◌, length, get_or, take, refl, sym, ap, ◌∙◌, subst, Bool, true, false, ◌&&◌, Option, Some, None}
 use Rattle.std.specs.Prelude.{IfSome}
 use Rattle.std.specs.Option.{option_or}
-use Rattle.std.proofs.lemmas.List.{take_more}
+use Rattle.std.specs.List.{list_any}
+use Rattle.std.proofs.lemmas.Bool.{or_right}
+use Rattle.std.proofs.lemmas.List.{take_all, take_more}
 use Rattle.std.proofs.lemmas.Option.{slice_get-get_or}
 use Rattle.kat_model.specs.Members.{Has}
-use Rattle.kat_model.proofs.Lists.{has_append}
+use Rattle.kat_model.proofs.Lists.{any_has, has_append}
 use Rattle.kat_model.proofs.Places.{has_at}
 use Rattle.cert_checker.specs.declared.known.TestCase.{TestCase}
 use Rattle.cert_checker.specs.declared.known.Truth.{Truth}
 use Rattle.cert_checker.specs.declared.known.Truth.TheVariants.{Known, Undecided}
-use Rattle.cert_checker.specs.Cases.{known_and, known_of, known_test}
+use Rattle.cert_checker.specs.Cases.{known_and, known_of, known_test, falsely, truly}
+use Rattle.cert_checker.specs.Moves.{DoesCount, is_excluded}
 use Rattle.cert_checker.specs.Questions.{QuestionParts}
 use Rattle.cert_checker.specs.Waiting.{IsWaited}
+use Rattle.cert_checker.specs.Working.MoveTests.{loose_by, tied_by, undecided_in}
 
 one_waits : (x y : Truth) (k : ℕ) → known_and x y ≡ Undecided k → (x ≡ Undecided k) ⊎ (y ≡ Undecided k)
 one_waits (Known false) y k e = absurd cc
@@ -20,6 +24,30 @@ one_waits (Known true) y k e = inr e
 one_waits (Undecided j) (Known false) k e = absurd cc
 one_waits (Undecided j) (Known true) k e = inl e
 one_waits (Undecided j) (Undecided l) k e = inl e
+
+told_cases : (x y : Truth) → truly (known_and x y) ≡ false
+    → ((known_and x y ≡ Known false) × (tied_by x y ≡ None) × (loose_by x y ≡ None))
+    ⊎ ((k : ℕ) × (known_and x y ≡ Undecided k) × (((tied_by x y ≡ Some k) × (loose_by x y ≡ None)) ⊎ ((tied_by x y ≡ None) × (loose_by x y ≡ Some k))))
+told_cases (Known false) (Known false) off = inl (refl, refl, refl)
+told_cases (Known false) (Known true) off = inl (refl, refl, refl)
+told_cases (Known false) (Undecided l) off = inl (refl, refl, refl)
+told_cases (Known true) (Known false) off = inl (refl, refl, refl)
+told_cases (Known true) (Known true) off = absurd cc
+told_cases (Known true) (Undecided l) off = inr (l, refl, inl (refl, refl))
+told_cases (Undecided k) (Known false) off = inl (refl, refl, refl)
+told_cases (Undecided k) (Known true) off = inr (k, refl, inl (refl, refl))
+told_cases (Undecided k) (Undecided l) off = inr (k, refl, inr (refl, refl))
+
+both_true : (x y : Truth) → truly (known_and x y) ≡ true → (truly x && truly y) ≡ true
+both_true (Known false) y on = absurd cc
+both_true (Known true) y on = on
+both_true (Undecided k) (Known false) on = absurd cc
+both_true (Undecided k) (Known true) on = absurd cc
+both_true (Undecided k) (Undecided l) on = absurd cc
+
+or_none : (o : Option ℕ) → option_or o None ≡ o
+or_none None = refl
+or_none (Some k) = refl
 
 -- after some of the forbidden pairs: an undecided test that is tied to a true one, or another undecided test; without
 -- either, the test of the pair is true, and each of these forbidden pairs has a false test
@@ -80,11 +108,38 @@ module _ (q : QuestionParts) (c : TestCase) where
     as_told : (o p : Option ℕ) → now_tied ≡ o → now_waiting ≡ p → IsTold q c (take (i + 1) q.action_pass.forbidden) o p → IsTold q c (take (i + 1) q.action_pass.forbidden) now_tied now_waiting
     as_told o p e f h = subst (λ (u : Option ℕ). IsTold q c (take (i + 1) q.action_pass.forbidden) u now_waiting) (sym e) (subst (λ (u : Option ℕ). IsTold q c (take (i + 1) q.action_pass.forbidden) o u) (sym f) h)
 
-    pub next_free : now_tied ≡ tied → now_waiting ≡ waiting → z ≡ Known false → IsTold q c (take (i + 1) q.action_pass.forbidden) now_tied now_waiting
-    next_free e f g = as_told tied waiting e f (told_free i d below tied waiting told (sym both_are ∙ g))
+    pub next_told : truly z ≡ false → now_tied ≡ option_or tied (tied_by x y) → now_waiting ≡ option_or waiting (loose_by x y) → IsTold q c (take (i + 1) q.action_pass.forbidden) now_tied now_waiting
+    next_told off e f =
+        ⊎_elim
+        (λ n. as_told tied waiting (e ∙ ap (option_or tied) n.1 ∙ or_none tied) (f ∙ ap (option_or waiting) n.2 ∙ or_none waiting) (told_free i d below tied waiting told (sym both_are ∙ z_is ∙ n.0)))
+        (λ u.
+        ⊎_elim
+        (λ t. as_told (option_or tied (Some u.0)) waiting (e ∙ ap (option_or tied) t.0) (f ∙ ap (option_or waiting) t.1 ∙ or_none waiting) (told_tied i tied waiting told u.0 (here_waits u.0 (z_is ∙ u.1))))
+        (λ t. as_told tied (option_or waiting (Some u.0)) (e ∙ ap (option_or tied) t.0 ∙ or_none tied) (f ∙ ap (option_or waiting) t.1) (told_waits i tied waiting told u.0 (here_waits u.0 (z_is ∙ u.1))))
+        u.2)
+        (told_cases x y (sym (ap truly z_is) ∙ off))
 
-    pub next_tied : (k : ℕ) → now_tied ≡ option_or tied (Some k) → now_waiting ≡ waiting → z ≡ Undecided k → IsTold q c (take (i + 1) q.action_pass.forbidden) now_tied now_waiting
-    next_tied k e f g = as_told (option_or tied (Some k)) waiting e f (told_tied i tied waiting told k (here_waits k g))
+    -- a pair of true tests excludes the move
+    pub excluded_here : truly z ≡ true → is_excluded q c ≡ true
+    excluded_here on =
+        or_right (falsely (known_test c.begin.items q.pair_test)) (list_any (λ (f : ℕ × ℕ). truly (known_of c.begin.items f.0) && truly (known_of c.end.items f.1)) q.action_pass.forbidden)
+        (any_has (λ (f : ℕ × ℕ). truly (known_of c.begin.items f.0) && truly (known_of c.end.items f.1)) q.action_pass.forbidden (get_or q.action_pass.forbidden i d)
+        (has_at q.action_pass.forbidden i (get_or q.action_pass.forbidden i d) (slice_get-get_or q.action_pass.forbidden i d below))
+        (both_true (known_of c.begin.items (get_or q.action_pass.forbidden i d).0) (known_of c.end.items (get_or q.action_pass.forbidden i d).1) (sym (ap truly both_are) ∙ on)))
 
-    pub next_waits : (k : ℕ) → now_tied ≡ tied → now_waiting ≡ option_or waiting (Some k) → z ≡ Undecided k → IsTold q c (take (i + 1) q.action_pass.forbidden) now_tied now_waiting
-    next_waits k e f g = as_told tied (option_or waiting (Some k)) e f (told_waits i tied waiting told k (here_waits k g))
+  -- ---- before the loop and after it
+
+  pair_waits : (k : ℕ) (o : Option ℕ) → q.pair_test ≡ o → known_test c.begin.items o ≡ Undecided k → IsWaited q c k
+  pair_waits k None is e = absurd cc
+  pair_waits k (Some g) is e = (g, inl (inl (inl is), e))
+
+  pub begun : (x : Truth) → known_test c.begin.items q.pair_test ≡ x → falsely x ≡ false → IsTold q c [] None (undecided_in x)
+  begun (Known true) e off = record { tied_waits = tt; waits = tt; pair_test = λ _. e; free = λ n m f h. absurd h }
+  begun (Known false) e off = absurd cc
+  begun (Undecided k) e off = record { tied_waits = tt; waits = pair_waits k q.pair_test refl e; pair_test = λ m. absurd (or_some None k m); free = λ n m f h. absurd h }
+
+  pub ended : (i : ℕ) (tied waiting : Option ℕ) → length q.action_pass.forbidden ≤ i → IsTold q c (take i q.action_pass.forbidden) tied waiting → tied ≡ None → waiting ≡ None → DoesCount q c
+  ended i tied waiting high told n m = record {
+    pair_test = told.pair_test m;
+    free = λ f h. told.free n m f (subst (λ (l : List (ℕ × ℕ)). Has l f) (sym (take_all i q.action_pass.forbidden high)) h);
+  }

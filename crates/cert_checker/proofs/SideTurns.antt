@@ -14,6 +14,7 @@ use Rattle.cert_checker.specs.declared.known.Truth.TheVariants.{Known, Undecided
 use Rattle.cert_checker.specs.declared.sides.TargetSide.{TargetSide}
 use Rattle.cert_checker.specs.Cases.{known_of, truly, falsely}
 use Rattle.cert_checker.specs.Sides.{sure_targets, has_too, open_targets, AreSettled, AreSettledAmong, IsWaitedBy, IsTargetSide}
+use Rattle.cert_checker.specs.Working.AddedTargets.{AddsPossible, AddsTarget}
 use Rattle.cert_checker.proofs.TargetKeys.{guard_found, open_entry}
 
 -- the guards of targets that may be only on this side have known values
@@ -40,7 +41,7 @@ or_then (Some i) p A B C W f h k = h
 module _ (known : List Truth) (others es : List (ℕ × ℕ)) where
   -- for a target that may be present: `now` and the rest give the surely present terms; its guard has a known value or
   -- waits for the test
-  pub record IsFound (more : List (ℕ × ℕ)) (d : ℕ × ℕ) (now : List ℕ) (w : Option ℕ) : Type 0 where
+  record IsFound (more : List (ℕ × ℕ)) (d : ℕ × ℕ) (now : List ℕ) (w : Option ℕ) : Type 0 where
     pub sure : now ++ sure_targets known more ≡ sure_targets known es
     pub may : falsely (known_of known d.1) ≡ false
     pub told : MatchOption w ((b : Bool) × (known_of known d.1 ≡ Known b)) (IsWaitedBy known es)
@@ -70,7 +71,7 @@ module _ (known : List Truth) (others es : List (ℕ × ℕ)) where
         (λ e h. ⊎_elim (λ same. subst (λ (z : ℕ × ℕ). (falsely (known_of known z.1) || has_too known others z.0 z.1) ≡ false → (b : Bool) × (known_of known z.1 ≡ Known b)) same value) (s e) h)
 
     -- a surely absent target
-    pub side_skipped : known_of known d.1 ≡ Known false → IsSideOf known others es more ks ls o p
+    side_skipped : known_of known d.1 ≡ Known false → IsSideOf known others es more ks ls o p
     side_skipped e =
         let value : (b : Bool) × (known_of known d.1 ≡ Known b) = (false, e) in
         record {
@@ -81,14 +82,14 @@ module _ (known : List Truth) (others es : List (ℕ × ℕ)) where
           waits = match_then p (AreSettled known rest → AreSettled known es) (AreSettled known more → AreSettled known es) (IsWaitedBy known es) (λ f s. f (settled_more value s)) before.waits;
         }
 
-    pub found_true : (now : List ℕ) (w : Option ℕ) → known_of known d.1 ≡ Known true → now ≡ ks ++ d.0 ∷ [] → w ≡ None → IsFound more d now w
+    found_true : (now : List ℕ) (w : Option ℕ) → known_of known d.1 ≡ Known true → now ≡ ks ++ d.0 ∷ [] → w ≡ None → IsFound more d now w
     found_true now w e is none = record {
       sure = ap (λ (l : List ℕ). l ++ sure_targets known more) is ∙ append_assoc ks (d.0 ∷ []) (sure_targets known more) ∙ ap (λ (l : List ℕ). ks ++ l) (sym (sure_cut (Known true) e)) ∙ before.sure;
       may = ap falsely e;
       told = subst (λ (u : Option ℕ). MatchOption u ((b : Bool) × (known_of known d.1 ≡ Known b)) (IsWaitedBy known es)) (sym none) (true, e);
     }
 
-    pub found_waits : (now : List ℕ) (w : Option ℕ) (k : ℕ) → known_of known d.1 ≡ UndecidedBy k → now ≡ ks → w ≡ Some k → IsFound more d now w
+    found_waits : (now : List ℕ) (w : Option ℕ) (k : ℕ) → known_of known d.1 ≡ UndecidedBy k → now ≡ ks → w ≡ Some k → IsFound more d now w
     found_waits now w k e is some = record {
       sure = ap (λ (l : List ℕ). l ++ sure_targets known more) is ∙ ap (λ (l : List ℕ). ks ++ l) (sym (sure_cut (UndecidedBy k) e)) ∙ before.sure;
       may = ap falsely e;
@@ -102,7 +103,7 @@ module _ (known : List Truth) (others es : List (ℕ × ℕ)) where
           found.told
 
       -- a target that is also in the other set
-      pub side_shared : has_too known others d.0 d.1 ≡ true → IsSideOf known others es more now ls o (option_or p w)
+      side_shared : has_too known others d.0 d.1 ≡ true → IsSideOf known others es more now ls o (option_or p w)
       side_shared e =
           let off : (falsely (known_of known d.1) || has_too known others d.0 d.1) ≡ true = ap (λ (b : Bool). b || has_too known others d.0 d.1) found.may ∙ e in
           record {
@@ -115,7 +116,7 @@ module _ (known : List Truth) (others es : List (ℕ × ℕ)) where
             waits = waits_now;
           }
 
-      pub side_alone : has_too known others d.0 d.1 ≡ false → IsSideOf known others es more now (ls ++ d.0 ∷ []) (option_or o w) (option_or p w)
+      side_alone : has_too known others d.0 d.1 ≡ false → IsSideOf known others es more now (ls ++ d.0 ∷ []) (option_or o w) (option_or p w)
       side_alone e = record {
         sure = found.sure;
         alone = append_assoc ls (d.0 ∷ []) (open_targets known others more) ∙ ap (λ (l : List ℕ). ls ++ l) (sym (open_cut false false found.may e)) ∙ before.alone;
@@ -125,6 +126,37 @@ module _ (known : List Truth) (others es : List (ℕ × ℕ)) where
             (λ f value s. f (open_more (λ _. value) s)) before.alone_waits found.told;
         waits = waits_now;
       }
+
+  -- an added target
+  module _ (rest more : List (ℕ × ℕ)) (d : ℕ × ℕ) (cut : rest ≡ d ∷ more) (s z : TargetSide) (before : IsSideOf known others es rest s.sure.items s.alone.items s.alone_waits s.waits) where
+    as_added : (ks ls : List ℕ) (o p : Option ℕ) → z.sure.items ≡ ks → z.alone.items ≡ ls → z.alone_waits ≡ o → z.waits ≡ p → IsSideOf known others es more ks ls o p → IsSideOf known others es more z.sure.items z.alone.items z.alone_waits z.waits
+    as_added ks ls o p a b c e h =
+        subst (λ (l : List ℕ). IsSideOf known others es more l z.alone.items z.alone_waits z.waits) (sym a)
+        (subst (λ (l : List ℕ). IsSideOf known others es more ks l z.alone_waits z.waits) (sym b)
+        (subst (λ (u : Option ℕ). IsSideOf known others es more ks ls u z.waits) (sym c)
+        (subst (λ (u : Option ℕ). IsSideOf known others es more ks ls o u) (sym e) h)))
+
+    possible_added : (now : List ℕ) (w : Option ℕ) → IsFound more d now w → (too : Bool) → has_too known others d.0 d.1 ≡ too → AddsPossible too d.0 w now s z → IsSideOf known others es more z.sure.items z.alone.items z.alone_waits z.waits
+    possible_added now w found true e added =
+        as_added now s.alone.items s.alone_waits (option_or s.waits w) added.sure added.alone added.alone_waits added.waits
+        (side_shared rest more d cut s.sure.items s.alone.items s.alone_waits s.waits before now w found e)
+    possible_added now w found false e added =
+        as_added now (s.alone.items ++ d.0 ∷ []) (option_or s.alone_waits w) (option_or s.waits w) added.sure added.alone added.alone_waits added.waits
+        (side_alone rest more d cut s.sure.items s.alone.items s.alone_waits s.waits before now w found e)
+
+    pub side_added : AddsTarget (known_of known d.1) (has_too known others d.0 d.1) d.0 s z → IsSideOf known others es more z.sure.items z.alone.items z.alone_waits z.waits
+    side_added added = go (known_of known d.1) refl added
+      where
+        go : (x : Truth) → known_of known d.1 ≡ x → AddsTarget x (has_too known others d.0 d.1) d.0 s z → IsSideOf known others es more z.sure.items z.alone.items z.alone_waits z.waits
+        go (Known false) e same =
+            subst (λ (y : TargetSide). IsSideOf known others es more y.sure.items y.alone.items y.alone_waits y.waits) (sym same)
+            (side_skipped rest more d cut s.sure.items s.alone.items s.alone_waits s.waits before e)
+        go (Known true) e adds =
+            possible_added (s.sure.items ++ d.0 ∷ []) None
+            (found_true rest more d cut s.sure.items s.alone.items s.alone_waits s.waits before (s.sure.items ++ d.0 ∷ []) None e refl refl) (has_too known others d.0 d.1) refl adds
+        go (UndecidedBy k) e adds =
+            possible_added s.sure.items (Some k)
+            (found_waits rest more d cut s.sure.items s.alone.items s.alone_waits s.waits before s.sure.items (Some k) k e refl refl) (has_too known others d.0 d.1) refl adds
 
   -- ---- the end of the loop
 

@@ -5,3 +5,5 @@ pub mod Matching
 pub mod Rounds
 pub mod Places
 pub mod Relevant
+pub mod AddedTargets
+pub mod MoveTests

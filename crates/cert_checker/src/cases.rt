@@ -1,6 +1,7 @@
 //! The least values of two atoms at which a question fails, by cases on tests, false first.
 ghost use Rattle.std.specs.Prelude.{◌≡◌, ◌+◌, length, IfOk, IfSome, MatchBool, OnOk};
 ghost use Rattle.std.specs.Option.{option_map};
+ghost use Rattle.cert_checker.specs.Cases.{IsOpen};
 ghost use Rattle.cert_checker.specs.LeastFailures.{least_of, IsBelow, IsFirstFailure};
 ghost use Rattle.cert_checker.specs.Questions.{IsPosed, MatchAt};
 ghost use Rattle.cert_checker.specs.Working.Outcomes.{IsOutcome};
@@ -48,6 +49,7 @@ fn outcome_in(question: &Question, case: &mut TestCase) -> Result<Outcome, NoMem
 
 /// Returns the least values of two atoms, those of the first atom followed by those of the second, that extend the
 /// decided tests, are below the bound, and at which the question fails.
+#[cycle(least_failure)]
 pub(crate) fn least_failure(
     question: &Question,
     case: &mut TestCase,
@@ -64,11 +66,28 @@ pub(crate) fn least_failure(
     if past {
         return Ok(None);
     }
-    let test = match outcome_in(question, case)? {
-        Outcome::Holds => return Ok(None),
-        Outcome::Fails => return Ok(Some(least_values(alloc, &case.decided)?)),
-        Outcome::Undecided(test) => test,
-    };
+    match outcome_in(question, case)? {
+        Outcome::Holds => Ok(None),
+        Outcome::Fails => Ok(Some(least_values(alloc, &case.decided)?)),
+        Outcome::Undecided(test) => failure_by(question, case, bound, test),
+    }
+}
+
+// Returns what `least_failure` does, by the two values of an open test.
+#[cycle(least_failure)]
+fn failure_by(
+    question: &Question,
+    case: &mut TestCase,
+    bound: Option<&Vec<bool>>,
+    test: usize,
+) -> Result<Option<Vec<bool>>, NoMemory>
+    requires question { IsPosed question.now }
+    requires decided { length case.old.decided.items ≡ question.now.tables.width + question.now.tables.width }
+    requires bound { IfSome bound (λ b. length b.now.items ≡ length case.old.decided.items) }
+    requires open { IsOpen case.old.decided.items test }
+    ensures failure { IfOk result (λ o. IsFirstFailure (λ x. IsBelow (option_map (λ b. b.now.items) bound.entry) x → MatchAt question.now.tables question.now x) case.old.decided.items (option_map (λ v. v.items) o)) }
+    ensures decided { OnOk result (case.new.decided.items ≡ case.old.decided.items) }
+{
     case.decide(test, Some(false));
     let low = least_failure(question, case, bound)?;
     case.decide(test, Some(true));

@@ -4,7 +4,7 @@ ghost use Rattle.std.specs.Prelude.{◌≡◌, ◌<◌, ◌≤◌, ◌+◌, ℕ,
 ghost use Rattle.kat_model.specs.Members.{Has};
 ghost use Rattle.term_nodes.specs.Nodes.{IsTestOver};
 ghost use Rattle.cert_checker.specs.NodeTables.{IsWithin};
-ghost use Rattle.cert_checker.specs.Cases.{known_of, known_test, known_not, known_and, known_node, truly, undecided, AreAsked, AreKnown};
+ghost use Rattle.cert_checker.specs.Cases.{known_of, known_test, known_not, known_and, known_node, falsely, truly, undecided, AreAsked, AreKnown};
 
 use crate::question::Question;
 use crate::tables::Tables;
@@ -65,6 +65,13 @@ pub(crate) fn is_true(known: Truth) -> bool
     ensures { result ≡ truly known }
 {
     matches!(known, Truth::Known(true))
+}
+
+/// Whether the value is known to be false.
+pub(crate) fn is_false(known: Truth) -> bool
+    ensures { result ≡ falsely known }
+{
+    matches!(known, Truth::Known(false))
 }
 
 fn negation(x: Truth) -> Truth

@@ -1,6 +1,8 @@
 //! What is known of the targets of both sides of a question, as far as the decided tests determine it.
-ghost use Rattle.std.specs.Prelude.{◌≡◌, IfOk};
+ghost use Rattle.std.specs.Prelude.{◌≡◌, IfOk, OnOk};
+ghost use Rattle.cert_checker.specs.Cases.{known_of};
 ghost use Rattle.cert_checker.specs.Sides.{has_too as has_too', is_sure as is_sure', IsTargetSide};
+ghost use Rattle.cert_checker.specs.Working.AddedTargets.{AddsPossible, AddsTarget};
 
 use crate::derivatives::Targets;
 use crate::known::{Truth, is_true, value_of};
@@ -55,6 +57,47 @@ fn has_too(targets: &Targets, term: usize, guard: usize, known: &[Truth]) -> boo
     }
 }
 
+// Adds a target that may be present and whose guard depends on the test, if any. The term is open unless it is surely
+// among the others wherever the guard is true.
+fn add_possible(
+    side: &mut TargetSide,
+    others: &Targets,
+    known: &[Truth],
+    term: usize,
+    guard: usize,
+    waits: Option<usize>,
+) -> Result<(), NoMemory>
+    ensures { OnOk result (AddsPossible (has_too' known.now others.now.entries term guard) term waits side.old.sure.items side.old side.new) }
+{
+    side.waits = side.waits.or(waits);
+    if has_too(others, term, guard, known) {
+        return Ok(());
+    }
+    side.alone_waits = side.alone_waits.or(waits);
+    side.alone.push(term)?;
+    Ok(())
+}
+
+// Adds a target, by what is known of its guard.
+fn add_target(
+    side: &mut TargetSide,
+    others: &Targets,
+    known: &[Truth],
+    term: usize,
+    guard: usize,
+) -> Result<(), NoMemory>
+    ensures { OnOk result (AddsTarget (known_of known.now guard) (has_too' known.now others.now.entries term guard) term side.old side.new) }
+{
+    match value_of(known, guard) {
+        Truth::Known(false) => Ok(()),
+        Truth::Known(true) => {
+            side.sure.push(term)?;
+            add_possible(side, others, known, term, guard, None)
+        }
+        Truth::Undecided(test) => add_possible(side, others, known, term, guard, Some(test)),
+    }
+}
+
 /// Returns what is known of the targets of one side, given those of the other.
 pub(crate) fn side_of(
     alloc: Global,
@@ -71,19 +114,7 @@ pub(crate) fn side_of(
         waits: None,
     };
     for (term, guard) in targets.iter() {
-        let waits = match value_of(known, *guard) {
-            Truth::Known(false) => continue,
-            Truth::Known(true) => {
-                side.sure.push(*term)?;
-                None
-            }
-            Truth::Undecided(test) => Some(test),
-        };
-        side.waits = side.waits.or(waits);
-        if !has_too(others, *term, *guard, known) {
-            side.alone.push(*term)?;
-            side.alone_waits = side.alone_waits.or(waits);
-        }
+        add_target(&mut side, others, known, *term, *guard)?;
     }
     Ok(side)
 }

@@ -29,3 +29,17 @@ returns-in_err-guard-clause-grows c = tests_trans c.args.tables.now c.loop.table
 
 pub returns-in_err-push-clause-grows : goal.returns-in_err-push-clause-grows
 returns-in_err-push-clause-grows c = tests_trans c.args.tables.now c.loop.tables c.acceptance.new.tables c.loop.invariant.grows c.acceptance.ensures.grows
+
+pub acceptance-requires-clause-earlier : goal.acceptance-requires-clause-earlier
+acceptance-requires-clause-earlier c = subst (AreAcceptances c.loop.tables) (sym c.deref.ensures.value) c.loop.invariant.values
+
+pub acceptance-requires-clause-next : goal.acceptance-requires-clause-next
+acceptance-requires-clause-next c =
+    let now = c.loop.invariant in
+    omega (arith, ap length c.deref.ensures.value, ap length now.grows.terms, now.count, c.term_count-end.ensures.value)
+
+pub returns-clause-values : goal.returns-clause-values
+returns-clause-values c = c.loop.invariant.values
+
+pub returns-clause-grows : goal.returns-clause-grows
+returns-clause-grows c = c.loop.invariant.grows

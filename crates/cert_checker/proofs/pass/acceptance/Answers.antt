@@ -36,3 +36,15 @@ pub returns-clause-values : goal.returns-clause-values
 returns-clause-values c =
     let set = c.args.set.now in
     accepting_ends c.args.tables.now c.loop-number.tables c.loop-number.guard (drop c.loop-number.number-index set) set (drop_all c.loop-number.number-index set (omega arith)) c.loop-number.invariant
+
+pub bounds-tests-number : goal.bounds-tests-number
+bounds-tests-number c = below_at (length c.args.tests.now) c.args.set.now c.loop-number.number-index 0 c.requires.set (omega arith)
+
+pub either-requires-clause-first : goal.either-requires-clause-first
+either-requires-clause-first c = c.loop-number.invariant.test
+
+pub returns-in_err-guard-clause-grows : goal.returns-in_err-guard-clause-grows
+returns-in_err-guard-clause-grows c = c.constant.ensures.grows
+
+pub returns-clause-grows : goal.returns-clause-grows
+returns-clause-grows c = c.loop-number.invariant.grows

@@ -53,3 +53,15 @@ returns-clause-known c =
     c.evaluate.ensures.known c.evaluate-2.ensures.known
     (λ k h. c.evaluate-2.ensures.others k h ∙ ap (λ l. known_of l k) (c.deref_mut-2.ensures.value ∙ with_items_is begins first one))
     c.evaluate-3.ensures.known (sym (with_items_is (with_items begins first) begin two)) (sym (with_items_is ends end three))
+
+pub evaluate-requires-clause-room : goal.evaluate-requires-clause-room
+evaluate-requires-clause-room c = omega (arith, c.deref_mut.ensures.len, c.in_ok-resize.ensures.len, c.test_count.ensures.value)
+
+pub evaluate-requires-2-clause-room : goal.evaluate-requires-2-clause-room
+evaluate-requires-2-clause-room c = omega (arith, c.deref_mut-2.ensures.len, c.in_ok-resize.ensures.len, c.test_count.ensures.value)
+
+pub evaluate-requires-3-clause-room : goal.evaluate-requires-3-clause-room
+evaluate-requires-3-clause-room c = omega (arith, c.deref_mut-3.ensures.len, c.in_ok-resize-2.ensures.len, c.test_count-2.ensures.value)
+
+pub evaluate-requires-3-clause-narrow : goal.evaluate-requires-3-clause-narrow
+evaluate-requires-3-clause-narrow c = omega (arith, c.width-2.ensures)
