@@ -63,6 +63,19 @@ module _ (first now mid last : TableParts) (before after new rest all : List (�
           same_members_trans (chosen last new atom) _ (chosen now after atom ++ cond (holds_at first guard atom && holds_at first e.1 atom) (term_at first e.0 ∷ []) []) (stands.same atom)
           (same_from _ _ (ap₂ (λ (xs ys : List Term). xs ++ ys) (chosen_kept now mid grown.sound to_mid.grows after atom a.entries) (ap₂ (λ (b : Bool) (x : Term). cond b (x ∷ []) []) (guards atom) name)))
 
+nothing_more : (b : Bool) (l : List Term) → l ++ cond b [] [] ≡ l
+nothing_more true l = append-nil l
+nothing_more false l = append-nil l
+
+pub adding_ends : (first now : TableParts) (before after all : List (ℕ × ℕ)) (guard : ℕ) → IsAdding first now before after [] all guard
+    → StandFor now after (λ atom. chosen first before atom ++ cond (holds_at first guard atom) (chosen first all atom) [])
+adding_ends first now before after all guard a = record {
+  entries = a.entries;
+  same = λ atom.
+      subst (λ l. SameMembers l (chosen first before atom ++ cond (holds_at first guard atom) (chosen first all atom) []))
+      (nothing_more (holds_at first guard atom) (chosen now after atom)) (a.same atom);
+}
+
 -- ---- each target followed by another term
 
 follow_step : (f : Term → Term) (h : Bool) (x : Term) (was now rest : List Term) → SameMembers now (was ++ cond h (f x ∷ []) []) → SameMembers (now ++ map f rest) (was ++ map f (cond h (x ∷ []) [] ++ rest))

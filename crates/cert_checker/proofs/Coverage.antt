@@ -1,5 +1,5 @@
 -- Results about sets of targets that pairs make congruent.
-use Rattle.std.proofs.Common.{◌≡◌, ◌↔◌, ℕ, inl, inr, ⊎_elim, List, [], ◌∷◌, refl, sym, ◌∙◌, subst, Bool, true, false, nat_eq, ◌&&◌, Option, Some, None}
+use Rattle.std.proofs.Common.{◌≡◌, ◌↔◌, ℕ, inl, ⊎_elim, List, [], ◌∷◌, refl, sym, ◌∙◌, subst, Bool, true, false, nat_eq, ◌&&◌, Option, Some, None}
 use Rattle.std.specs.Cmp.Lexicographic.{pointwise}
 use Rattle.std.proofs.lemmas.Bool.{and_parts, false≢true}
 use Rattle.kat_model.specs.Members.{IsSubset}

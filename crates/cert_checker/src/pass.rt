@@ -1,6 +1,7 @@
 //! Passes over the pairs of a certificate: for the outputs and for each action, the condition on each pair.
-ghost use Rattle.std.specs.Prelude.{◌≡◌, ◌<◌, ◌≤◌, ◌++◌, ℕ, Some, IsTrue, IfOk, OnOk, length, map};
-ghost use Rattle.std.specs.Option.{option_map};
+ghost use Rattle.std.specs.Prelude.{◌≡◌, ◌<◌, ◌≤◌, ◌++◌, [], ℕ, None, Some, IsTrue, IfOk, OnOk, length, map};
+ghost use Rattle.std.specs.Option.{option_map, option_map_or};
+ghost use Rattle.certificate.specs.declared.nodes.Style.TheVariants.{UpTo};
 ghost use Rattle.kat_model.specs.Members.{Has};
 ghost use Rattle.kat_model.specs.Degrees.{short_hyps as short_hypotheses};
 ghost use Rattle.kat_model.specs.Problems.{IsProblem};
@@ -263,6 +264,36 @@ fn forbid_moves(
     forbid_targets(forbidden, &targets, &outputs)
 }
 
+// Returns the style in which pairs match for the action or, without one, for outputs.
+fn style_for(cert: &Cert, action: Option<usize>) -> Style
+    ensures { result ≡ option_map_or (λ _. cert.now.style) action UpTo }
+{
+    match action {
+        None => Style::UpTo,
+        Some(_) => cert.style(),
+    }
+}
+
+// Returns the pairs that may match for the action: none for outputs.
+fn pairs_for(cert: &Cert, action: Option<usize>) -> &[Pair]
+    ensures { result.now ≡ option_map_or (λ _. cert.now.pairs) action [] }
+{
+    match action {
+        None => &[],
+        Some(_) => cert.pairs(),
+    }
+}
+
+// Returns the universal term for the action: none for outputs.
+fn universal_for(parts: &PassNumbers, action: Option<usize>) -> Option<usize>
+    ensures { result ≡ option_map_or (λ _. parts.now.universal) action None }
+{
+    match action {
+        None => None,
+        Some(_) => parts.universal,
+    }
+}
+
 impl<'a> Pass<'a> {
     ghost use Rattle.std.specs.Prelude.{◌≡◌, ◌<◌, ℕ, IfOk, map};
     ghost use Rattle.kat_model.specs.Members.{Has};
@@ -333,24 +364,23 @@ impl<'a> Pass<'a> {
         ensures action { IfOk result (λ t. t.action ≡ action) }
         ensures grows { PassGrows self.old self.new }
     {
-        let cert = self.cert;
-        let no_pairs: &[Pair] = &[];
-        let (style, pairs, universal) = match action {
-            None => (Style::UpTo, no_pairs, None),
-            Some(_) => (cert.style(), cert.pairs(), self.parts.universal),
-        };
-        let (tables, parts) = (&mut self.tables, &self.parts);
-        let steps = steps(tables, &parts.acceptance_tests, &parts.needed_terms, action)?;
+        let steps = steps(
+            &mut self.tables,
+            &self.parts.acceptance_tests,
+            &self.parts.needed_terms,
+            action,
+        )?;
         let forbidden = self.forbidden(&steps, action)?;
         let begin = begin_tests(&self.tables, &forbidden)?;
+        let pairs = pairs_for(self.cert, action);
         let end = end_tests(&self.tables, &forbidden, pairs)?;
         Ok(ActionPass {
             action,
             steps,
-            style,
+            style: style_for(self.cert, action),
             pairs,
             index: self.index,
-            universal,
+            universal: universal_for(&self.parts, action),
             forbidden,
             begin,
             end,

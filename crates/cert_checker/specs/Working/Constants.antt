@@ -1,7 +1,7 @@
 -- Nodes of tests whose values follow from the node alone.
 use Rattle.std.specs.Prelude.{ℕ, Bool, false, not, ◌==◌}
 use Rattle.term_nodes.specs.declared.TestNode.{TestNode}
-use Rattle.term_nodes.specs.declared.TestNode.TheVariants.{False, True, Prim, Not, And, Or}
+use Rattle.term_nodes.specs.declared.TestNode.TheVariants.{False, True, Prim, Not}
 
 -- whether the node is the test that is always `on`
 abbrev pub is_constant : Bool → TestNode ℕ → Bool

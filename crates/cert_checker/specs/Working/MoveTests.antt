@@ -1,5 +1,5 @@
 -- The undecided tests that decide whether two tests are both true.
-use Rattle.std.specs.Prelude.{ℕ, Bool, ◌||◌, if◌then◌else◌, Option, Some, None}
+use Rattle.std.specs.Prelude.{ℕ, ◌||◌, if◌then◌else◌, Option, Some, None}
 use Rattle.cert_checker.specs.Cases.{known_and, truly}
 use Rattle.cert_checker.specs.declared.known.Truth.{Truth}
 use Rattle.cert_checker.specs.declared.known.Truth.TheVariants.{Known, Undecided}

@@ -1,11 +1,11 @@
-use Rattle.std.proofs.Common.{◌≡◌, ℕ, List, ◌∷◌, inl, refl, ap, ◌∙◌, subst}
+use Rattle.std.proofs.Common.{◌≡◌, ℕ, List, [], ◌∷◌, inl, refl, ap, ◌∙◌, subst}
 use Rattle.std.specs.Map.Iter.{deref_pair}
-use Rattle.std.proofs.lemmas.Map.Iter.{rest_more}
+use Rattle.std.proofs.lemmas.Map.Iter.{rest_more, rest_all}
 use Rattle.kat_model.specs.Steps.{truth}
 use Rattle.term_nodes.specs.NodeTrees.{test_tree_in}
 use Rattle.cert_checker.specs.NodeTables.{nodes_in}
 use Rattle.cert_checker.specs.Targets.{chosen}
-use Rattle.cert_checker.proofs.AddingTargets.{IsAdding, adding_more}
+use Rattle.cert_checker.proofs.AddingTargets.{IsAdding, adding_more, adding_ends}
 use Rattle.cert_checker.proofs.TargetSets.{test_within, term_within, entries_kept, entry_added, never_stands}
 use Rattle.cert_checker.proofs.GrowingTables.{tests_itself, tests_trans}
 use Rattle.cert_checker.proofs.derivatives.add_all.Goals as goal
@@ -51,3 +51,22 @@ returns-in-False-clause-added c =
 
 pub returns-in-False-clause-grows : goal.returns-in-False-clause-grows
 returns-in-False-clause-grows c = tests_itself c.args.tables.now c.test_node.ensures.tables
+
+-- ---- before the loop and after it
+
+pub test_node-requires : goal.test_node-requires
+test_node-requires c = c.requires.is_test
+
+pub both-requires-clause-first : goal.both-requires-clause-first
+both-requires-clause-first c =
+    let a = c.loop-term.invariant in
+    test_within c.args.tables.now c.loop-term.tables a.grows.grows.was a.grows.grows c.args.guard a.test
+
+pub returns-clause-added : goal.returns-clause-added
+returns-clause-added c =
+    let ended : c.loop-term.term-iterator ≡ [] = rest_all deref_pair _ _ _ c.in-None.is c.next.ensures.steps in
+    adding_ends c.args.tables.now c.loop-term.tables c.args.targets.now.entries c.loop-term.targets.entries c.args.more.now.entries c.args.guard
+    (subst (λ (l : List (ℕ × ℕ)). IsAdding c.args.tables.now c.loop-term.tables c.args.targets.now.entries c.loop-term.targets.entries l c.args.more.now.entries c.args.guard) ended c.loop-term.invariant)
+
+pub returns-clause-grows : goal.returns-clause-grows
+returns-clause-grows c = c.loop-term.invariant.grows

@@ -43,3 +43,11 @@ pub returns-in_err-add-clause-grows : goal.returns-in_err-add-clause-grows
 returns-in_err-add-clause-grows c =
     grows_trans c.args.tables.now c.loop-term.tables c.add.new.tables c.loop-term.invariant.grows
     (grows_trans c.loop-term.tables c.dot.new.self c.add.new.tables c.dot.ensures.grows c.add.ensures.grows.grows)
+
+pub dot-requires-clause-second : goal.dot-requires-clause-second
+dot-requires-clause-second c =
+    let a = c.loop-term.invariant in
+    term_within c.args.tables.now c.loop-term.tables a.grows.was a.grows c.args.after c.requires.is_term
+
+pub returns-clause-grows : goal.returns-clause-grows
+returns-clause-grows c = c.loop-term.invariant.grows

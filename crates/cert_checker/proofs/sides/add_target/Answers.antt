@@ -1,4 +1,4 @@
-use Rattle.std.proofs.Common.{◌≡◌, ◌++◌, ◌∷◌, [], ℕ, Bool, true, false, List, Vec, Global, Result, Ok, Err, OnOk, None, refl, ◌∙◌}
+use Rattle.std.proofs.Common.{◌≡◌, ◌++◌, ◌∷◌, [], ℕ, Bool, true, false, Vec, Global, Result, Ok, Err, OnOk, None, refl, ◌∙◌}
 use Rattle.cert_checker.specs.Cases.{known_of}
 use Rattle.cert_checker.specs.declared.known.Truth.TheVariants.{Known, Undecided}
 use Rattle.cert_checker.specs.declared.sides.TargetSide.{TargetSide}

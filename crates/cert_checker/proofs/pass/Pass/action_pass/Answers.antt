@@ -1,4 +1,4 @@
-use Rattle.std.proofs.Common.{◌≡◌, ◌≤◌, ℕ, List, [], map, length, None, refl, sym, ap, ◌∙◌, subst, arith}
+use Rattle.std.proofs.Common.{◌≡◌, ◌≤◌, ℕ, List, [], map, length, None, sym, ap, ◌∙◌, subst, arith}
 use Rattle.std.specs.Option.{option_map_or}
 use Rattle.std.proofs.lemmas.List.{length-map}
 use Rattle.kat_model.specs.Members.{Has}
@@ -12,7 +12,6 @@ use Rattle.cert_checker.specs.Passes.{PassParts, IsPass, AreForbidden, StepsOf}
 use Rattle.cert_checker.proofs.Passes.{pass_with, pass_kept, steps_stay, passes_trans, grown}
 use Rattle.cert_checker.proofs.CertPairs.{test_in_tables, listed_in}
 use Rattle.cert_checker.proofs.pass.Pass.action_pass.Goals as goal
-use Rattle.cert_checker.proofs.pass.Pass.action_pass.Goals.{in-None, in-Some}
 
 pub forbidden-requires-clause-pass : goal.forbidden-requires-clause-pass
 forbidden-requires-clause-pass c = pass_with _ c.steps.new.tables c.steps.ensures.grows (subst IsPass (sym c.self.view_is) c.requires)
@@ -47,19 +46,14 @@ end_tests-requires-clause-moves c =
 
 pub end_tests-requires-clause-pairs : goal.end_tests-requires-clause-pairs
 end_tests-requires-clause-pairs c =
-    let old : PassParts = record { problem = c.self.inside.problem.now; cert = c.self.inside.cert.now; index = c.self.inside.index.now; tables = c.steps.new.tables; left = c.self.inside.parts.left; right = c.self.inside.parts.right; universal = c.self.inside.parts.universal; shorts = c.self.inside.parts.shorts.items; acceptance_tests = c.self.inside.parts.acceptance_tests.items; forbidden_atoms = c.self.inside.parts.forbidden_atoms; needed_terms = c.self.inside.parts.needed_terms.items } in
     let begun = pass_with _ c.steps.new.tables c.steps.ensures.grows (subst IsPass (sym c.self.view_is) c.requires) in
     let p = c.forbidden.new.self in
-    let grows = c.forbidden.ensures.grows in
-    let pass = pass_kept old p grows begun in
+    let pass = pass_kept _ p c.forbidden.ensures.grows begun in
     let tables : c.self-2.inside.tables ≡ p.tables = ap (λ (z : PassParts). z.tables) c.self-2.view_is in
-    let asked : (c.match-action.style.0 ≡ option_map_or (λ a. old.cert.style) c.args.action UpTo) × (c.match-action.style.1.now ≡ option_map_or (λ a. old.cert.pairs) c.args.action []) × (c.match-action.style.2 ≡ option_map_or (λ a. old.universal) c.args.action None) = elim c.match-action.branch [
-      | in-None w ↦ rw (w.in-None.is, w.style-is) (refl, refl, refl)
-      | in-Some w ↦ rw (w.in-Some.is, w.style-is) (w.style.ensures.value, w.pairs.ensures.value, refl)
-    ] in
+    let listed : c.pairs_for-pairs.result.now ≡ option_map_or (λ a. p.cert.pairs) c.args.action [] = c.pairs_for-pairs.ensures ∙ ap (λ (z : PassParts). option_map_or (λ a. z.cert.pairs) c.args.action []) c.self-2.view_is in
     λ r k h e.
     subst (λ z. IsTest z k) (sym tables)
-    (test_in_tables p pass r (subst (λ (z : PassParts). Has z.cert.pairs r) (sym grows.same) (listed_in old begun c.args.action r (subst (λ (l : List PairParts). Has l r) asked.1 h))) k e)
+    (test_in_tables p pass r (listed_in p pass c.args.action r (subst (λ (l : List PairParts). Has l r) listed h)) k e)
 
 pub returns-clause-action_pass : goal.returns-clause-action_pass
 returns-clause-action_pass c =
@@ -69,24 +63,19 @@ returns-clause-action_pass c =
     let all : length made ≡ length c.self.inside.parts.needed_terms.items = length-map c.in_ok-steps.steps.items (λ e. e.entries) ∙ c.in_ok-steps.ensures.all ∙ ap length marks in
     let stand : StepsOf t c.args.action c.self.inside.parts.needed_terms.items made =
     record { steps = subst (λ m. AreSteps t c.args.action (IsMarked m) made) marks c.in_ok-steps.ensures.steps; count = all } in
-    let old : PassParts = record { problem = c.self.inside.problem.now; cert = c.self.inside.cert.now; index = c.self.inside.index.now; tables = c.steps.new.tables; left = c.self.inside.parts.left; right = c.self.inside.parts.right; universal = c.self.inside.parts.universal; shorts = c.self.inside.parts.shorts.items; acceptance_tests = c.self.inside.parts.acceptance_tests.items; forbidden_atoms = c.self.inside.parts.forbidden_atoms; needed_terms = c.self.inside.parts.needed_terms.items } in
     let begun = pass_with _ c.steps.new.tables c.steps.ensures.grows (subst IsPass (sym c.self.view_is) c.requires) in
     let p = c.forbidden.new.self in
     let grows = c.forbidden.ensures.grows in
     let tables : c.self-2.inside.tables ≡ p.tables = ap (λ (z : PassParts). z.tables) c.self-2.view_is in
     let fs = c.in_ok-forbidden.forbidden.items in
     let forbids = subst (λ (z : PassParts). AreForbidden p.tables z.cert z.problem c.args.action fs) (sym grows.same) c.in_ok-forbidden.ensures.forbidden in
-    let asked : (c.match-action.style.0 ≡ option_map_or (λ a. old.cert.style) c.args.action UpTo) × (c.match-action.style.1.now ≡ option_map_or (λ a. old.cert.pairs) c.args.action []) × (c.match-action.style.2 ≡ option_map_or (λ a. old.universal) c.args.action None) = elim c.match-action.branch [
-      | in-None w ↦ rw (w.in-None.is, w.style-is) (refl, refl, refl)
-      | in-Some w ↦ rw (w.in-Some.is, w.style-is) (w.style.ensures.value, w.pairs.ensures.value, refl)
-    ] in
     let low : length c.self.inside.parts.needed_terms.items ≤ length t.terms = omega (arith, begun.marks, begun.there) in
     record {
       steps = subst (λ (z : PassParts). StepsOf p.tables c.args.action z.needed_terms made) (sym grows.same) (steps_stay t p.tables grows.tables c.args.action c.self.inside.parts.needed_terms.items made low stand);
-      style = asked.0 ∙ ap (λ (z : PassParts). option_map_or (λ a. z.cert.style) c.args.action UpTo) (sym grows.same);
-      pairs = asked.1 ∙ ap (λ (z : PassParts). option_map_or (λ a. z.cert.pairs) c.args.action []) (sym grows.same);
+      style = c.style_for.ensures ∙ ap (λ (z : PassParts). option_map_or (λ a. z.cert.style) c.args.action UpTo) c.self-2.view_is;
+      pairs = c.pairs_for-pairs.ensures ∙ ap (λ (z : PassParts). option_map_or (λ a. z.cert.pairs) c.args.action []) c.self-2.view_is;
       index = ap (λ (z : PassParts). z.index) c.self-2.view_is;
-      universal = asked.2 ∙ ap (λ (z : PassParts). option_map_or (λ a. z.universal) c.args.action None) (sym grows.same);
+      universal = c.universal_for.ensures ∙ ap (λ (z : PassParts). option_map_or (λ a. z.universal) c.args.action None) c.self-2.view_is;
       forbidden = forbids;
       begin = subst (λ z. AreAsked z c.in_ok-begin.begin.items) tables c.in_ok-begin.ensures.asked;
       end = subst (λ z. AreAsked z c.in_ok-end.end.items) tables c.in_ok-end.ensures.asked;
