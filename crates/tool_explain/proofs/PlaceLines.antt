@@ -1,5 +1,5 @@
 -- The line of a place, by whether the place is at the end of the string.
-use Rattle.std.proofs.Common.{◌≡◌, ℕ, List, ◌++◌, codes, nat_eq, Bool, true, false, if◌then◌else◌, ap, inl, inr}
+use Rattle.std.proofs.Common.{◌≡◌, ℕ, List, ◌++◌, codes, nat_eq, Bool, if◌then◌else◌, ap, inl, inr}
 use Rattle.std.specs.Fmt.{decimal}
 use Rattle.std.proofs.lemmas.Bool.Decides.{eqb_tells}
 use Rattle.kat_report.specs.Paths.{path_text}

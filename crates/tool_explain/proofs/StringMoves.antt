@@ -1,5 +1,5 @@
 -- The next move of a string, as it is read from the list of its moves.
-use Rattle.std.proofs.Common.{◌≡◌, ℕ, List, length, slice_get, Option, Some, None, Bool, true, false, nat_eq, refl, sym, ap, ◌∙◌, inl, inr}
+use Rattle.std.proofs.Common.{◌≡◌, ℕ, List, length, slice_get, Option, Some, None, true, false, nat_eq, refl, sym, ap, ◌∙◌, inl, inr}
 use Rattle.std.specs.Option.{option_map}
 use Rattle.std.specs.List.{ItemBy}
 use Rattle.std.proofs.lemmas.Bool.Decides.{eqb_tells}

@@ -1,10 +1,8 @@
-use Rattle.std.proofs.Common.{[], ◌∷◌, ◌++◌, ◌∙◌, length, map, sym, ap, subst}
-use Rattle.kat_model.specs.Trees.{test_tree}
+use Rattle.std.proofs.Common.{◌∙◌, length, map, sym, ap, subst}
 use Rattle.while_lang.specs.FlowViews.{flows_tree}
 use Rattle.outline_rules.specs.declared.task.Task.{Task}
 use Rattle.outline_rules.specs.NoteLists.{note_holds}
 use Rattle.outline_rules.specs.Tasks.{task_parts}
-use Rattle.outline_rules.specs.Follows.{starts, ends}
 use Rattle.outline_rules.specs.Reasons.{IsOutOfRange}
 use Rattle.outline_rules.specs.Working.Checks.{condition_of}
 use Rattle.outline_rules.proofs.TaskRanges.{task_in_range, checks_in_range}

@@ -2,7 +2,6 @@ use Rattle.std.proofs.Common.{sym, subst, length}
 use Rattle.kat_model.specs.Steps.{Atom}
 use Rattle.outline_rules.specs.Interleaved.{atom_at_moment}
 use Rattle.outline_rules.specs.StepFunctions.{step_value, IsStepId, choice_by}
-use Rattle.outline_rules.specs.NoteLists.{node_holds}
 use Rattle.outline_rules.specs.Working.Sets.{HasPartsInRange}
 use Rattle.outline_rules.proofs.NodeSets.{branch_holds}
 use Rattle.outline_rules.proofs.StepSets.{tail_same}
