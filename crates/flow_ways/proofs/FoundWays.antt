@@ -1,5 +1,5 @@
 -- Ways that are found, and all ways.
-use Rattle.std.proofs.Common.{◌≡◌, ℕ, zero, suc, Bool, true, false, List, [], ◌∷◌, ◌++◌, length, map, Option, Some, None, slice_get, option_map, if◌then◌else◌, refl, sym, ◌∙◌, ap}
+use Rattle.std.proofs.Common.{◌≡◌, ℕ, zero, suc, Bool, true, false, ◌&&◌, List, [], ◌∷◌, ◌++◌, length, map, Option, Some, None, slice_get, option_map, if◌then◌else◌, refl, sym, subst, ◌∙◌, ap, arith}
 use mathlib.Core.Path.{ap₂}
 use Rattle.std.proofs.lemmas.List.{length-map}
 use Rattle.std.proofs.lemmas.Option.{slice_get-map}
@@ -9,6 +9,7 @@ use Rattle.std.specs.declared.alloc.Global.{Global}
 use Rattle.flow_model.specs.declared.graph.CondNode.{CondNode}
 use Rattle.flow_model.specs.declared.graph.Jump.{Jump}
 use Rattle.flow_model.specs.declared.graph.Jump.TheVariants.{Goto, Branch, Return, Abort}
+use Rattle.flow_model.specs.declared.graph.Statement.{Statement}
 use Rattle.flow_model.specs.declared.graph.Block.{Block as ABlock}
 use Rattle.flow_model.specs.Polish.{cond_of, statement_of, jump_of, block_of, graph_of}
 use Rattle.flow_forms.specs.declared.fault.FormFault.{FormFault}
@@ -16,9 +17,13 @@ use Rattle.flow_forms.specs.declared.fault.FormFault.TheVariants as form
 use Rattle.flow_ways.specs.Conditions.{FlowCondTree, opposite_cond}
 use Rattle.flow_ways.specs.CondForms.{cond_nodes_fit}
 use Rattle.flow_ways.specs.Ways.{Course, Way, at_place, with_test, condition_on, after_statements, ways_if, jump_ways, block_ways, ways_from, first_course, ways}
-use Rattle.flow_ways.specs.Outcomes.{Outcome, no_way, outcome_if, one_way, if_fits, placed_way, branch_outcome, jump_outcome, block_outcome, outcome_from, target_outcome, all_ways}
+use Rattle.flow_ways.specs.Outcomes.{Outcome, no_way, outcome_if, one_way, together, if_fits, statements_fit, placed_way, branch_outcome, jump_outcome, block_outcome, outcome_from, target_outcome, all_ways}
 use Rattle.flow_ways.specs.Faults.{way_fault_of}
 use Rattle.flow_ways.specs.CourseTrees.{if_goes}
+use Rattle.flow_ways.specs.declared.found.Found.{Found}
+use Rattle.flow_ways.specs.declared.fault.WayFault.{WayFault}
+use Rattle.flow_ways.specs.WayTrees.{way_tree, Adds, HasReason}
+use Rattle.flow_ways.proofs.CourseLists.{then_more}
 use Rattle.flow_ways.specs.declared.fault.WayFault.TheVariants.{TooLarge, TooManyPaths}
 
 -- faults
@@ -98,3 +103,40 @@ branch_is sorts go b k l c tree ns e m f =
     sym (ap₂ (λ fits t. if_fits fits (branch_outcome c t (go k) (go l)))
     (ap (λ xs. cond_nodes_fit sorts c.forms xs) (sym e) ∙ f)
     (ap (λ xs. condition_on sorts c (cond_of xs)) (sym e) ∙ sym m))
+
+-- a block whose statements go on
+pub block_is : (sorts : List Sort) (go : ℕ → Course → Outcome) (block : ABlock) (ss : List Statement) (course next : Course) (goes : Bool) → ss ≡ block.statements.items → goes ≡ true → if_goes goes next ≡ after_statements sorts (map statement_of ss) course → statements_fit sorts ss course ≡ true →
+    jump_outcome sorts go block.jump next ≡ block_outcome sorts go (Some block) course
+block_is sorts go block ss course next goes e t after fit =
+    sym (ap₂ (λ fits o. if_fits fits o)
+    (ap (λ xs. statements_fit sorts xs course) (sym e) ∙ fit)
+    (course_goes goes next (after_statements sorts (map statement_of block.statements.items) course) (jump_outcome sorts go block.jump) t (after ∙ ap (λ xs. after_statements sorts (map statement_of xs) course) e)))
+
+-- the ways of two outcomes, found one after the other
+
+both_added : (o p : Outcome) (old mid new : Found) → Adds o old mid → Adds p mid new → Adds (together o p) old new
+both_added o p old mid new a b = (
+  then_more (map way_tree old.ways.items) (map way_tree mid.ways.items) (map way_tree new.ways.items) o.ways p.ways a.0 b.0,
+  omega (arith, a.1, b.1),
+  ap₂ (λ x y. x && y) a.2 b.2,
+)
+
+second_reason : (o p : Outcome) (old mid : Found) (e : WayFault) → Adds o old mid → HasReason p mid.count e → HasReason (together o p) old.count e
+second_reason o p old mid e a h =
+    ((λ large. ap₂ (λ x y. x && y) a.2 (h.0 large)), (λ many. let more = h.1 many in omega (arith, a.1, more)))
+
+-- the second part of a branch, on the course of the first
+other_part : (course next : Course) (b opposite : FlowCondTree) (go : Course → Outcome) → next ≡ course → opposite ≡ opposite_cond b → outcome_if (with_test next opposite) go ≡ outcome_if (with_test course (opposite_cond b)) go
+other_part course next b opposite go e f = ap₂ (λ c x. outcome_if (with_test c x) go) e f
+
+pub branch_added : (course next : Course) (b opposite : FlowCondTree) (go other : Course → Outcome) (old mid new : Found) → next ≡ course → opposite ≡ opposite_cond b →
+    Adds (outcome_if (with_test course b) go) old mid → Adds (outcome_if (with_test next opposite) other) mid new → Adds (branch_outcome course b go other) old new
+branch_added course next b opposite go other old mid new e f first second =
+    both_added (outcome_if (with_test course b) go) (outcome_if (with_test course (opposite_cond b)) other) old mid new first
+    (subst (λ (o : Outcome). Adds o mid new) (other_part course next b opposite other e f) second)
+
+pub branch_reason : (course next : Course) (b opposite : FlowCondTree) (go other : Course → Outcome) (old mid : Found) (fault : WayFault) → next ≡ course → opposite ≡ opposite_cond b →
+    Adds (outcome_if (with_test course b) go) old mid → HasReason (outcome_if (with_test next opposite) other) mid.count fault → HasReason (branch_outcome course b go other) old.count fault
+branch_reason course next b opposite go other old mid fault e f first second =
+    second_reason (outcome_if (with_test course b) go) (outcome_if (with_test course (opposite_cond b)) other) old mid fault first
+    (subst (λ (o : Outcome). HasReason o mid.count fault) (other_part course next b opposite other e f) second)

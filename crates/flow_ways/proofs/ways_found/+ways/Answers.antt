@@ -1,6 +1,7 @@
-use Rattle.std.proofs.Common.{◌≡◌, suc, ◌-◌, false, List, Some, None, map, slice_get, slice_index_or, refl, sym, subst, arith}
+use Rattle.std.proofs.Common.{◌≡◌, suc, ◌-◌, false, List, Some, None, map, slice_get, slice_index_or, refl, sym, subst, ap, ◌∙◌, arith}
 use Rattle.std.specs.Prelude.{Vec, OnOk, IfErr}
 use Rattle.std.proofs.lemmas.Grind.{common_steps}
+use Rattle.std.proofs.lemmas.Result.{on_ok_weaker, IfErr-weaker}
 use Rattle.std.proofs.lemmas.Option.{gets}
 use Rattle.std.specs.declared.alloc.Global.{Global}
 use Rattle.flow_model.specs.declared.graph.ExprNode.{ExprNode}
@@ -8,9 +9,11 @@ use Rattle.flow_model.specs.declared.graph.Jump.{Jump}
 use Rattle.flow_ways.specs.CondTrees.{cond_tree}
 use Rattle.flow_ways.specs.CourseTrees.{course_tree}
 use Rattle.flow_ways.specs.Outcomes.{Outcome, one_way, if_fits, values_fit, returned_way, jump_outcome, target_outcome}
+use Rattle.flow_ways.specs.Ways.{with_test}
+use Rattle.flow_ways.specs.Conditions.{opposite_cond}
 use Rattle.flow_ways.specs.WayTrees.{way_tree, Adds, HasReason}
 use Rattle.flow_ways.proofs.CourseLists.{none_then}
-use Rattle.flow_ways.proofs.FoundWays.{outcome_here, branch_is}
+use Rattle.flow_ways.proofs.FoundWays.{outcome_here, branch_is, block_is, course_goes, branch_added, branch_reason}
 use Rattle.flow_ways.proofs.ways_found.+ways.Goals as goal
 
 pub ways_from-returns-in-Some-clause-added : goal.ways_from-returns-in-Some-clause-added
@@ -65,3 +68,49 @@ ways_of_jump-returns-in-Return-clause-added t c =
     subst (λ (j : Jump). OnOk c.end_with_results.result (Adds (jump_outcome sorts go j course) c.args.found.now c.end_with_results.new.found)) (sym c.in-Return.is)
     (subst (λ (es : List (Vec ExprNode Global)). OnOk c.end_with_results.result (Adds (if_fits (values_fit sorts course.forms es) (one_way (returned_way sorts es course))) c.args.found.now c.end_with_results.new.found)) c.deref-in-Return.ensures.value
     c.end_with_results.ensures.added)
+
+pub ways_of_branch-returns-clause-added : goal.ways_of_branch-returns-clause-added
+ways_of_branch-returns-clause-added t c =
+    let go = target_outcome c.args.setting.now.blocks.now c.args.setting.now.sorts.now (λ l. slice_index_or c.args.setting.now.places.now l false) c.args.depth in
+    on_ok_weaker c.ways_under.result
+    (branch_added (course_tree c.args.course.now) (course_tree c.ways_aside.new.course) (cond_tree c.args.cond) (cond_tree c.in_ok-opposite.opposite) (go c.args.block) (go c.args.other) c.args.found.now c.ways_aside.new.found c.ways_under.new.found
+    c.in_ok-ways_aside.ensures.restored (c.in_ok-opposite.ensures ∙ ap opposite_cond c.in_ok-copy.ensures) c.in_ok-ways_aside.ensures.added)
+    c.ways_under.ensures.added
+
+pub ways_of_branch-returns-clause-refused : goal.ways_of_branch-returns-clause-refused
+ways_of_branch-returns-clause-refused t c =
+    let go = target_outcome c.args.setting.now.blocks.now c.args.setting.now.sorts.now (λ l. slice_index_or c.args.setting.now.places.now l false) c.args.depth in
+    IfErr-weaker c.ways_under.result _ _
+    (λ fault. branch_reason (course_tree c.args.course.now) (course_tree c.ways_aside.new.course) (cond_tree c.args.cond) (cond_tree c.in_ok-opposite.opposite) (go c.args.block) (go c.args.other) c.args.found.now c.ways_aside.new.found fault
+    c.in_ok-ways_aside.ensures.restored (c.in_ok-opposite.ensures ∙ ap opposite_cond c.in_ok-copy.ensures) c.in_ok-ways_aside.ensures.added)
+    c.ways_under.ensures.refused
+
+pub ways_through-returns-clause-added : goal.ways_through-returns-clause-added
+ways_through-returns-clause-added t c =
+    let sorts = c.args.setting.now.sorts.now in
+    let go = target_outcome c.args.setting.now.blocks.now sorts (λ l. slice_index_or c.args.setting.now.places.now l false) c.args.depth in
+    subst (λ (o : Outcome). OnOk c.ways_of_jump.result (Adds o c.args.found.now c.ways_of_jump.new.found))
+    (block_is sorts go c.args.block.now c.deref.result.now (course_tree c.args.course.now) (course_tree c.run_statements.new.course) c.in_ok-goes.goes c.deref.ensures.value c.if-not-goes.false c.in_ok-goes.ensures.after c.in_ok-goes.ensures.fits)
+    c.ways_of_jump.ensures.added
+
+pub ways_through-returns-clause-refused : goal.ways_through-returns-clause-refused
+ways_through-returns-clause-refused t c =
+    let sorts = c.args.setting.now.sorts.now in
+    let go = target_outcome c.args.setting.now.blocks.now sorts (λ l. slice_index_or c.args.setting.now.places.now l false) c.args.depth in
+    subst (λ (o : Outcome). IfErr c.ways_of_jump.result (HasReason o c.args.found.now.count))
+    (block_is sorts go c.args.block.now c.deref.result.now (course_tree c.args.course.now) (course_tree c.run_statements.new.course) c.in_ok-goes.goes c.deref.ensures.value c.if-not-goes.false c.in_ok-goes.ensures.after c.in_ok-goes.ensures.fits)
+    c.ways_of_jump.ensures.refused
+
+pub ways_under-returns-clause-added : goal.ways_under-returns-clause-added
+ways_under-returns-clause-added t c =
+    let go = target_outcome c.args.setting.now.blocks.now c.args.setting.now.sorts.now (λ l. slice_index_or c.args.setting.now.places.now l false) c.args.depth in
+    subst (λ (o : Outcome). OnOk c.ways_on.result (Adds o c.args.found.now c.ways_on.new.found))
+    (sym (course_goes c.in_ok-goes.goes (course_tree c.ask.new.course) (with_test (course_tree c.args.course.now) (cond_tree c.args.cond)) (go c.args.block) c.if-not-goes.false c.in_ok-goes.ensures.test))
+    c.ways_on.ensures.added
+
+pub ways_under-returns-clause-refused : goal.ways_under-returns-clause-refused
+ways_under-returns-clause-refused t c =
+    let go = target_outcome c.args.setting.now.blocks.now c.args.setting.now.sorts.now (λ l. slice_index_or c.args.setting.now.places.now l false) c.args.depth in
+    subst (λ (o : Outcome). IfErr c.ways_on.result (HasReason o c.args.found.now.count))
+    (sym (course_goes c.in_ok-goes.goes (course_tree c.ask.new.course) (with_test (course_tree c.args.course.now) (cond_tree c.args.cond)) (go c.args.block) c.if-not-goes.false c.in_ok-goes.ensures.test))
+    c.ways_on.ensures.refused
