@@ -87,12 +87,14 @@ fn short_hyp(
     ensures term { IfOk result (λ h. tree_at store.new h.term ≡ kat_tree hyp.now) }
     ensures kept { Grows store.old store.new }
 {
+    let term = store.of_tree(hyp)?;
+    let copy = hyp.copy(alloc)?;
     let mut tests = vec![in alloc; false; problem.tests()]?;
     let mut acts = vec![in alloc; false; problem.actions()]?;
     mark_all(hyp, &mut tests, &mut acts);
     Ok(ShortHyp {
-        hyp: hyp.copy(alloc)?,
-        term: store.of_tree(hyp)?,
+        hyp: copy,
+        term,
         tests,
         acts,
     })
@@ -256,7 +258,21 @@ pub(crate) fn count_all(counts: &mut [bool])
 
 // Returns the number of flags that are set.
 fn count_of(flags: &[bool]) -> usize {
-    flags.iter().filter(|flag| **flag).count()
+    let mut count: usize = 0;
+    for flag in flags {
+        if *flag {
+            count = count.saturating_add(1);
+        }
+    }
+    count
+}
+
+// Whether the flag at this place is set.
+fn is_set(flags: &[bool], place: usize) -> bool {
+    match flags.get(place) {
+        Some(flag) => *flag,
+        None => false,
+    }
 }
 
 /// Sets the flags of the tests that occur in the hypothesis.
@@ -271,8 +287,8 @@ pub(crate) fn mark_tests(hyp: &ShortHyp, flags: &mut [bool]) {
 // Returns the tests that occur in hypotheses that count.
 fn known_tests(alloc: Global, hyps: &[ShortHyp], counts: &[bool]) -> Result<Vec<bool>, NoMemory> {
     let mut known = vec![in alloc; false; MAX_TESTS]?;
-    for (hyp, counted) in hyps.iter().zip(counts) {
-        if *counted {
+    for (place, hyp) in hyps.iter().enumerate() {
+        if is_set(counts, place) {
             mark_tests(hyp, &mut known);
         }
     }
@@ -281,19 +297,16 @@ fn known_tests(alloc: Global, hyps: &[ShortHyp], counts: &[bool]) -> Result<Vec<
 
 // Returns the number of tests of the hypothesis at this place that are not known, and the number of its tests.
 fn cost_of(hyps: &[ShortHyp], known: &[bool], place: usize) -> (usize, usize) {
+    let Some(hyp) = hyps.get(place) else {
+        return (0, 0);
+    };
     let mut fresh: usize = 0;
-    let mut count: usize = 0;
-    if let Some(hyp) = hyps.get(place) {
-        for (own, is_known) in hyp.tests.iter().zip(known) {
-            if *own {
-                count = count.saturating_add(1);
-                if !*is_known {
-                    fresh = fresh.saturating_add(1);
-                }
-            }
+    for (test, occurs) in hyp.tests.iter().enumerate() {
+        if *occurs && !is_set(known, test) {
+            fresh = fresh.saturating_add(1);
         }
     }
-    (fresh, count)
+    (fresh, count_of(&hyp.tests))
 }
 
 // Returns the place whose hypothesis costs less, or the first.
