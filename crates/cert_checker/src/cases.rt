@@ -16,8 +16,11 @@ use std::alloc::Global;
 fn least_values(alloc: Global, decided: &[Option<bool>]) -> Result<Vec<bool>, NoMemory>
     ensures { IfOk result (λ v. v.items ≡ least_of decided.now) }
 {
-    let values = decided.iter().map(|value| value.unwrap_or(false));
-    Ok(values.collect(alloc)?)
+    let mut values = Vec::new(alloc);
+    for value in decided {
+        values.push(value.unwrap_or(false))?;
+    }
+    Ok(values)
 }
 
 // Whether no values that extend the decided tests are below the bound.

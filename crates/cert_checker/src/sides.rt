@@ -123,7 +123,8 @@ pub(crate) fn side_of(
 pub(crate) fn is_sure(targets: &Targets, term: usize, known: &[Truth]) -> bool
     ensures { result ≡ is_sure' known.now targets.now.entries term }
 {
-    targets
-        .get(&term)
-        .is_some_and(|guard| is_true(value_of(known, *guard)))
+    match targets.get(&term) {
+        Some(guard) => is_true(value_of(known, *guard)),
+        None => false,
+    }
 }

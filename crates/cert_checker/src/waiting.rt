@@ -8,8 +8,14 @@ use crate::known::{TestCase, Truth, test_value, value_of};
 use crate::question::Question;
 use crate::sides::{TargetSides, is_sure};
 
+// Whether all of the terms are surely among the targets.
 fn has_surely_all(targets: &Targets, terms: &[usize], known: &[Truth]) -> bool {
-    terms.iter().all(|term| is_sure(targets, *term, known))
+    for term in terms {
+        if !is_sure(targets, *term, known) {
+            return false;
+        }
+    }
+    true
 }
 
 /// Returns an undecided test that a listed pair depends on, preferably of a pair whose sets are surely subsets of the
