@@ -14,6 +14,7 @@ use Rattle.flow_ways.proofs.way.+push_results.Goals as goal
 result_then : {X : Type 0} (old mid new rest : List X) (x y : X) → x ≡ y → mid ≡ old ++ x ∷ [] → new ≡ mid ++ rest → new ≡ old ++ y ∷ rest
 result_then old mid new rest x y is e f = pushed_then old mid new rest y (e ∙ ap (λ z. old ++ z ∷ []) is) f
 
+-- a value that fits before others
 first_fits : (a b r : Bool) → a ≡ true → b ≡ r → (a && b) ≡ r
 first_fits a b r e f = ap (λ x. x && b) e ∙ f
 
