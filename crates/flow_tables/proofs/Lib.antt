@@ -4,6 +4,7 @@ pub mod KnownFacts
 pub mod SplitLists
 pub mod SplitCounts
 pub mod EdgesOfTables
+pub mod MappedLists
 mod SameActions
 mod TableRows
 pub mod GraphRows

@@ -11,7 +11,7 @@ ghost use Rattle.flow_tables.specs.EdgeViews.{flow_action};
 use flow_forms::{FlowForm, same_form};
 use flow_model::Sort;
 use flow_ways::SortedForm;
-use kat_model::{NoMemory, TableRow};
+use kat_model::{NoMemory, TableRow, append};
 use std::alloc::Global;
 
 /// An action: for each variable the form that it is set to, if any; or the results of a `return`.
@@ -44,7 +44,7 @@ fn copy_sets(alloc: Global, sets: &[Option<FlowForm>]) -> Result<Vec<Option<Flow
 {
     let mut list = Vec::new(alloc);
     for set in sets {
-        list.push(copy_set(alloc, set)?)?;
+        append(&mut list, copy_set(alloc, set)?)?;
     }
     Ok(list)
 }
@@ -64,7 +64,7 @@ fn copy_results(alloc: Global, results: &[SortedForm]) -> Result<Vec<SortedForm>
 {
     let mut list = Vec::new(alloc);
     for sorted in results {
-        list.push(copy_result(alloc, sorted)?)?;
+        append(&mut list, copy_result(alloc, sorted)?)?;
     }
     Ok(list)
 }

@@ -13,7 +13,7 @@ use crate::edge::FlowEdge;
 use crate::edge_table::{EdgeTable, add_graphs};
 use crate::fault::TableFault;
 use crate::rows::is_left_out;
-use kat_model::{MAX_ACTIONS, NoMemory};
+use kat_model::{MAX_ACTIONS, NoMemory, append};
 use std::alloc::Global;
 
 // Adds an action, unless the table has it already or has too many.
@@ -28,7 +28,7 @@ fn add_action(
         return Ok(());
     }
     let row = action.copy(alloc)?;
-    Ok(rows.push(row)?)
+    append(rows, row)
 }
 
 impl EdgeTable for Vec<FlowAction> {

@@ -9,7 +9,7 @@ ghost use Rattle.flow_tables.specs.CellTests.{cell_test_tree, test_if_any, teste
 
 use flow_forms::{FlowComparison, FlowForm};
 use flow_model::Sort;
-use kat_model::{NoMemory, Width};
+use kat_model::{NoMemory, Width, append};
 use std::alloc::Global;
 
 /// A test that a cell of a width is a number.
@@ -203,7 +203,7 @@ fn push_if_any(list: &mut Vec<CellTest>, test: Option<CellTest>) -> Result<(), N
 {
     match test {
         None => Ok(()),
-        Some(test) => Ok(list.push(test)?),
+        Some(test) => append(list, test),
     }
 }
 

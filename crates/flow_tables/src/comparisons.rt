@@ -14,7 +14,7 @@ use crate::fault::TableFault;
 use crate::rows::is_left_out;
 use flow_forms::FlowComparison;
 use flow_ways::FlowCond;
-use kat_model::{MAX_TESTS, NoMemory};
+use kat_model::{MAX_TESTS, NoMemory, append};
 use std::alloc::Global;
 
 // Adds a comparison, unless the table has it already or has too many.
@@ -29,7 +29,7 @@ fn add_comparison(
         return Ok(());
     }
     let row = comparison.copy(alloc)?;
-    Ok(rows.push(row)?)
+    append(rows, row)
 }
 
 // Adds the comparisons of a condition.

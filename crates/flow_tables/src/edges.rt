@@ -18,7 +18,7 @@ use crate::edge::FlowEdge;
 use flow_forms::FlowForm;
 use flow_model::{Block, Sort};
 use flow_ways::{Way, WayEnd, WayFault, action_of, ways};
-use kat_model::NoMemory;
+use kat_model::{NoMemory, append};
 use std::alloc::Global;
 
 // Returns the parallel assignment of a way that ends at a block with forms of the variables.
@@ -92,7 +92,7 @@ fn edges_of(
 {
     let mut edges = Vec::new(alloc);
     for way in list {
-        edges.push(edge_of(alloc, sorts, live, way)?)?;
+        append(&mut edges, edge_of(alloc, sorts, live, way)?)?;
     }
     Ok(edges)
 }

@@ -13,7 +13,7 @@ use crate::edge::FlowEdge;
 use crate::term::edge_term;
 use flow_forms::FlowComparison;
 use flow_problem::{Row, TermFault, eliminated};
-use kat_model::{Kat, NoMemory, sum_of};
+use kat_model::{Kat, NoMemory, append, sum_of};
 use std::alloc::Global;
 
 // Returns whether an edge leads to a block, or to the end.
@@ -42,11 +42,10 @@ fn push_edge(
         return Ok(());
     }
     let term = edge_term(alloc, tests, actions, edge)?;
-    Ok(list.push(term)?)
+    append(list, term)
 }
 
 // Returns the sum of the edges that lead to a block, or to the end.
-#[tactic(auto, using(crate::proofs::GraphRows::next_edge))]
 fn edges_term(
     alloc: Global,
     tests: &[FlowComparison],
@@ -75,7 +74,8 @@ fn steps_of(
 {
     let mut steps = Vec::new(alloc);
     for place in places.iter().rev() {
-        steps.push(edges_term(alloc, tests, actions, edges, Some(*place))?)?;
+        let term = edges_term(alloc, tests, actions, edges, Some(*place))?;
+        append(&mut steps, term)?;
     }
     Ok(steps)
 }
@@ -106,7 +106,7 @@ fn rows_of(
 {
     let mut rows = Vec::new(alloc);
     for edges in list.iter().rev() {
-        rows.push(row_of(alloc, tests, actions, places, edges)?)?;
+        append(&mut rows, row_of(alloc, tests, actions, places, edges)?)?;
     }
     Ok(rows)
 }

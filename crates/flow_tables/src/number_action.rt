@@ -15,7 +15,7 @@ use crate::number::{Split, with_number};
 use flow_forms::{FlowForm, FormFault};
 use flow_model::Sort;
 use flow_ways::{SortedForm, own_form};
-use kat_model::NoMemory;
+use kat_model::{NoMemory, append};
 use std::alloc::Global;
 
 fn set_has(cell: &FlowForm, set: &Option<FlowForm>) -> bool
@@ -117,8 +117,7 @@ fn set_if_any(
 fn push_set(list: &mut Vec<Option<FlowForm>>, set: Option<FlowForm>) -> Result<(), NoMemory>
     ensures { OnOk result (map set_tree list.new.items ≡ map set_tree list.old.items ++ set_tree set ∷ []) }
 {
-    list.push(set)?;
-    Ok(())
+    append(list, set)
 }
 
 // Appends what the variables from `number` on, whose sorts are `own`, are set to.
@@ -172,7 +171,6 @@ fn push_sets_of(
 
 // Appends what a variable is set to, and what the variables after it are set to.
 #[cycle(push_sets)]
-#[tactic(auto, using(crate::proofs::SplitLists::set_then))]
 fn push_sets_then(
     alloc: Global,
     split: &Split,
@@ -226,8 +224,7 @@ fn result_with(alloc: Global, split: &Split, sorted: &SortedForm) -> Result<Sort
 fn push_result(list: &mut Vec<SortedForm>, sorted: SortedForm) -> Result<(), NoMemory>
     ensures { OnOk result (map sorted_form list.new.items ≡ map sorted_form list.old.items ++ sorted_form sorted ∷ []) }
 {
-    list.push(sorted)?;
-    Ok(())
+    append(list, sorted)
 }
 
 // Appends results with the number in the place of the cell.
@@ -251,7 +248,7 @@ fn push_results(
 }
 
 #[cycle(push_results)]
-#[tactic(auto, using(flow_ways::proofs::CourseLists::pushed_then, crate::proofs::Numbered::no_second))]
+#[tactic(auto, using(crate::proofs::Numbered::no_second))]
 fn push_results_from(
     alloc: Global,
     split: &Split,

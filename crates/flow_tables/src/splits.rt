@@ -18,53 +18,69 @@ use crate::number_action::number_action;
 use crate::split_fault::SplitFault;
 use flow_forms::FlowComparison;
 use flow_model::Sort;
-use flow_ways::{FlowCond, MAX_WAYS};
-use kat_model::NoMemory;
+use flow_ways::{FlowCond, MAX_WAYS, copy_conds};
+use kat_model::{NoMemory, append};
 use std::alloc::Global;
 
 #[tactic(auto, using(flow_ways::proofs::CourseLists::map_pushed))]
 fn push_edge(list: &mut Vec<FlowEdge>, edge: FlowEdge) -> Result<(), NoMemory>
     ensures { OnOk result (map flow_edge list.new.items ≡ map flow_edge list.old.items ++ flow_edge edge ∷ []) }
 {
-    list.push(edge)?;
-    Ok(())
+    append(list, edge)
 }
 
 #[tactic(auto, using(flow_ways::proofs::CourseLists::map_pushed))]
 fn push_test(list: &mut Vec<FlowCond>, test: FlowCond) -> Result<(), NoMemory>
     ensures { OnOk result (map cond_tree list.new.items ≡ map cond_tree list.old.items ++ cond_tree test ∷ []) }
 {
-    list.push(test)?;
-    Ok(())
+    append(list, test)
 }
 
-// Returns an edge with another test and another action.
-#[tactic(auto, using(crate::proofs::SplitLists::more_tests))]
-fn where_equal(edge: FlowEdge, test: FlowCond, action: FlowAction) -> Result<FlowEdge, NoMemory>
-    ensures { IfOk result (λ e. flow_edge e ≡ with_action (cond_tree test ∷ []) (flow_action action) (flow_edge edge)) }
+// Returns the condition that a comparison does not hold.
+fn opposite_of(alloc: Global, comparison: &FlowComparison) -> Result<FlowCond, NoMemory>
+    ensures { IfOk result (λ b. cond_tree b ≡ negation (atom (comparison_tree comparison.now))) }
 {
-    let FlowEdge { tests, target, .. } = edge;
-    let mut tests = tests;
-    push_test(&mut tests, test)?;
+    let same = FlowCond::Atom(comparison.copy(alloc)?);
+    Ok(FlowCond::Negation(Box::new(alloc, same)?))
+}
+
+// Returns a copy of an edge where a comparison holds too, with an action in place of its own.
+#[tactic(auto, using(crate::proofs::SplitLists::more_tests))]
+fn where_equal(
+    alloc: Global,
+    comparison: &FlowComparison,
+    edge: &FlowEdge,
+    action: FlowAction,
+) -> Result<FlowEdge, NoMemory>
+    ensures { IfOk result (λ e. flow_edge e ≡ with_action (atom (comparison_tree comparison.now) ∷ []) (flow_action action) (flow_edge edge.now)) }
+{
+    let holds = FlowCond::Atom(comparison.copy(alloc)?);
+    let mut tests = copy_conds(alloc, &edge.tests)?;
+    push_test(&mut tests, holds)?;
     Ok(FlowEdge {
         tests,
         action,
-        target,
+        target: edge.target,
     })
 }
 
-// Returns an edge with another test.
+// Returns an edge where a comparison does not hold.
 #[tactic(auto, using(crate::proofs::SplitLists::more_tests))]
-fn where_other(edge: FlowEdge, test: FlowCond) -> Result<FlowEdge, NoMemory>
-    ensures { IfOk result (λ e. flow_edge e ≡ edge_where_other (cond_tree test ∷ []) (flow_edge edge)) }
+fn where_other(
+    alloc: Global,
+    comparison: &FlowComparison,
+    edge: FlowEdge,
+) -> Result<FlowEdge, NoMemory>
+    ensures { IfOk result (λ e. flow_edge e ≡ edge_where_other (negation (atom (comparison_tree comparison.now)) ∷ []) (flow_edge edge)) }
 {
+    let fails = opposite_of(alloc, comparison)?;
     let FlowEdge {
         tests,
         action,
         target,
     } = edge;
     let mut tests = tests;
-    push_test(&mut tests, test)?;
+    push_test(&mut tests, fails)?;
     Ok(FlowEdge {
         tests,
         action,
@@ -83,12 +99,10 @@ fn push_both(
 ) -> Result<(), NoMemory>
     ensures { OnOk result (map flow_edge list.new.items ≡ map flow_edge list.old.items ++ with_action (atom (comparison_tree comparison.now) ∷ []) (flow_action action) (flow_edge edge) ∷ edge_where_other (negation (atom (comparison_tree comparison.now)) ∷ []) (flow_edge edge) ∷ []) }
 {
-    let holds = FlowCond::Atom(comparison.copy(alloc)?);
-    let same = FlowCond::Atom(comparison.copy(alloc)?);
-    let fails = FlowCond::Negation(Box::new(alloc, same)?);
-    let copy = edge.copy(alloc)?;
-    push_edge(list, where_equal(copy, holds, action)?)?;
-    push_edge(list, where_other(edge, fails)?)
+    let equal = where_equal(alloc, comparison, &edge, action)?;
+    push_edge(list, equal)?;
+    let other = where_other(alloc, comparison, edge)?;
+    push_edge(list, other)
 }
 
 // Returns an edge with another action.

@@ -11,7 +11,7 @@ use crate::action::{FlowAction, is_idle};
 use crate::edge::FlowEdge;
 use flow_forms::FlowComparison;
 use flow_ways::FlowCond;
-use kat_model::{Kat, NoMemory, Test, place_of, seq_of};
+use kat_model::{Kat, NoMemory, Test, append, place_of, seq_of};
 use std::alloc::Global;
 
 // The number of a comparison among the tests.
@@ -62,7 +62,7 @@ fn cond_terms(
     let mut list = Vec::new(alloc);
     for cond in conds {
         let test = test_of_cond(alloc, tests, cond)?;
-        list.push(Kat::Test(test))?;
+        append(&mut list, Kat::Test(test))?;
     }
     Ok(list)
 }
@@ -78,7 +78,7 @@ fn push_action(
     if is_idle(action) {
         return Ok(());
     }
-    Ok(list.push(Kat::Act(action_number(actions, action)))?)
+    append(list, Kat::Act(action_number(actions, action)))
 }
 
 /// Returns the term of an edge over tests and actions: its tests in order, then its action if that changes something, as

@@ -1,3 +1,4 @@
+use Rattle.std.proofs.lemmas.Result.{on_ok_weaker}
 use Rattle.kat_model.specs.declared.limits.TheConstants.{MAX_ACTIONS}
 use Rattle.flow_problem.specs.Edges.{is_same_action}
 use Rattle.flow_tables.specs.EdgeViews.{flow_action}
@@ -10,5 +11,7 @@ returns-then-is_left_out c =
 
 pub returns : goal.returns
 returns c =
-    row_added flow_action is_same_action MAX_ACTIONS c.args.rows.now.items c.args.action.now c.deref.result.now c.push.new.self.items c.in_ok-row.row c.is_left_out.result c.deref.ensures.value c.is_left_out.ensures
-    c.if-is_left_out.false c.in_ok-push.ensures.items c.in_ok-row.ensures
+    on_ok_weaker c.append.result
+    (λ pushed. row_added flow_action is_same_action MAX_ACTIONS c.args.rows.now.items c.args.action.now c.deref.result.now c.append.new.list.items c.in_ok-row.row c.is_left_out.result c.deref.ensures.value c.is_left_out.ensures
+    c.if-is_left_out.false pushed c.in_ok-row.ensures)
+    c.append.ensures

@@ -5,7 +5,14 @@ use Rattle.std.proofs.lemmas.Iterator.Consumers.{YieldsList-end}
 use Rattle.flow_ways.specs.WayTrees.{way_tree}
 use Rattle.flow_problem.specs.Edges.{edge_of}
 use Rattle.flow_tables.specs.EdgeTables.{table_marks}
+use Rattle.flow_tables.specs.EdgeViews.{flow_edge}
+use Rattle.flow_tables.proofs.MappedLists.{mapped_given}
 use Rattle.flow_tables.proofs.edges.edges_of.Goals as goal
+
+pub loop-way-preserved : goal.loop-way-preserved
+loop-way-preserved c =
+    mapped_given (edge_of (table_marks [] c.args.live.now) c.args.sorts.now) way_tree flow_edge c.loop-way.yielded c.in-Some.way _ _ _
+    c.loop-way.invariant c.in_ok-append.ensures c.in_ok-edge_of.ensures
 
 pub returns : goal.returns
 returns c =

@@ -1,11 +1,24 @@
-use Rattle.std.proofs.Common.{◌∙◌, ap, map}
+use Rattle.std.proofs.Common.{◌∙◌, ap, map, sym, Vec, Bor}
 use Rattle.std.proofs.lemmas.Iterator.Adapters.{YieldsList-from_rev_slice}
 use Rattle.std.proofs.lemmas.Iterator.Consumers.{YieldsList-at, YieldsList-end}
+use Rattle.std.specs.declared.alloc.Global.{Global}
 use Rattle.flow_forms.specs.Comparisons.{comparison_tree}
-use Rattle.flow_tables.specs.EdgeViews.{flow_action}
+use Rattle.flow_ways.proofs.CourseLists.{map_pushed}
+use Rattle.flow_problem.specs.Rows.{row_tree}
+use Rattle.flow_tables.specs.declared.edge.FlowEdge.{FlowEdge}
+use Rattle.flow_tables.specs.EdgeViews.{flow_action, flow_edge}
 use Rattle.flow_tables.specs.GraphRows.{row_edges, edge_row}
 use Rattle.flow_tables.proofs.GraphRows.{map-reverse}
+use Rattle.flow_tables.proofs.MappedLists.{mapped_given}
 use Rattle.flow_tables.proofs.graph.rows_of.Goals as goal
+
+pub loop-edges-preserved : goal.loop-edges-preserved
+loop-edges-preserved c =
+    let now = λ (y : Bor (Vec FlowEdge Global)). y.now in
+    let row = edge_row (map comparison_tree c.args.tests.now) (map flow_action c.args.actions.now) c.args.places.now in
+    mapped_given row row_edges row_tree (map now c.loop-edges.yielded) c.in-Some.edges.now _ _ _ c.loop-edges.invariant c.in_ok-append.ensures
+    (c.in_ok-row_of.ensures ∙ ap (λ es. row (map flow_edge es)) c.deref.ensures.value)
+    ∙ ap (λ rows. map row (map row_edges rows)) (sym (map_pushed now c.loop-edges.yielded c.in-Some.edges))
 
 pub returns : goal.returns
 returns c =

@@ -1,10 +1,17 @@
-use Rattle.std.proofs.Common.{◌∙◌, ap, map, Some}
+use Rattle.std.proofs.Common.{◌∙◌, ap, map, ℕ, Some, Bor}
 use Rattle.std.proofs.lemmas.Iterator.Adapters.{YieldsList-from_rev_slice}
 use Rattle.std.proofs.lemmas.Iterator.Consumers.{YieldsList-at, YieldsList-end}
+use Rattle.kat_model.specs.Trees.{kat_tree}
 use Rattle.flow_forms.specs.Comparisons.{comparison_tree}
 use Rattle.flow_tables.specs.EdgeViews.{flow_action, flow_edge}
 use Rattle.flow_tables.specs.GraphRows.{edges_term}
+use Rattle.flow_tables.proofs.MappedLists.{mapped_given}
 use Rattle.flow_tables.proofs.graph.steps_of.Goals as goal
+
+pub loop-place-preserved : goal.loop-place-preserved
+loop-place-preserved c =
+    mapped_given (λ j. edges_term (map comparison_tree c.args.tests.now) (map flow_action c.args.actions.now) (map flow_edge c.args.edges.now) (Some j)) (λ (y : Bor ℕ). y.now) kat_tree
+    c.loop-place.yielded c.in-Some.place _ _ _ c.loop-place.invariant c.in_ok-append.ensures c.in_ok-term.ensures
 
 pub returns : goal.returns
 returns c =
