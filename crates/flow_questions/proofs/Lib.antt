@@ -5,7 +5,6 @@ pub mod FactsByList
 pub mod IntervalSteps
 pub mod AssignedForms
 pub mod GrownTables
-mod MappedLists
 pub mod ActionFacts
 pub mod TermRanges
 pub mod FactRanges

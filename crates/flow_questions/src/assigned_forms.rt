@@ -69,7 +69,6 @@ fn push_forms_from(
 
 // Appends the form of a variable, and those of the variables after it.
 #[cycle(push_forms)]
-#[tactic(auto, using(crate::proofs::AssignedForms::form_then))]
 fn push_forms_then(
     alloc: Global,
     others: &[Sort],

@@ -190,7 +190,6 @@ fn add_tests_facts(
 }
 
 #[cycle(add_tests_facts)]
-#[tactic(auto, using(crate::proofs::CappedHypotheses::capped_then))]
 fn add_tests_facts_from(
     setting: &Setting<'_>,
     action: &Assignment<'_>,
@@ -264,7 +263,6 @@ fn add_actions_facts(
 }
 
 #[cycle(add_actions_facts)]
-#[tactic(auto, using(crate::proofs::CappedHypotheses::capped_then))]
 fn add_actions_facts_from(
     setting: &Setting<'_>,
     number: usize,

@@ -91,7 +91,6 @@ pub(crate) fn add_completed(
 }
 
 #[cycle(add_completed)]
-#[tactic(auto, using(crate::proofs::CappedHypotheses::capped_then))]
 fn add_completed_from(
     alloc: Global,
     pending: Pending,

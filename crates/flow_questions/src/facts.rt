@@ -86,7 +86,6 @@ fn add_order_facts(
 }
 
 #[cycle(add_order_facts)]
-#[tactic(auto, using(crate::proofs::CappedHypotheses::capped_then))]
 fn add_order_facts_from(
     alloc: Global,
     first: &NumberedTest<'_>,
@@ -179,7 +178,6 @@ fn add_three_ways(
 }
 
 #[cycle(add_three_ways)]
-#[tactic(auto, using(crate::proofs::CappedHypotheses::capped_then))]
 fn add_three_ways_from(
     alloc: Global,
     tests: &[FlowComparison],
@@ -255,7 +253,6 @@ fn add_next_numbers(
 }
 
 #[cycle(add_next_numbers)]
-#[tactic(auto, using(crate::proofs::CappedHypotheses::capped_then))]
 fn add_next_numbers_from(
     alloc: Global,
     tests: &[FlowComparison],
@@ -371,7 +368,6 @@ fn add_facts(
 }
 
 #[cycle(add_facts)]
-#[tactic(auto, using(crate::proofs::CappedHypotheses::capped_then))]
 fn add_facts_from(
     alloc: Global,
     kind: FactKind,

@@ -101,7 +101,6 @@ fn add_three_arc_fact(
 }
 
 // Appends the facts of two tests and their opposites.
-#[tactic(auto, using(crate::proofs::CappedHypotheses::capped_four))]
 fn add_two_arc_facts(
     alloc: Global,
     width: Width,
@@ -203,7 +202,6 @@ fn add_thirds(
 }
 
 #[cycle(add_thirds)]
-#[tactic(auto, using(crate::proofs::CappedHypotheses::capped_then))]
 fn add_thirds_from(
     alloc: Global,
     i: &NumberedInterval<'_>,
@@ -284,7 +282,6 @@ fn add_seconds(
 }
 
 #[cycle(add_seconds)]
-#[tactic(auto, using(crate::proofs::CappedHypotheses::capped_then))]
 fn add_seconds_from(
     setting: &Setting<'_>,
     i: &NumberedInterval<'_>,
@@ -340,7 +337,6 @@ fn add_firsts(
 }
 
 #[cycle(add_firsts)]
-#[tactic(auto, using(crate::proofs::CappedHypotheses::capped_then))]
 fn add_firsts_from(
     setting: &Setting<'_>,
     number: usize,

@@ -127,7 +127,7 @@ fn push_rows(
 }
 
 #[cycle(push_rows)]
-#[tactic(auto, using(flow_ways::proofs::CourseLists::pushed_then, crate::proofs::PlacedRows::here_refused, crate::proofs::PlacedRows::later_refused, crate::proofs::PlacedRows::are_few))]
+#[tactic(auto, using(crate::proofs::PlacedRows::here_refused))]
 fn push_rows_from(
     alloc: Global,
     graph: &Marked,

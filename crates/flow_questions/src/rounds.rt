@@ -83,7 +83,6 @@ fn add_all_before(
 }
 
 #[cycle(add_all_before)]
-#[tactic(auto, using(crate::proofs::GrownTables::table_then))]
 fn add_all_before_from(
     alloc: Global,
     sorts: &[Sort],
@@ -150,7 +149,6 @@ fn add_before_actions(
 }
 
 #[cycle(add_before_actions)]
-#[tactic(auto, using(crate::proofs::GrownTables::table_then))]
 fn add_before_actions_from(
     alloc: Global,
     sorts: &[Sort],

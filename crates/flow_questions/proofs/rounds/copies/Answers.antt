@@ -1,6 +1,6 @@
 use Rattle.std.proofs.Common.{map, ap, ◌∙◌, take_all}
 use Rattle.flow_forms.specs.Comparisons.{comparison_tree}
-use Rattle.flow_questions.proofs.MappedLists.{mapped_next}
+use Rattle.flow_tables.proofs.MappedLists.{mapped_next}
 use Rattle.flow_questions.proofs.rounds.copies.Goals as goal
 
 pub loop-comparison-preserved : goal.loop-comparison-preserved
