@@ -67,7 +67,6 @@ fn add_conds(
 }
 
 #[cycle(add_conds)]
-#[tactic(auto, using(crate::proofs::TableRows::first_then))]
 fn add_conds_from(
     alloc: Global,
     cond: &FlowCond,

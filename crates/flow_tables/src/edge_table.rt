@@ -42,7 +42,6 @@ fn add_edges<T: EdgeTable>(alloc: Global, edges: &[FlowEdge], table: &mut T) -> 
 }
 
 #[cycle(add_edges)]
-#[tactic(auto, using(crate::proofs::TableRows::first_then))]
 fn add_edges_from<T: EdgeTable>(
     alloc: Global,
     edge: &FlowEdge,
@@ -70,7 +69,6 @@ fn add_places<T: EdgeTable>(
 }
 
 #[cycle(add_places)]
-#[tactic(auto, using(crate::proofs::TableRows::part_then))]
 fn add_places_from<T: EdgeTable>(
     alloc: Global,
     edges: &Vec<FlowEdge>,

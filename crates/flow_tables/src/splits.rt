@@ -45,7 +45,6 @@ fn opposite_of(alloc: Global, comparison: &FlowComparison) -> Result<FlowCond, N
 }
 
 // Returns a copy of an edge where a comparison holds too, with an action in place of its own.
-#[tactic(auto, using(crate::proofs::SplitLists::more_tests))]
 fn where_equal(
     alloc: Global,
     comparison: &FlowComparison,
