@@ -102,7 +102,6 @@ fn edges_of(
 /// whether it is a place, `live` which variables are live there. Fails with `TooLarge` or `TooManyPaths` if a form on a
 /// way is too large, or if there are more than `MAX_WAYS` ways, those that abort included; one of them is named if both
 /// hold.
-#[tactic(auto, using(crate::proofs::EdgesOfTables::all_edges))]
 pub fn edges_from(
     alloc: Global,
     blocks: &[Block],
