@@ -1,6 +1,7 @@
 -- Balanced trees over a list, over its halves, and over its last members.
 use Rattle.std.proofs.Common.{◌≡◌, ℕ, zero, suc, ◌+◌, ◌-◌, ◌/◌, ◌≤◌, List, [], ◌∷◌, ◌++◌, map, length, take, drop, refl, sym, ap, ◌∙◌, subst, arith}
-use Rattle.std.proofs.lemmas.List.{take-append-drop, length-map, length-take, length-drop, drop-take, drop-drop, take-map, drop-map}
+use Rattle.std.proofs.lemmas.List.{take-append-drop, length-map, length-take, length-drop, length-append, drop-take, drop-drop, take-take, take-map, drop-map, take_all, drop_all}
+use Rattle.std.proofs.Math.Seq.{take-append_seam, drop-append_seam}
 use mathlib.Core.Path.{ap₂}
 use Rattle.kat_model.specs.Balanced.{balanced_within, balanced}
 
@@ -72,3 +73,33 @@ module _ {X : Type 0} (unit : X) (node : X → X → X) where
       let whole : length l ≡ len - count + count = omega arith in
       let split = balanced-last f l (len - count) (count / 2) count whole two refl in
       rw (es, er, low, first, mid) (sym split)
+
+  -- the first members, and the tree of the last ones, if the last ones are none
+  pub before-none : {Y : Type 0} (l : List Y) (len count : ℕ) → len ≡ length l → count ≡ 0 → l ≡ take (len - count) l
+  before-none l len count e z = sym (take_all (len - count) l (omega arith))
+
+  pub balanced-none : {Y : Type 0} (f : Y → X) (l : List Y) (len count : ℕ) → len ≡ length l → count ≡ 0 → unit ≡ balanced unit node (map f (drop (len - count) l))
+  balanced-none f l len count e z = ap (λ ys. balanced unit node (map f ys)) (sym (drop_all (len - count) l (omega arith)))
+
+  pub one-of-none : (len count : ℕ) → len ≡ 0 → count ≡ 1 → count ≤ len → ⊥
+  one-of-none len count none one within = omega arith
+
+  -- the same, if the last ones are one member
+  pub before-one : {Y : Type 0} (l rest : List Y) (y : Y) (len count : ℕ) → len ≡ length l → count ≡ 1 → l ≡ rest ++ y ∷ [] → rest ≡ take (len - count) l
+  before-one l rest y len count e one whole =
+      let n : len ≡ length rest + 1 = e ∙ ap length whole ∙ length-append rest (y ∷ []) in
+      let place : len - count ≡ length rest = omega arith in
+      rw (place, whole) (sym (take-append_seam rest (y ∷ [])))
+
+  pub balanced-one : {Y : Type 0} (f : Y → X) (l rest : List Y) (y : Y) (len count : ℕ) → len ≡ length l → count ≡ 1 → l ≡ rest ++ y ∷ [] → f y ≡ balanced unit node (map f (drop (len - count) l))
+  balanced-one f l rest y len count e one whole =
+      let n : len ≡ length rest + 1 = e ∙ ap length whole ∙ length-append rest (y ∷ []) in
+      let place : len - count ≡ length rest = omega arith in
+      rw (place, whole) (ap (λ ys. balanced unit node (map f ys)) (sym (drop-append_seam rest (y ∷ []))))
+
+  -- the first members, if the last ones are taken from the list in two parts
+  pub before-parts : {Y : Type 0} (l rest first : List Y) (len left count : ℕ) → len ≡ length l → left ≡ length rest → count ≤ len → rest ≡ take (len - (count - count / 2)) l → first ≡ take (left - count / 2) rest → first ≡ take (len - count) l
+  before-parts l rest first len left count e d within cut again =
+      let n : length rest ≡ len - (count - count / 2) = omega (arith, ap length cut, length-take (len - (count - count / 2)) l) in
+      let place : left - count / 2 ≡ len - count = omega arith in
+      again ∙ rw (place, cut) (take-take (len - count) (len - (count - count / 2)) l (omega arith))

@@ -3,7 +3,7 @@ ghost use Rattle.std.specs.Prelude.{◌≡◌, IfOk};
 ghost use Rattle.kat_model.specs.Trees.{test_tree};
 ghost use Rattle.kat_model.specs.Expressions.{plus, minus, times, compared, negation, both, either, expr_tree, cond_tree, has_comparison, test_without_comparisons};
 
-use crate::tree::{NoMemory, Test, boxed_pair};
+use crate::tree::{NoMemory, Test, boxed_pair, boxed_results};
 use std::alloc::Global;
 
 /// The number of bits of the numbers of a store.
@@ -101,7 +101,6 @@ impl Expr {
     }
 
     /// Returns a copy of the tree. Fails only when out of memory.
-    #[cycle(copies)]
     pub fn copy(&self, alloc: Global) -> Result<Expr, NoMemory>
         ensures { IfOk result (λ e. expr_tree e ≡ expr_tree self.now) }
     {
@@ -109,30 +108,18 @@ impl Expr {
             Expr::Num(n) => Ok(Expr::Num(*n)),
             Expr::Var(k) => Ok(Expr::Var(*k)),
             Expr::Add(e, f) => {
-                let (left, right) = Expr::boxed_copies(alloc, e, f)?;
+                let (left, right) = boxed_results(alloc, e.copy(alloc), f.copy(alloc))?;
                 Ok(Expr::Add(left, right))
             }
             Expr::Sub(e, f) => {
-                let (left, right) = Expr::boxed_copies(alloc, e, f)?;
+                let (left, right) = boxed_results(alloc, e.copy(alloc), f.copy(alloc))?;
                 Ok(Expr::Sub(left, right))
             }
             Expr::Mul(e, f) => {
-                let (left, right) = Expr::boxed_copies(alloc, e, f)?;
+                let (left, right) = boxed_results(alloc, e.copy(alloc), f.copy(alloc))?;
                 Ok(Expr::Mul(left, right))
             }
         }
-    }
-
-    // Returns copies of both expressions, each in its own box.
-    #[cycle(copies)]
-    fn boxed_copies(
-        alloc: Global,
-        left: &Expr,
-        right: &Expr,
-    ) -> Result<(Box<Expr>, Box<Expr>), NoMemory>
-        ensures { IfOk result (λ both. (expr_tree both.0.value ≡ expr_tree left.now) × (expr_tree both.1.value ≡ expr_tree right.now)) }
-    {
-        boxed_pair(alloc, left.copy(alloc)?, right.copy(alloc)?)
     }
 }
 
@@ -173,7 +160,6 @@ impl Cond {
     }
 
     /// Returns a copy of the tree. Fails only when out of memory.
-    #[cycle(copies)]
     pub fn copy(&self, alloc: Global) -> Result<Cond, NoMemory>
         ensures { IfOk result (λ b. cond_tree b ≡ cond_tree self.now) }
     {
@@ -182,24 +168,16 @@ impl Cond {
             Cond::False => Ok(Cond::False),
             Cond::Test(k) => Ok(Cond::Test(*k)),
             Cond::Compare(rel, e, f) => Cond::compare_copies(alloc, *rel, e, f),
-            Cond::Not(b) => Ok(Cond::Not(Cond::boxed_copy(alloc, b)?)),
-            Cond::And(b, c) => Ok(Cond::And(
-                Cond::boxed_copy(alloc, b)?,
-                Cond::boxed_copy(alloc, c)?,
-            )),
-            Cond::Or(b, c) => Ok(Cond::Or(
-                Cond::boxed_copy(alloc, b)?,
-                Cond::boxed_copy(alloc, c)?,
-            )),
+            Cond::Not(b) => Cond::new_not(alloc, b.copy(alloc)?),
+            Cond::And(b, c) => {
+                let (left, right) = boxed_results(alloc, b.copy(alloc), c.copy(alloc))?;
+                Ok(Cond::And(left, right))
+            }
+            Cond::Or(b, c) => {
+                let (left, right) = boxed_results(alloc, b.copy(alloc), c.copy(alloc))?;
+                Ok(Cond::Or(left, right))
+            }
         }
-    }
-
-    // Returns a copy in a box.
-    #[cycle(copies)]
-    fn boxed_copy(alloc: Global, cond: &Cond) -> Result<Box<Cond>, NoMemory>
-        ensures { IfOk result (λ b. cond_tree b.value ≡ cond_tree cond.now) }
-    {
-        Ok(Box::new(alloc, cond.copy(alloc)?)?)
     }
 
     // Returns the comparison of copies of both expressions.
@@ -229,7 +207,13 @@ fn test_of(alloc: Global, cond: &Cond) -> Result<Test, NoMemory>
         Cond::False | Cond::Compare(_, _, _) => Ok(Test::False),
         Cond::Test(k) => Ok(Test::Prim(*k)),
         Cond::Not(b) => Test::new_not(alloc, test_of(alloc, b)?),
-        Cond::And(b, c) => Test::new_and(alloc, test_of(alloc, b)?, test_of(alloc, c)?),
-        Cond::Or(b, c) => Test::new_or(alloc, test_of(alloc, b)?, test_of(alloc, c)?),
+        Cond::And(b, c) => {
+            let (left, right) = boxed_results(alloc, test_of(alloc, b), test_of(alloc, c))?;
+            Ok(Test::And(left, right))
+        }
+        Cond::Or(b, c) => {
+            let (left, right) = boxed_results(alloc, test_of(alloc, b), test_of(alloc, c))?;
+            Ok(Test::Or(left, right))
+        }
     }
 }

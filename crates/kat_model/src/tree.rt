@@ -1,5 +1,5 @@
 //! Tests and terms.
-ghost use Rattle.std.specs.Prelude.{◌≡◌, ◌<◌, length, IfOk};
+ghost use Rattle.std.specs.Prelude.{◌≡◌, ◌<◌, length, IfOk, Ok};
 ghost use Rattle.kat_model.specs.Trees.{complement, meet, join, sum, product, star, test_tree, kat_tree, test_size, term_size, term_height, acts, is_test as is_test'};
 ghost use Rattle.kat_model.specs.Steps.{truth};
 ghost use Rattle.kat_model.specs.Problems.{counted, IsTestInRange};
@@ -33,6 +33,17 @@ pub(crate) fn boxed_pair<T: Drop>(
     let left = Box::new(alloc, left)?;
     let right = Box::new(alloc, right)?;
     Ok((left, right))
+}
+
+// Moves both values to boxes, if there was memory for both.
+pub(crate) fn boxed_results<T: Drop>(
+    alloc: Global,
+    left: Result<T, NoMemory>,
+    right: Result<T, NoMemory>,
+) -> Result<(Box<T>, Box<T>), NoMemory>
+    ensures { IfOk result (λ both. (left ≡ Ok both.0.value) × (right ≡ Ok both.1.value)) }
+{
+    boxed_pair(alloc, left?, right?)
 }
 
 /// A test: an element of a Boolean algebra over primitive tests, numbered from 0 (Kozen, *Kleene algebra with tests*,
@@ -120,8 +131,14 @@ impl Test {
             Test::True => Ok(Test::True),
             Test::Prim(k) => Ok(Test::Prim(*k)),
             Test::Not(b) => Test::new_not(alloc, b.copy(alloc)?),
-            Test::And(b, c) => Test::new_and(alloc, b.copy(alloc)?, c.copy(alloc)?),
-            Test::Or(b, c) => Test::new_or(alloc, b.copy(alloc)?, c.copy(alloc)?),
+            Test::And(b, c) => {
+                let (left, right) = boxed_results(alloc, b.copy(alloc), c.copy(alloc))?;
+                Ok(Test::And(left, right))
+            }
+            Test::Or(b, c) => {
+                let (left, right) = boxed_results(alloc, b.copy(alloc), c.copy(alloc))?;
+                Ok(Test::Or(left, right))
+            }
         }
     }
 
@@ -188,7 +205,6 @@ impl Kat {
     }
 
     /// Returns a copy of the tree. Fails only when out of memory.
-    #[cycle(copies)]
     pub fn copy(&self, alloc: Global) -> Result<Kat, NoMemory>
         ensures { IfOk result (λ e. kat_tree e ≡ kat_tree self.now) }
     {
@@ -198,27 +214,15 @@ impl Kat {
             Kat::Test(b) => Ok(Kat::Test(b.copy(alloc)?)),
             Kat::Act(a) => Ok(Kat::Act(*a)),
             Kat::Sum(e, f) => {
-                let (left, right) = Kat::boxed_copies(alloc, e, f)?;
+                let (left, right) = boxed_results(alloc, e.copy(alloc), f.copy(alloc))?;
                 Ok(Kat::Sum(left, right))
             }
             Kat::Seq(e, f) => {
-                let (first, second) = Kat::boxed_copies(alloc, e, f)?;
+                let (first, second) = boxed_results(alloc, e.copy(alloc), f.copy(alloc))?;
                 Ok(Kat::Seq(first, second))
             }
             Kat::Star(e) => Kat::new_star(alloc, e.copy(alloc)?),
         }
-    }
-
-    // Returns copies of both terms, each in its own box.
-    #[cycle(copies)]
-    fn boxed_copies(
-        alloc: Global,
-        left: &Kat,
-        right: &Kat,
-    ) -> Result<(Box<Kat>, Box<Kat>), NoMemory>
-        ensures { IfOk result (λ both. (kat_tree both.0.value ≡ kat_tree left.now) × (kat_tree both.1.value ≡ kat_tree right.now)) }
-    {
-        boxed_pair(alloc, left.copy(alloc)?, right.copy(alloc)?)
     }
 
     /// Returns the number of nodes, including those of tests, saturated at `u64::MAX`.

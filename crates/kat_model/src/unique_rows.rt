@@ -3,6 +3,7 @@ ghost use Rattle.std.specs.Prelude.{◌≡◌, ◌≤◌, ◌<◌, [], ◌∷◌
 ghost use Rattle.std.specs.List.{list_any};
 ghost use Rattle.kat_model.specs.UniqueRows.{with_new_within};
 
+use crate::appending::append;
 use crate::tree::NoMemory;
 
 /// A row of a table.
@@ -27,7 +28,7 @@ pub fn place_of<T: TableRow>(rows: &[T], row: &T) -> Option<usize>
 pub fn has_row<T: TableRow>(rows: &[T], row: &T) -> bool
     ensures { result ≡ list_any (T.same row.now) rows.now }
 {
-    rows.iter().any(|x| row.is_same(x))
+    place_of(rows, row).is_some()
 }
 
 /// Appends a row, unless the table has it already or has more than `most` rows.
@@ -37,5 +38,5 @@ pub fn add_row<T: TableRow + Drop>(rows: &mut Vec<T>, most: usize, row: T) -> Re
     if rows.len() > most || has_row(rows, &row) {
         return Ok(());
     }
-    Ok(rows.push(row)?)
+    append(rows, row)
 }
