@@ -1,7 +1,7 @@
 -- Results of calls that derive a term from its parts.
 use Rattle.std.proofs.Common.{◌≡◌, ℕ, Result, IfOk, sym, ◌∙◌, subst}
 use Rattle.std.proofs.lemmas.Result.{IfOk-weaker}
-use Rattle.kat_model.specs.Trees.{Term, sum, product}
+use Rattle.kat_model.specs.Trees.{Term, sum, product, star}
 use Rattle.term_nodes.specs.NodeLists.{NodeParts, IsTerm}
 use Rattle.term_nodes.specs.NodeTrees.{tree_at}
 use Rattle.test_diagrams.specs.Functions.{DiagramsParts}
@@ -26,3 +26,7 @@ module _ {E : Type 0} (r : Result Steps E) (s t u v : NodeParts) (b c d g : Diag
   product_derived h =
       let tail_is : IsDerivativeOf u d (tree_at u j) second = subst (λ e. IsDerivativeOf u d e second) (sym tail_now) second_now in
       IfOk-weaker r _ _ (λ steps k. subst (λ f. IsDerivativeOf v g (product (tree_at s i) f) steps) tail_now (k (tree_at s i) first_now tail_is)) h
+
+pub star_derived : {E : Type 0} (r : Result Steps E) (s t u : NodeParts) (b c d : DiagramsParts) (i own : ℕ) (inner : Steps) → Keeps s t b c → IsTerm s own → tree_at s own ≡ star (tree_at s i) → IsDerivativeOf t c (tree_at s i) inner
+    → IfOk r (λ steps. (e : Term) → IsDerivativeOf t c e inner → tree_at t own ≡ star e → IsDerivativeOf u d (star e) steps) → IfOk r (IsDerivativeOf u d (star (tree_at s i)))
+star_derived r s t u b c d i own inner kept there tree is h = IfOk-weaker r _ _ (λ steps k. k (tree_at s i) is (kept.trees.trees own there ∙ tree)) h

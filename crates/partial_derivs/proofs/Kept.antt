@@ -27,6 +27,9 @@ Keeps-trans s t u b c d first second = record {
 pub Keeps-functions : (s : NodeParts) (c d : DiagramsParts) → KeepsFunctions c d → Keeps s s c d
 Keeps-functions s c d kept = record { trees = Grows-itself s; functions = kept }
 
+pub Keeps-trees : (s t : NodeParts) (d : DiagramsParts) → Grows s t → Keeps s t d d
+Keeps-trees s t d kept = record { trees = kept; functions = KeepsFunctions-itself d }
+
 module _ (s t : NodeParts) (kept : Grows s t) (n : ℕ) where
   pub IsTermOf-trees : (i : ℕ) → IsTermOf s n i → IsTermOf t n i
   IsTermOf-trees i h = record {

@@ -10,3 +10,4 @@ pub mod Unions
 pub mod ByForm
 pub mod Tables
 pub mod Derived
+pub mod TestDiagrams

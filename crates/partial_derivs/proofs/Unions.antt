@@ -25,6 +25,9 @@ use Rattle.partial_derivs.proofs.Kept.{AreGuards-kept, AreTargets-kept, LeadsTo-
 pub ids_of_steps : (store : NodeParts) (d : DiagramsParts) (accepted : Atom → Bool) (left : Atom → ℕ → List Term) (steps : Steps) → IsStepsBy store d accepted left steps → HasIds d steps
 ids_of_steps store d accepted left steps is = record { accepts = is.accepts.in_range; guards = is.guards }
 
+pub IsUnionOfIds-kept : (c d : DiagramsParts) → KeepsFunctions c d → (union : Union) → IsUnionOfIds c union → IsUnionOfIds d union
+IsUnionOfIds-kept c d kept union ids = record { accepts = kept.ids union.accepts ids.accepts; guards = λ m h. kept.ids m.guard (ids.guards m h) }
+
 -- adding steps: their moves under the constant `true`, and the atoms that they accept
 module _ (b c d : DiagramsParts) (old new : Union) (steps : Steps) (always : ℕ) (first : KeepsFunctions b c) (second : KeepsFunctions c d) (constant : IsDiagramOf b always (λ atom. true)) (ids : HasIds b steps) (old_ids : IsUnionOfIds b old) (under : AddsUnder b c (moves_of old.gathered.guards.entries) (moves_of new.gathered.guards.entries) steps.moves.items always) (either : IsDiagramOf d new.accepts (λ atom. value_of c old.accepts atom || value_of c steps.accepts atom)) where
   pub adds_steps : AddsSteps b d old new steps

@@ -1,9 +1,10 @@
-use Rattle.std.proofs.Common.{sym, subst}
+use Rattle.std.proofs.Common.{sym, subst, IfOk}
+use Rattle.kat_model.specs.Problems.{HasTestsBelow}
 use Rattle.partial_derivs.specs.Moves.{IsDerivativeOf}
-use Rattle.partial_derivs.proofs.Kept.{Keeps-trans, Keeps-functions, HasIds-kept}
+use Rattle.partial_derivs.proofs.Kept.{Keeps-itself, Keeps-trans, Keeps-functions, Keeps-trees, IsTermOf-kept, AreTargets-kept, HasIds-kept}
 use Rattle.partial_derivs.proofs.Unions.{ids_of_steps}
 use Rattle.partial_derivs.proofs.Tables.{AreRight-kept, right_derived}
-use Rattle.partial_derivs.proofs.Derived.{sum_derived, product_derived}
+use Rattle.partial_derivs.proofs.Derived.{sum_derived, product_derived, star_derived}
 use Rattle.partial_derivs.proofs.derivatives.Derivatives.+derive.Goals as goal
 
 pub derive-returns-in-Zero-clause-steps : goal.derive-returns-in-Zero-clause-steps
@@ -78,3 +79,153 @@ pub steps_of-returns-clause-right : goal.steps_of-returns-clause-right
 steps_of-returns-clause-right t c =
     let derived = c.in_ok-steps-2 in
     c.note.ensures c.derive.new.store c.derive.new.diagrams (right_derived _ _ _ _ c.args.term derived.steps derived.ensures.kept c.requires.term derived.ensures.steps) derived.ensures.right
+
+pub derive-test_steps-requires-clause-id : goal.derive-test_steps-requires-clause-id
+derive-test_steps-requires-clause-id t c = c.in-Test.ensures.parts
+
+pub derive-test_steps-requires-clause-in_range : goal.derive-test_steps-requires-clause-in_range
+derive-test_steps-requires-clause-in_range t c =
+    subst (HasTestsBelow c.args.diagrams.now.tests) c.in-Test.ensures.tree c.requires.term.in_range
+
+pub derive-returns-in-Zero-clause-right : goal.derive-returns-in-Zero-clause-right
+derive-returns-in-Zero-clause-right t c = c.requires.right
+
+pub derive-returns-in-Zero-clause-kept : goal.derive-returns-in-Zero-clause-kept
+derive-returns-in-Zero-clause-kept t c = Keeps-itself _ _
+
+pub derive-returns-in-One-clause-right : goal.derive-returns-in-One-clause-right
+derive-returns-in-One-clause-right t c = c.requires.right
+
+pub derive-returns-in-One-clause-kept : goal.derive-returns-in-One-clause-kept
+derive-returns-in-One-clause-kept t c = Keeps-itself _ _
+
+pub derive-returns-in-Test-clause-steps : goal.derive-returns-in-Test-clause-steps
+derive-returns-in-Test-clause-steps t c =
+    subst (λ e. IfOk c.test_steps.result (IsDerivativeOf c.args.store.now c.test_steps.new.diagrams e)) (sym c.in-Test.ensures.tree) c.test_steps.ensures.steps
+
+pub derive-returns-in-Test-clause-kept : goal.derive-returns-in-Test-clause-kept
+derive-returns-in-Test-clause-kept t c = Keeps-functions c.args.store.now _ _ c.test_steps.ensures.kept
+
+pub derive-returns-in-Test-clause-right : goal.derive-returns-in-Test-clause-right
+derive-returns-in-Test-clause-right t c =
+    AreRight-kept _ _ _ _ c.args.self.now (Keeps-functions c.args.store.now _ _ c.test_steps.ensures.kept) c.requires.right
+
+pub derive-returns-in-Act-clause-steps : goal.derive-returns-in-Act-clause-steps
+derive-returns-in-Act-clause-steps t c =
+    subst (λ e. IfOk c.action_steps.result (IsDerivativeOf c.action_steps.new.store c.args.diagrams.now e)) (sym c.in-Act.ensures.tree) c.action_steps.ensures.steps
+
+pub derive-returns-in-Act-clause-kept : goal.derive-returns-in-Act-clause-kept
+derive-returns-in-Act-clause-kept t c = Keeps-trees _ _ c.args.diagrams.now c.action_steps.ensures.kept
+
+pub derive-returns-in-Act-clause-right : goal.derive-returns-in-Act-clause-right
+derive-returns-in-Act-clause-right t c =
+    AreRight-kept _ _ _ _ c.args.self.now (Keeps-trees _ _ c.args.diagrams.now c.action_steps.ensures.kept) c.requires.right
+
+pub derive-returns-in-Sum-clause-steps : goal.derive-returns-in-Sum-clause-steps
+derive-returns-in-Sum-clause-steps t c =
+    subst (λ e. IfOk c.derive_sum.result (IsDerivativeOf c.derive_sum.new.store c.derive_sum.new.diagrams e)) (sym c.in-Sum.ensures.tree) c.derive_sum.ensures.steps
+
+pub derive-returns-in-Sum-clause-right : goal.derive-returns-in-Sum-clause-right
+derive-returns-in-Sum-clause-right t c = c.derive_sum.ensures.right
+
+pub derive-returns-in-Sum-clause-kept : goal.derive-returns-in-Sum-clause-kept
+derive-returns-in-Sum-clause-kept t c = c.derive_sum.ensures.kept
+
+pub derive-returns-in-Seq-clause-steps : goal.derive-returns-in-Seq-clause-steps
+derive-returns-in-Seq-clause-steps t c =
+    subst (λ e. IfOk c.derive_product.result (IsDerivativeOf c.derive_product.new.store c.derive_product.new.diagrams e)) (sym c.in-Seq.ensures.tree) c.derive_product.ensures.steps
+
+pub derive-returns-in-Seq-clause-right : goal.derive-returns-in-Seq-clause-right
+derive-returns-in-Seq-clause-right t c = c.derive_product.ensures.right
+
+pub derive-returns-in-Seq-clause-kept : goal.derive-returns-in-Seq-clause-kept
+derive-returns-in-Seq-clause-kept t c = c.derive_product.ensures.kept
+
+pub derive-returns-in-Star-clause-steps : goal.derive-returns-in-Star-clause-steps
+derive-returns-in-Star-clause-steps t c =
+    subst (λ e. IfOk c.derive_star.result (IsDerivativeOf c.derive_star.new.store c.derive_star.new.diagrams e)) (sym c.in-Star.ensures.tree) c.derive_star.ensures.steps
+
+pub derive-returns-in-Star-clause-right : goal.derive-returns-in-Star-clause-right
+derive-returns-in-Star-clause-right t c = c.derive_star.ensures.right
+
+pub derive-returns-in-Star-clause-kept : goal.derive-returns-in-Star-clause-kept
+derive-returns-in-Star-clause-kept t c = c.derive_star.ensures.kept
+
+pub derive_product-returns-in_err-first-clause-right : goal.derive_product-returns-in_err-first-clause-right
+derive_product-returns-in_err-first-clause-right t c = c.in_err-first.ensures.right
+
+pub derive_product-returns-in_err-first-clause-kept : goal.derive_product-returns-in_err-first-clause-kept
+derive_product-returns-in_err-first-clause-kept t c = c.in_err-first.ensures.kept
+
+pub derive_product-returns-in_err-second-clause-right : goal.derive_product-returns-in_err-second-clause-right
+derive_product-returns-in_err-second-clause-right t c = c.in_err-second.ensures.right
+
+pub derive_sum-returns-in_err-first-clause-right : goal.derive_sum-returns-in_err-first-clause-right
+derive_sum-returns-in_err-first-clause-right t c = c.in_err-first.ensures.right
+
+pub derive_sum-returns-in_err-first-clause-kept : goal.derive_sum-returns-in_err-first-clause-kept
+derive_sum-returns-in_err-first-clause-kept t c = c.in_err-first.ensures.kept
+
+pub derive_sum-returns-in_err-second-clause-right : goal.derive_sum-returns-in_err-second-clause-right
+derive_sum-returns-in_err-second-clause-right t c = c.in_err-second.ensures.right
+
+pub derive_product-product_steps-requires-clause-targets : goal.derive_product-product_steps-requires-clause-targets
+derive_product-product_steps-requires-clause-targets t c =
+    AreTargets-kept _ _ _ _ c.in_ok-second.ensures.kept c.in_ok-first.first.moves.items c.in_ok-first.ensures.steps.targets
+
+pub derive_product-product_steps-requires-clause-second : goal.derive_product-product_steps-requires-clause-second
+derive_product-product_steps-requires-clause-second t c = ids_of_steps _ _ _ _ _ c.in_ok-second.ensures.steps
+
+pub derive_product-product_steps-requires-clause-tail : goal.derive_product-product_steps-requires-clause-tail
+derive_product-product_steps-requires-clause-tail t c =
+    IsTermOf-kept _ _ _ _ c.in_ok-second.ensures.kept c.args.f (IsTermOf-kept _ _ _ _ c.in_ok-first.ensures.kept c.args.f c.requires.second)
+
+pub derive_sum-sum_steps-requires-clause-second : goal.derive_sum-sum_steps-requires-clause-second
+derive_sum-sum_steps-requires-clause-second t c = ids_of_steps _ _ _ _ _ c.in_ok-second.ensures.steps
+
+pub derive_star-returns-in_err-inner-clause-right : goal.derive_star-returns-in_err-inner-clause-right
+derive_star-returns-in_err-inner-clause-right t c = c.in_err-inner.ensures.right
+
+pub derive_star-returns-in_err-inner-clause-kept : goal.derive_star-returns-in_err-inner-clause-kept
+derive_star-returns-in_err-inner-clause-kept t c = c.in_err-inner.ensures.kept
+
+pub derive_star-star_steps-requires-clause-inner : goal.derive_star-star_steps-requires-clause-inner
+derive_star-star_steps-requires-clause-inner t c = ids_of_steps _ _ _ _ _ c.in_ok-inner.ensures.steps
+
+pub derive_star-star_steps-requires-clause-targets : goal.derive_star-star_steps-requires-clause-targets
+derive_star-star_steps-requires-clause-targets t c = c.in_ok-inner.ensures.steps.targets
+
+pub derive_star-star_steps-requires-clause-own : goal.derive_star-star_steps-requires-clause-own
+derive_star-star_steps-requires-clause-own t c =
+    IsTermOf-kept _ _ _ _ c.in_ok-inner.ensures.kept c.args.own c.requires.own
+
+pub derive_star-returns-clause-steps : goal.derive_star-returns-clause-steps
+derive_star-returns-clause-steps t c =
+    star_derived c.star_steps.result _ _ _ _ _ _ c.args.e c.args.own c.in_ok-inner.inner c.in_ok-inner.ensures.kept c.requires.own.is_id c.requires.tree c.in_ok-inner.ensures.steps c.star_steps.ensures.steps
+
+pub steps_of-returns-in_err-steps-clause-right : goal.steps_of-returns-in_err-steps-clause-right
+steps_of-returns-in_err-steps-clause-right t c = c.requires.right
+
+pub steps_of-returns-in_err-steps-clause-kept : goal.steps_of-returns-in_err-steps-clause-kept
+steps_of-returns-in_err-steps-clause-kept t c = Keeps-itself _ _
+
+pub steps_of-returns-in-Some-clause-right : goal.steps_of-returns-in-Some-clause-right
+steps_of-returns-in-Some-clause-right t c = c.requires.right
+
+pub steps_of-returns-in-Some-clause-kept : goal.steps_of-returns-in-Some-clause-kept
+steps_of-returns-in-Some-clause-kept t c = Keeps-itself _ _
+
+pub steps_of-returns-in_err-steps-2-clause-right : goal.steps_of-returns-in_err-steps-2-clause-right
+steps_of-returns-in_err-steps-2-clause-right t c = c.in_err-steps-2.ensures.right
+
+pub steps_of-returns-in_err-steps-2-clause-kept : goal.steps_of-returns-in_err-steps-2-clause-kept
+steps_of-returns-in_err-steps-2-clause-kept t c = c.in_err-steps-2.ensures.kept
+
+pub steps_of-returns-in_err-note-clause-kept : goal.steps_of-returns-in_err-note-clause-kept
+steps_of-returns-in_err-note-clause-kept t c = c.in_ok-steps-2.ensures.kept
+
+pub steps_of-returns-clause-steps : goal.steps_of-returns-clause-steps
+steps_of-returns-clause-steps t c = c.in_ok-steps-2.ensures.steps
+
+pub steps_of-returns-clause-kept : goal.steps_of-returns-clause-kept
+steps_of-returns-clause-kept t c = c.in_ok-steps-2.ensures.kept

@@ -1,5 +1,9 @@
+use Rattle.std.proofs.Common.{List, subst}
+use Rattle.std.proofs.lemmas.List.{take_all}
 use Rattle.term_nodes.proofs.Growing.{Grows-trans}
 use Rattle.test_diagrams.proofs.Kept.{KeepsFunctions-trans}
+use Rattle.partial_derivs.specs.declared.moves.Guarded.{Guarded}
+use Rattle.partial_derivs.specs.Working.Gathered.{moves_of, Follows}
 use Rattle.partial_derivs.proofs.Items.{has_item}
 use Rattle.partial_derivs.proofs.Kept.{Keeps-trans, IsTermOf-kept}
 use Rattle.partial_derivs.proofs.Followed.{step_followed}
@@ -40,3 +44,14 @@ loop-guarded-preserved c =
           c.requires.guards c.requires.targets c.requires.tail before.kept before.follows added.added added.kept;
       kept = Keeps-trans _ _ _ _ _ _ before.kept (record { trees = added.trees; functions = added.kept });
     }
+
+pub returns-clause-follows : goal.returns-clause-follows
+returns-clause-follows c =
+    subst (λ (ms : List Guarded). Follows c.args.store.now c.loop-guarded.store c.args.diagrams.now c.loop-guarded.diagrams (moves_of c.loop-guarded.gathered.guards.entries) ms c.args.tail)
+    (take_all c.loop-guarded.guarded-index c.args.moves.now c.loop-guarded-test.false) c.loop-guarded.invariant.follows
+
+pub returns-clause-trees : goal.returns-clause-trees
+returns-clause-trees c = c.loop-guarded.invariant.kept.trees
+
+pub returns-clause-kept : goal.returns-clause-kept
+returns-clause-kept c = c.loop-guarded.invariant.kept.functions
