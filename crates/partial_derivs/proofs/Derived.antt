@@ -1,5 +1,5 @@
 -- Results of calls that derive a term from its parts.
-use Rattle.std.proofs.Common.{◌≡◌, ℕ, Result, IfOk, sym, ◌∙◌, subst}
+use Rattle.std.proofs.Common.{◌≡◌, ℕ, ◌+◌, ◌*◌, ◌<◌, max, Result, IfOk, sym, ◌∙◌, subst, arith}
 use Rattle.std.proofs.lemmas.Result.{IfOk-weaker}
 use Rattle.kat_model.specs.Trees.{Term, sum, product, star}
 use Rattle.term_nodes.specs.NodeLists.{NodeParts, IsTerm}
@@ -30,3 +30,26 @@ module _ {E : Type 0} (r : Result Steps E) (s t u v : NodeParts) (b c d g : Diag
 pub star_derived : {E : Type 0} (r : Result Steps E) (s t u : NodeParts) (b c d : DiagramsParts) (i own : ℕ) (inner : Steps) → Keeps s t b c → IsTerm s own → tree_at s own ≡ star (tree_at s i) → IsDerivativeOf t c (tree_at s i) inner
     → IfOk r (λ steps. (e : Term) → IsDerivativeOf t c e inner → tree_at t own ≡ star e → IsDerivativeOf u d (star e) steps) → IfOk r (IsDerivativeOf u d (star (tree_at s i)))
 star_derived r s t u b c d i own inner kept there tree is h = IfOk-weaker r _ _ (λ steps k. k (tree_at s i) is (kept.trees.trees own there ∙ tree)) h
+
+-- ---- the measures of the calls, where parts have smaller ids
+
+pub earlier : (i n m : ℕ) → i < n → n < m → i < m
+earlier i n m low high = omega arith
+
+pub part_pair_falls : (i j n t : ℕ) → 3 * n + 1 ≡ t → i < n → j < n → 3 * max i j + 3 < t
+part_pair_falls i j n t is first second = omega arith
+
+pub part_falls : (i n t : ℕ) → 3 * n + 1 ≡ t → i < n → 3 * i + 3 < t
+part_falls i n t is part = omega arith
+
+pub first_falls : (i j t : ℕ) → 3 * max i j + 3 ≡ t → 3 * i + 2 < t
+first_falls i j t is = omega arith
+
+pub second_falls : (i j t : ℕ) → 3 * max i j + 3 ≡ t → 3 * j + 2 < t
+second_falls i j t is = omega arith
+
+pub only_falls : (i t : ℕ) → 3 * i + 3 ≡ t → 3 * i + 2 < t
+only_falls i t is = omega arith
+
+pub own_falls : (i t : ℕ) → 3 * i + 2 ≡ t → 3 * i + 1 < t
+own_falls i t is = omega arith

@@ -4,7 +4,7 @@ use Rattle.partial_derivs.specs.Moves.{IsDerivativeOf}
 use Rattle.partial_derivs.proofs.Kept.{Keeps-itself, Keeps-trans, Keeps-functions, Keeps-trees, IsTermOf-kept, AreTargets-kept, HasIds-kept}
 use Rattle.partial_derivs.proofs.Unions.{ids_of_steps}
 use Rattle.partial_derivs.proofs.Tables.{AreRight-kept, right_derived}
-use Rattle.partial_derivs.proofs.Derived.{sum_derived, product_derived, star_derived}
+use Rattle.partial_derivs.proofs.Derived.{earlier, part_pair_falls, part_falls, first_falls, second_falls, only_falls, own_falls, sum_derived, product_derived, star_derived}
 use Rattle.partial_derivs.proofs.derivatives.Derivatives.+derive.Goals as goal
 
 pub derive-returns-in-Zero-clause-steps : goal.derive-returns-in-Zero-clause-steps
@@ -229,3 +229,53 @@ steps_of-returns-clause-steps t c = c.in_ok-steps-2.ensures.steps
 
 pub steps_of-returns-clause-kept : goal.steps_of-returns-clause-kept
 steps_of-returns-clause-kept t c = c.in_ok-steps-2.ensures.kept
+
+pub derive-derive_sum-requires : goal.derive-derive_sum-requires
+derive-derive_sum-requires t c =
+    let parts = c.in-Sum.ensures.parts in
+    let range = subst (HasTestsBelow c.args.diagrams.now.tests) c.in-Sum.ensures.tree c.requires.term.in_range in (
+      part_pair_falls _ _ c.args.term t c.decreases parts.0 parts.1,
+      (
+        record { is_id = earlier _ _ _ parts.0 c.requires.term.is_id; in_range = range.0 },
+        (record { is_id = earlier _ _ _ parts.1 c.requires.term.is_id; in_range = range.1 }, c.requires.right),
+      ),
+    )
+
+pub derive-derive_product-requires : goal.derive-derive_product-requires
+derive-derive_product-requires t c =
+    let parts = c.in-Seq.ensures.parts in
+    let range = subst (HasTestsBelow c.args.diagrams.now.tests) c.in-Seq.ensures.tree c.requires.term.in_range in (
+      part_pair_falls _ _ c.args.term t c.decreases parts.0 parts.1,
+      (
+        record { is_id = earlier _ _ _ parts.0 c.requires.term.is_id; in_range = range.0 },
+        (record { is_id = earlier _ _ _ parts.1 c.requires.term.is_id; in_range = range.1 }, c.requires.right),
+      ),
+    )
+
+pub derive-derive_star-requires : goal.derive-derive_star-requires
+derive-derive_star-requires t c =
+    let part = c.in-Star.ensures.parts in
+    let range = subst (HasTestsBelow c.args.diagrams.now.tests) c.in-Star.ensures.tree c.requires.term.in_range in (
+      part_falls _ c.args.term t c.decreases part,
+      (record { is_id = earlier _ _ _ part c.requires.term.is_id; in_range = range }, (c.requires.term, (c.in-Star.ensures.tree, c.requires.right))),
+    )
+
+pub derive_product-steps_of-requires : goal.derive_product-steps_of-requires
+derive_product-steps_of-requires t c = (first_falls c.args.e c.args.f t c.decreases, (c.requires.first, c.requires.right))
+
+pub derive_product-steps_of-requires-2 : goal.derive_product-steps_of-requires-2
+derive_product-steps_of-requires-2 t c =
+    (second_falls c.args.e c.args.f t c.decreases, (IsTermOf-kept _ _ _ _ c.in_ok-first.ensures.kept c.args.f c.requires.second, c.in_ok-first.ensures.right))
+
+pub derive_sum-steps_of-requires : goal.derive_sum-steps_of-requires
+derive_sum-steps_of-requires t c = (first_falls c.args.e c.args.f t c.decreases, (c.requires.first, c.requires.right))
+
+pub derive_sum-steps_of-requires-2 : goal.derive_sum-steps_of-requires-2
+derive_sum-steps_of-requires-2 t c =
+    (second_falls c.args.e c.args.f t c.decreases, (IsTermOf-kept _ _ _ _ c.in_ok-first.ensures.kept c.args.f c.requires.second, c.in_ok-first.ensures.right))
+
+pub derive_star-steps_of-requires : goal.derive_star-steps_of-requires
+derive_star-steps_of-requires t c = (only_falls c.args.e t c.decreases, (c.requires.inner, c.requires.right))
+
+pub steps_of-derive-requires : goal.steps_of-derive-requires
+steps_of-derive-requires t c = (own_falls c.args.term t c.decreases, (c.requires.term, c.requires.right))
