@@ -16,3 +16,4 @@ pub mod Ends
 pub mod Elimination
 pub mod OneFinding
 pub mod Parts
+pub mod StepMeasures

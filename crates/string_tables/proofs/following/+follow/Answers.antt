@@ -4,7 +4,7 @@ use Rattle.kat_model.specs.Steps.{truth}
 use Rattle.kat_model.specs.Relations.{Table, atom_at}
 use Rattle.kat_model.specs.Working.Decided.{computes_relation, warshall}
 use Rattle.string_tables.specs.Working.Matrices.{Tells, entry, IsImage}
-use Rattle.string_tables.proofs.Rooms.{term_height_positive, room_first, room_rest}
+use Rattle.string_tables.proofs.Rooms.{term_height_positive, same_room, body_fits, room_first, room_rest}
 use Rattle.string_tables.proofs.Told.{closure_told}
 use Rattle.string_tables.proofs.Images.{image_empty, image_identity, image_test, image_composition, image_union, image_told}
 use Rattle.string_tables.proofs.following.+follow.Goals as goal
@@ -220,3 +220,75 @@ returns-in-Star-clause-sizes t c = c.evaluate.ensures.sizes
 
 pub returns-in-Star-clause-width : goal.returns-in-Star-clause-width
 returns-in-Star-clause-width t c = c.row_product.ensures.width ∙ c.close.ensures.width ∙ c.evaluate.ensures.width
+
+pub clear-requires : goal.clear-requires
+clear-requires t c = same_room _ _ _ _ (ap (λ (t : Table). t.states) c.table.view_is) refl c.requires.row
+
+pub keep_true-requires-clause-whole : goal.keep_true-requires-clause-whole
+keep_true-requires-clause-whole t c = c.requires.whole
+
+pub keep_true-requires-clause-own : goal.keep_true-requires-clause-own
+keep_true-requires-clause-own t c = c.requires.row
+
+pub follow_action-requires-clause-whole : goal.follow_action-requires-clause-whole
+follow_action-requires-clause-whole t c = c.requires.whole
+
+pub follow_action-requires-clause-row : goal.follow_action-requires-clause-row
+follow_action-requires-clause-row t c = c.requires.row
+
+pub follow_action-requires-clause-to : goal.follow_action-requires-clause-to
+follow_action-requires-clause-to t c = c.requires.spare
+
+pub copy_from-requires-clause-own : goal.copy_from-requires-clause-own
+copy_from-requires-clause-own t c = same_room _ _ _ _ (ap (λ (t : Table). t.states) c.table.view_is) refl c.requires.row
+
+pub copy_from-requires-clause-others : goal.copy_from-requires-clause-others
+copy_from-requires-clause-others t c =
+    same_room _ _ _ _ (ap (λ (t : Table). t.states) c.table.view_is) c.follow_action.ensures.width c.requires.spare
+
+pub copy_from-requires-in-Sum-clause-others : goal.copy_from-requires-in-Sum-clause-others
+copy_from-requires-in-Sum-clause-others t c = same_room _ _ _ _ (ap (λ (t : Table). t.states) c.table.view_is) refl c.requires.row
+
+pub join-requires-clause-own : goal.join-requires-clause-own
+join-requires-clause-own t c = same_room _ _ _ _ (ap (λ (t : Table). t.states) c.table.view_is) c.follow.ensures.row c.requires.row
+
+pub evaluate-requires-clause-whole : goal.evaluate-requires-clause-whole
+evaluate-requires-clause-whole t c = c.requires.whole
+
+pub evaluate-requires-clause-height : goal.evaluate-requires-clause-height
+evaluate-requires-clause-height t c =
+    let tree : kat_tree c.args.term.now ≡ star (kat_tree c.deref-in-Star.result.now) = rw (c.in-Star.is, c.deref-in-Star.ensures) refl in
+    body_fits _ _ _ (ap term_height tree) c.requires.height
+
+pub evaluate-requires-clause-top : goal.evaluate-requires-clause-top
+evaluate-requires-clause-top t c = c.requires.top
+
+pub evaluate-requires-clause-below : goal.evaluate-requires-clause-below
+evaluate-requires-clause-below t c = c.requires.below
+
+pub evaluate-requires-clause-spare : goal.evaluate-requires-clause-spare
+evaluate-requires-clause-spare t c = c.requires.spare
+
+pub close-requires-clause-own : goal.close-requires-clause-own
+close-requires-clause-own t c = same_room _ _ _ _ (ap (λ (t : Table). t.states) c.table.view_is) c.evaluate.ensures.size c.requires.top
+
+pub close-requires-clause-spare : goal.close-requires-clause-spare
+close-requires-clause-spare t c = same_room _ _ _ _ (ap (λ (t : Table). t.states) c.table.view_is) c.evaluate.ensures.width c.requires.spare
+
+pub row_product-requires-clause-row : goal.row_product-requires-clause-row
+row_product-requires-clause-row t c = same_room _ _ _ _ (ap (λ (t : Table). t.states) c.table.view_is) refl c.requires.row
+
+pub row_product-requires-clause-right : goal.row_product-requires-clause-right
+row_product-requires-clause-right t c =
+    same_room _ _ _ _ (ap (λ (t : Table). t.states) c.table.view_is) (c.close.ensures.size ∙ c.evaluate.ensures.size) c.requires.top
+
+pub row_product-requires-clause-to : goal.row_product-requires-clause-to
+row_product-requires-clause-to t c =
+    same_room _ _ _ _ (ap (λ (t : Table). t.states) c.table.view_is) (c.close.ensures.width ∙ c.evaluate.ensures.width) c.requires.spare
+
+pub copy_from-requires-in-Star-clause-own : goal.copy_from-requires-in-Star-clause-own
+copy_from-requires-in-Star-clause-own t c = same_room _ _ _ _ (ap (λ (t : Table). t.states) c.table.view_is) refl c.requires.row
+
+pub copy_from-requires-in-Star-clause-others : goal.copy_from-requires-in-Star-clause-others
+copy_from-requires-in-Star-clause-others t c =
+    same_room _ _ _ _ (ap (λ (t : Table). t.states) c.table.view_is) (c.row_product.ensures.width ∙ c.close.ensures.width ∙ c.evaluate.ensures.width) c.requires.spare
