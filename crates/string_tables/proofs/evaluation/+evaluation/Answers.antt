@@ -1,10 +1,10 @@
 use Rattle.std.proofs.Common.{◌≡◌, ◌<◌, length, set, refl, ap, ◌∙◌, ◌++◌, arith, get_or, get_or-set_same, length-set}
 use Rattle.std.proofs.lemmas.List.{get_or_append_left, get_or_default}
-use Rattle.kat_model.specs.Trees.{kat_tree, term_height, sum, product, star, test, test_tree}
+use Rattle.kat_model.specs.Trees.{kat_tree, term_height, zero, one, act, sum, product, star, test, test_tree}
 use Rattle.kat_model.specs.Relations.{Table}
 use Rattle.kat_model.specs.Working.Decided.{computes_relation}
 use Rattle.string_tables.specs.Working.Matrices.{Square, Tells, level}
-use Rattle.string_tables.proofs.Rooms.{term_height_positive, room_first, room_rest, room_at_first}
+use Rattle.string_tables.proofs.Rooms.{term_height_positive, same_room, room_first, room_rest, room_at_first}
 use Rattle.string_tables.proofs.Told.{union_told, product_told, closure_told}
 use Rattle.string_tables.proofs.evaluation.+evaluation.Goals as goal
 
@@ -182,3 +182,72 @@ evaluate_both-returns-clause-second t c =
     let longer : 0 < length (set next 0 top) = rw length-set room in
     let written : level (set next 0 top ++ c.evaluate-2.new.below) 0 ≡ top = get_or_append_left (set next 0 top) c.evaluate-2.new.below _ 0 longer ∙ get_or-set_same next 0 top _ room in
     rw written c.evaluate-2.ensures.told
+
+pub evaluate-clear-requires : goal.evaluate-clear-requires
+evaluate-clear-requires t c = same_room _ _ _ _ (ap (λ (t : Table). t.states) c.table.view_is) refl c.requires.top
+
+pub evaluate-put_identity-requires : goal.evaluate-put_identity-requires
+evaluate-put_identity-requires t c = same_room _ _ _ _ (ap (λ (t : Table). t.states) c.table.view_is) refl c.requires.top
+
+pub evaluate-put_test-requires-clause-whole : goal.evaluate-put_test-requires-clause-whole
+evaluate-put_test-requires-clause-whole t c = c.requires.whole
+
+pub evaluate-put_test-requires-clause-own : goal.evaluate-put_test-requires-clause-own
+evaluate-put_test-requires-clause-own t c = c.requires.top
+
+pub evaluate-put_action-requires-clause-whole : goal.evaluate-put_action-requires-clause-whole
+evaluate-put_action-requires-clause-whole t c = c.requires.whole
+
+pub evaluate-put_action-requires-clause-own : goal.evaluate-put_action-requires-clause-own
+evaluate-put_action-requires-clause-own t c = c.requires.top
+
+pub evaluate-join-requires-clause-own : goal.evaluate-join-requires-clause-own
+evaluate-join-requires-clause-own t c =
+    same_room _ _ _ _ (ap (λ (t : Table). t.states) c.table.view_is) c.evaluate_both.ensures.size c.requires.top
+
+pub evaluate-multiply-requires-clause-own : goal.evaluate-multiply-requires-clause-own
+evaluate-multiply-requires-clause-own t c =
+    same_room _ _ _ _ (ap (λ (t : Table). t.states) c.table.view_is) c.evaluate_both-in-Seq.ensures.size c.requires.top
+
+pub evaluate-multiply-requires-clause-spare : goal.evaluate-multiply-requires-clause-spare
+evaluate-multiply-requires-clause-spare t c =
+    same_room _ _ _ _ (ap (λ (t : Table). t.states) c.table.view_is) c.evaluate_both-in-Seq.ensures.width c.requires.spare
+
+pub evaluate-close-requires-clause-own : goal.evaluate-close-requires-clause-own
+evaluate-close-requires-clause-own t c =
+    same_room _ _ _ _ (ap (λ (t : Table). t.states) c.table.view_is) c.evaluate.ensures.size c.requires.top
+
+pub evaluate-close-requires-clause-spare : goal.evaluate-close-requires-clause-spare
+evaluate-close-requires-clause-spare t c =
+    same_room _ _ _ _ (ap (λ (t : Table). t.states) c.table.view_is) c.evaluate.ensures.width c.requires.spare
+
+pub evaluate_both-returns-clause-first : goal.evaluate_both-returns-clause-first
+evaluate_both-returns-clause-first t c = c.evaluate.ensures.told
+
+pub evaluate_both-returns-clause-size : goal.evaluate_both-returns-clause-size
+evaluate_both-returns-clause-size t c = c.evaluate.ensures.size
+
+pub evaluate_both-returns-clause-width : goal.evaluate_both-returns-clause-width
+evaluate_both-returns-clause-width t c = c.evaluate-2.ensures.width ∙ c.evaluate.ensures.width
+
+pub evaluate-returns-in-Zero-clause-told : goal.evaluate-returns-in-Zero-clause-told
+evaluate-returns-in-Zero-clause-told t c =
+    let tree : kat_tree c.args.term.now ≡ zero = rw c.in-Zero.is refl in
+    let states = ap (λ (t : Table). t.states) c.table.view_is in
+    rw tree (rw states at c.clear.ensures.cleared)
+
+pub evaluate-returns-in-One-clause-told : goal.evaluate-returns-in-One-clause-told
+evaluate-returns-in-One-clause-told t c =
+    let tree : kat_tree c.args.term.now ≡ one = rw c.in-One.is refl in
+    let states = ap (λ (t : Table). t.states) c.table.view_is in
+    rw tree (rw states at c.put_identity.ensures.told)
+
+pub evaluate-returns-in-Test-clause-told : goal.evaluate-returns-in-Test-clause-told
+evaluate-returns-in-Test-clause-told t c =
+    let tree : kat_tree c.args.term.now ≡ test (test_tree c.in-Test.b) = rw c.in-Test.is refl in
+    rw tree c.put_test.ensures.told
+
+pub evaluate-returns-in-Act-clause-told : goal.evaluate-returns-in-Act-clause-told
+evaluate-returns-in-Act-clause-told t c =
+    let tree : kat_tree c.args.term.now ≡ act c.in-Act.a = rw c.in-Act.is refl in
+    rw tree c.put_action.ensures.told
