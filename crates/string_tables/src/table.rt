@@ -3,7 +3,7 @@ ghost use Rattle.std.specs.Prelude.{◌≡◌, ◌++◌, ◌∷◌, [], IfOk, On
 ghost use Rattle.string_tables.specs.Tables.{table_of as string_table};
 
 use crate::string::GString;
-use kat_model::{Items, NoMemory};
+use kat_model::{Items, NoMemory, append};
 use std::alloc::Global;
 use std::marker::Model;
 
@@ -60,9 +60,8 @@ fn push_state(
     ensures truths { OnOk result (truths.new.items ≡ truths.old.items ++ atom.now ∷ []) }
     ensures moves { OnOk result (moves.new.items ≡ moves.old.items ++ step ∷ []) }
 {
-    truths.push(copy_of(alloc, atom)?)?;
-    moves.push(step)?;
-    Ok(())
+    append(truths, copy_of(alloc, atom)?)?;
+    append(moves, step)
 }
 
 /// Returns the table of a string: its positions are the states, the truth values at each are its atom, and the only

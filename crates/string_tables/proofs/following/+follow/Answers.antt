@@ -1,5 +1,5 @@
 use Rattle.std.proofs.Common.{◌≡◌, ◌<◌, ◌≤◌, ℕ, List, Bool, ◌∙◌, length, get_or, set, refl, ap, arith, get_or-set_same, length-set, false, slice_index_or}
-use Rattle.kat_model.specs.Trees.{kat_tree, term_height, zero, one, test, sum, product, star, test_tree}
+use Rattle.kat_model.specs.Trees.{kat_tree, term_height, zero, one, act, test, sum, product, star, test_tree}
 use Rattle.kat_model.specs.Steps.{truth}
 use Rattle.kat_model.specs.Relations.{Table, atom_at}
 use Rattle.kat_model.specs.Working.Decided.{computes_relation, warshall}
@@ -292,3 +292,21 @@ copy_from-requires-in-Star-clause-own t c = same_room _ _ _ _ (ap (λ (t : Table
 pub copy_from-requires-in-Star-clause-others : goal.copy_from-requires-in-Star-clause-others
 copy_from-requires-in-Star-clause-others t c =
     same_room _ _ _ _ (ap (λ (t : Table). t.states) c.table.view_is) (c.row_product.ensures.width ∙ c.close.ensures.width ∙ c.evaluate.ensures.width) c.requires.spare
+
+pub returns-in-Act-clause-image : goal.returns-in-Act-clause-image
+returns-in-Act-clause-image t c =
+    let tree : kat_tree c.args.term.now ≡ act c.in-Act.a = rw c.in-Act.is refl in
+    let states = ap (λ (t : Table). t.states) c.table.view_is in
+    let copied = rw states at c.copy_from.ensures.copied in
+    rw tree (λ j lj. copied j lj ∙ c.follow_action.ensures.image j lj)
+
+pub join-requires-clause-others : goal.join-requires-clause-others
+join-requires-clause-others t c =
+    let parts = c.split_at_mut-next.ensures in
+    let front = c.split_at_mut-next.result.0.now in
+    let first = room_first (λ (row : List Bool). length row) c.args.table.now.states c.args.rows.now c.args.rows.now _ _ c.requires.rows refl parts.value parts.front_len c.index-next-0.result in
+    let room : 0 < length front = omega (arith, parts.front_len) in
+    let again : 0 < length (set front 0 c.copy_from-in-Sum.new.self) = rw length-set room in
+    let copied : get_or (set front 0 c.copy_from-in-Sum.new.self) 0 c.index-next-0-in-Sum.result ≡ c.copy_from-in-Sum.new.self = get_or-set_same _ 0 _ _ room in
+    let written : get_or (set (set front 0 c.copy_from-in-Sum.new.self) 0 c.follow-in-Sum.new.row) 0 c.index-next-0-in-Sum-2.result ≡ c.follow-in-Sum.new.row = get_or-set_same _ 0 _ _ again in
+    same_room _ _ _ _ (ap (λ (t : Table). t.states) c.table.view_is) (ap length written ∙ c.follow-in-Sum.ensures.row ∙ ap length copied ∙ c.copy_from-in-Sum.ensures.width) first
