@@ -1,7 +1,10 @@
-use Rattle.std.proofs.Common.{sym, subst, IfOk}
+use Rattle.std.proofs.Common.{◌<◌, sym, subst, IfOk}
+use Rattle.kat_model.specs.Problems.{IsTestInRange}
 use Rattle.kat_model.specs.Steps.{truth}
+use Rattle.term_nodes.specs.NodeTrees.{test_tree_at}
 use Rattle.test_diagrams.specs.Functions.{IsDiagramOf}
 use Rattle.test_diagrams.proofs.Kept.{KeepsFunctions-itself, KeepsFunctions-trans}
+use Rattle.partial_derivs.proofs.Derived.{earlier}
 use Rattle.partial_derivs.proofs.TestDiagrams.{not_diagram, and_diagram, or_diagram}
 use Rattle.partial_derivs.proofs.forms.+diagram_of.Goals as goal
 
@@ -78,3 +81,39 @@ returns-in-Prim-clause-function t c =
 
 pub returns-in-Prim-clause-kept : goal.returns-in-Prim-clause-kept
 returns-in-Prim-clause-kept t c = c.of_test.ensures.kept
+
+pub diagram_of-requires : goal.diagram_of-requires
+diagram_of-requires t c =
+    let part = c.in-Not.ensures.parts in
+    let range = subst (IsTestInRange c.args.diagrams.now.tests) c.in-Not.ensures.tree c.requires.in_range in
+    (subst (λ n. c.in-Not.b < n) c.decreases part, (earlier _ _ _ part c.requires.id, range))
+
+pub diagram_of-requires-in-And : goal.diagram_of-requires-in-And
+diagram_of-requires-in-And t c =
+    let part = c.in-And.ensures.parts.0 in
+    let range = subst (IsTestInRange c.args.diagrams.now.tests) c.in-And.ensures.tree c.requires.in_range in
+    (subst (λ n. c.in-And.b < n) c.decreases part, (earlier _ _ _ part c.requires.id, range.0))
+
+pub diagram_of-requires-in-And-2 : goal.diagram_of-requires-in-And-2
+diagram_of-requires-in-And-2 t c =
+    let part = c.in-And.ensures.parts.1 in
+    let range = subst (IsTestInRange c.args.diagrams.now.tests) c.in-And.ensures.tree c.requires.in_range in
+    let tests = c.in_ok-left-in-And.ensures.kept.tests in (
+      subst (λ n. c.in-And.c < n) c.decreases part,
+      (earlier _ _ _ part c.requires.id, subst (λ n. IsTestInRange n (test_tree_at c.args.store.now c.in-And.c)) (sym tests) range.1),
+    )
+
+pub diagram_of-requires-in-Or : goal.diagram_of-requires-in-Or
+diagram_of-requires-in-Or t c =
+    let part = c.in-Or.ensures.parts.0 in
+    let range = subst (IsTestInRange c.args.diagrams.now.tests) c.in-Or.ensures.tree c.requires.in_range in
+    (subst (λ n. c.in-Or.b < n) c.decreases part, (earlier _ _ _ part c.requires.id, range.0))
+
+pub diagram_of-requires-in-Or-2 : goal.diagram_of-requires-in-Or-2
+diagram_of-requires-in-Or-2 t c =
+    let part = c.in-Or.ensures.parts.1 in
+    let range = subst (IsTestInRange c.args.diagrams.now.tests) c.in-Or.ensures.tree c.requires.in_range in
+    let tests = c.in_ok-left-in-Or.ensures.kept.tests in (
+      subst (λ n. c.in-Or.c < n) c.decreases part,
+      (earlier _ _ _ part c.requires.id, subst (λ n. IsTestInRange n (test_tree_at c.args.store.now c.in-Or.c)) (sym tests) range.1),
+    )
