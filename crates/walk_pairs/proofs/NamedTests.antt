@@ -71,5 +71,5 @@ mapped_next f ids i x y ys new all lt is own pushed before =
     ∙ ap (λ l. ys ++ map f l) (sym (drop_more ids i x lt))
     ∙ before
 
-pub mapped_last : {Y : Type 0} (f : ℕ → Y) (ids : List ℕ) (i : ℕ) (ys all : List Y) → length ids ≤ i → ys ++ map f (drop i ids) ≡ all → ys ≡ all
+pub mapped_last : {X Y : Type 0} (f : X → Y) (ids : List X) (i : ℕ) (ys all : List Y) → length ids ≤ i → ys ++ map f (drop i ids) ≡ all → ys ≡ all
 mapped_last f ids i ys all le before = sym (append-nil ys) ∙ ap (λ l. ys ++ map f l) (sym (drop_all i ids le)) ∙ before

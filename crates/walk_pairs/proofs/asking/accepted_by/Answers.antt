@@ -14,3 +14,6 @@ returns-clause-right c = c.in_ok-steps.ensures.right
 
 pub returns-clause-kept : goal.returns-clause-kept
 returns-clause-kept c = c.in_ok-steps.ensures.kept
+
+pub returns-clause-accepted : goal.returns-clause-accepted
+returns-clause-accepted c = c.in_ok-steps.ensures.steps.accepts

@@ -5,7 +5,7 @@ use Rattle.kat_model.proofs.Lists.{has_left, has_right}
 use Rattle.partial_derivs.proofs.Items.{has_item}
 use Rattle.certificate.specs.PairParts.{PairParts}
 use Rattle.walk_pairs.specs.Numbering.{number_of, numbers_of, number_pair_of}
-use Rattle.walk_pairs.proofs.NamedTests.{mapped_next}
+use Rattle.walk_pairs.proofs.NamedTests.{mapped_next, mapped_last}
 use Rattle.walk_pairs.proofs.PartSets.{member_of}
 use Rattle.walk_pairs.proofs.StoreCerts.{pair_test_of}
 use Rattle.walk_pairs.proofs.cert.number_pairs.Goals as goal
@@ -44,3 +44,6 @@ loop-pair-preserved c =
     let test : c.pair_test_number-test.result ≡ option_map (number_of tests) own.test = c.pair_test_number-test.ensures ∙ ap (option_map (number_of tests)) (ap (λ (p : PairParts). p.test) c.pair.view_is) in
     mapped_next (number_pair_of tests terms) c.args.pairs.now c.loop-pair.pair-index own (record { left = c.in_ok-left.left; right = c.in_ok-right.right; test = c.pair_test_number-test.result }) c.loop-pair.list.items c.append.new.list.items _ c.loop-pair-test.true c.pair-item.is
     (λ j. record { left = left j; right = right j; test = test j }) c.in_ok-append.ensures c.loop-pair.invariant
+
+pub returns : goal.returns
+returns c = mapped_last (number_pair_of c.args.tests.now.keys c.args.terms.now.keys) c.args.pairs.now c.loop-pair.pair-index c.loop-pair.list.items _ c.loop-pair-test.false c.loop-pair.invariant

@@ -27,3 +27,21 @@ returns-clause-ids c =
       universal_id = λ u e. subst (λ o. IfSome o (IsTerm store)) e c.in_ok-universal.ensures.is_id;
       universal = c.in_ok-universal.ensures.tree;
     }
+
+pub returns-in_err-left-clause-kept : goal.returns-in_err-left-clause-kept
+returns-in_err-left-clause-kept c = c.in_err-left.ensures.grows
+
+pub returns-in_err-left-clause-store : goal.returns-in_err-left-clause-store
+returns-in_err-left-clause-store c = c.in_err-left.ensures.store
+
+pub returns-in_err-right-clause-kept : goal.returns-in_err-right-clause-kept
+returns-in_err-right-clause-kept c = Grows-trans c.args.store.now c.of_tree.new.self c.of_tree-2.new.self c.in_ok-left.ensures.grows c.in_err-right.ensures.grows
+
+pub returns-in_err-right-clause-store : goal.returns-in_err-right-clause-store
+returns-in_err-right-clause-store c = c.in_err-right.ensures.store
+
+pub returns-in_err-universal-clause-store : goal.returns-in_err-universal-clause-store
+returns-in_err-universal-clause-store c = c.in_err-universal.ensures.refused
+
+pub returns-clause-store : goal.returns-clause-store
+returns-clause-store c = c.count-2.ensures.store

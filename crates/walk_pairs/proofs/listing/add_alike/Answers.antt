@@ -1,6 +1,6 @@
-use Rattle.std.proofs.Common.{◌≡◌, ◌++◌, ⊎_elim, inl, inr, List, [], ◌∷◌, Some, None, slice_get, sym, ap, ◌∙◌, subst}
+use Rattle.std.proofs.Common.{◌≡◌, ◌++◌, ⊎_elim, inl, inr, List, [], ◌∷◌, Some, slice_get, sym, ap, ◌∙◌, subst}
 use Rattle.std.proofs.lemmas.Bool.{both_ways}
-use Rattle.std.proofs.lemmas.Option.{same_Some, slice_get-get_or, slice_get_past}
+use Rattle.std.proofs.lemmas.Option.{none-some, same_Some, slice_get-get_or, slice_get_past}
 use Rattle.kat_model.specs.Members.{Has}
 use Rattle.kat_model.proofs.Lists.{has_left, has_right, has_pushed}
 use Rattle.kat_model.proofs.Places.{has_at}
@@ -10,7 +10,7 @@ use Rattle.walk_pairs.proofs.listing.add_alike.Goals as goal
 pub returns-in_default : goal.returns-in_default
 returns-in_default c = record {
   kept = λ e h. h;
-  added = λ e at l r. let none : slice_get c.args.entries.now c.args.place ≡ None = slice_get_past c.args.entries.now c.args.place c.in_default.ensures.lookup.3 in absurd cc;
+  added = λ e at l r. absurd (none-some e (sym (slice_get_past c.args.entries.now c.args.place c.in_default.ensures.lookup.3) ∙ at));
   each = λ e h. inl h;
 }
 

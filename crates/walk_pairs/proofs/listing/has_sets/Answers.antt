@@ -14,6 +14,6 @@ returns-then-same_left c =
 pub returns-else-same_left : goal.returns-else-same_left
 returns-else-same_left c =
     let left : c.as_slice-own_left.result.now ≡ c.args.entry.now.left = c.as_slice-own_left.ensures ∙ ap (λ (e : EntryParts). e.left) c.entry.view_is in (
-      (λ h. absurd cc),
+      (λ h. absurd (both_ways c.are_same-same_left.result c.if-same_left.false h)),
       (λ p. absurd (both_ways c.are_same-same_left.result c.if-same_left.false (c.are_same-same_left.ensures.1 (left ∙ p.0)))),
     )

@@ -13,4 +13,4 @@ returns-then-same c =
     )
 
 pub returns-else-same : goal.returns-else-same
-returns-else-same c = ((λ h. absurd cc), (λ p. absurd (both_ways c.is_with-same.result c.if-same.false (c.is_with-same.ensures.1 p.0))))
+returns-else-same c = ((λ h. absurd (both_ways c.is_with-same.result c.if-same.false h)), (λ p. absurd (both_ways c.is_with-same.result c.if-same.false (c.is_with-same.ensures.1 p.0))))

@@ -1,4 +1,5 @@
 use Rattle.std.proofs.Common.{◌≡◌, sym, ap, ◌∙◌}
+use Rattle.std.proofs.lemmas.Bool.{eqb-true}
 use Rattle.walk_pairs.specs.Entries.{EntryParts}
 use Rattle.walk_pairs.proofs.listing.is_with.Goals as goal
 
@@ -14,6 +15,6 @@ returns-then-same_level c =
 
 pub returns-else-same_level : goal.returns-else-same_level
 returns-else-same_level c = (
-  (λ h. absurd cc),
+  (λ h. absurd (c.if-same_level.false (eqb-true c.entry.inside.level c.pair.inside.level h))),
   (λ is. absurd (c.if-same_level.false (ap (λ (e : EntryParts). e.level) c.entry.view_is ∙ is.level ∙ sym (ap (λ (e : EntryParts). e.level) c.pair.view_is)))),
 )

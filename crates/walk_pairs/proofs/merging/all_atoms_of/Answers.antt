@@ -23,3 +23,6 @@ returns-clause-atoms c =
     (λ id atoms. atoms_all c.args.entries.now.items c.in_ok-alike.alike.items left right c.in_ok-alike.ensures b d id
     (subst (λ (l : List EntryParts). AreAtomsOf b d l left right id) c.deref.ensures.value atoms))
     c.atoms_of.ensures.atoms
+
+pub returns-clause-kept : goal.returns-clause-kept
+returns-clause-kept c = c.atoms_of.ensures.kept

@@ -37,3 +37,9 @@ pub returns-clause-atoms : goal.returns-clause-atoms
 returns-clause-atoms c =
     let es : List EntryParts = c.args.entries.now in
     subst (λ (xs : List EntryParts). AreAtomsOf c.args.diagrams.now c.loop-entry.diagrams xs c.args.left.now c.args.right.now c.loop-entry.id) (take_all c.loop-entry.entry-index es c.loop-entry-test.false) c.loop-entry.invariant.atoms
+
+pub returns-in_err-id-clause-kept : goal.returns-in_err-id-clause-kept
+returns-in_err-id-clause-kept c = KeepsFunctions-trans _ _ _ c.loop-entry.invariant.kept c.in_err-id.ensures.kept
+
+pub returns-clause-kept : goal.returns-clause-kept
+returns-clause-kept c = c.loop-entry.invariant.kept

@@ -1,5 +1,6 @@
 use Rattle.std.proofs.Common.{◌<◌, [], ◌∷◌, length, sym, subst, arith}
 use Rattle.kat_model.proofs.Places.{has_at}
+use Rattle.test_diagrams.proofs.Kept.{KeepsFunctions-itself}
 use Rattle.walk_pairs.specs.Reaching.{Brings}
 use Rattle.walk_pairs.proofs.Marking.{read_number, mark_more, mark_ids}
 use Rattle.walk_pairs.proofs.reaching.mark.Goals as goal
@@ -19,3 +20,21 @@ returns-clause-marks c es all before brings =
 
 pub returns-clause-ids : goal.returns-clause-ids
 returns-clause-ids c = mark_ids c.args.diagrams.now c.or.new.self c.in_ok-new.ensures.kept c.args.marks.now c.number-number.result c.in_ok-new.new c.in_ok-new.ensures.function.in_range c.requires.marks
+
+pub returns-then-number-marks-clause-marks : goal.returns-then-number-marks-clause-marks
+returns-then-number-marks-clause-marks c es set m b = m
+
+pub returns-then-number-marks-clause-ids : goal.returns-then-number-marks-clause-ids
+returns-then-number-marks-clause-ids c = c.requires.marks
+
+pub returns-then-number-marks-clause-kept : goal.returns-then-number-marks-clause-kept
+returns-then-number-marks-clause-kept c = KeepsFunctions-itself c.args.diagrams.now
+
+pub or-requires-clause-right : goal.or-requires-clause-right
+or-requires-clause-right c = c.requires.test
+
+pub returns-in_err-new-clause-kept : goal.returns-in_err-new-clause-kept
+returns-in_err-new-clause-kept c = c.in_err-new.ensures.kept
+
+pub returns-clause-kept : goal.returns-clause-kept
+returns-clause-kept c = c.in_ok-new.ensures.kept

@@ -34,3 +34,15 @@ and-requires-clause-left c = c.loop-term.invariant.part.is_id
 
 pub returns-in_err-id-clause-kept : goal.returns-in_err-id-clause-kept
 returns-in_err-id-clause-kept c = KeepsFunctions-trans _ _ _ c.loop-term.invariant.kept c.in_err-id.ensures.kept
+
+pub returns-then-eq-clause-kept : goal.returns-then-eq-clause-kept
+returns-then-eq-clause-kept c = KeepsFunctions-itself c.args.diagrams.now
+
+pub returns-in_default-clause-kept : goal.returns-in_default-clause-kept
+returns-in_default-clause-kept c = c.loop-term.invariant.kept
+
+pub returns-clause-part : goal.returns-clause-part
+returns-clause-part c = c.loop-term.invariant.part
+
+pub returns-clause-kept : goal.returns-clause-kept
+returns-clause-kept c = c.loop-term.invariant.kept

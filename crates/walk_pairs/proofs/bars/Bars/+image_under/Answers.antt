@@ -142,3 +142,15 @@ split-requires-clause-region t c = c.requires.region
 
 pub returns-in_err-parts-clause-kept : goal.returns-in_err-parts-clause-kept
 returns-in_err-parts-clause-kept t c = c.in_err-parts.ensures.kept
+
+pub returns-in-Some-clause-image : goal.returns-in-Some-clause-image
+returns-in-Some-clause-image t c = c.in-Some.ensures c.args.diagrams.now c.requires.sound.images
+
+pub returns-in-Some-clause-sound : goal.returns-in-Some-clause-sound
+returns-in-Some-clause-sound t c = c.requires.sound
+
+pub returns-in-Some-clause-bars : goal.returns-in-Some-clause-bars
+returns-in-Some-clause-bars t c = refl
+
+pub returns-in-Some-clause-kept : goal.returns-in-Some-clause-kept
+returns-in-Some-clause-kept t c = KeepsFunctions-itself c.args.diagrams.now

@@ -201,3 +201,15 @@ returns-in_err-high-clause-grows t c = Grows-itself c.args.store.now
 
 pub returns-in_err-on_low-clause-grows : goal.returns-in_err-on_low-clause-grows
 returns-in_err-on_low-clause-grows t c = c.in_err-on_low.ensures.grows
+
+pub returns-in-Some-find-clause-test : goal.returns-in-Some-find-clause-test
+returns-in-Some-find-clause-test t c = c.in-Some-find.ensures c.args.store.now c.args.diagrams.now c.requires.table
+
+pub returns-in-Some-find-clause-table : goal.returns-in-Some-find-clause-table
+returns-in-Some-find-clause-table t c = c.requires.table
+
+pub returns-in-Some-find-clause-grows : goal.returns-in-Some-find-clause-grows
+returns-in-Some-find-clause-grows t c = Grows-itself c.args.store.now
+
+pub returns-in-Some-find-clause-kept : goal.returns-in-Some-find-clause-kept
+returns-in-Some-find-clause-kept t c = KeepsFunctions-itself c.args.diagrams.now
