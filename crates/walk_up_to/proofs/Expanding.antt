@@ -1,6 +1,6 @@
 -- The pair that is processed, one action after the other: the items of an action represent its next sets, and the pairs
 -- that its cases list make them congruent.
-use Rattle.std.proofs.Common.{◌≡◌, ◌<◌, ℕ, zero, suc, inl, inr, ⊎_elim, List, [], ◌∷◌, ◌++◌, length, replicate, slice_get, Bool, Option, Some, None, refl, sym, ap, ◌∙◌, subst, arith}
+use Rattle.std.proofs.Common.{◌≡◌, ◌<◌, ℕ, zero, suc, inl, inr, ⊎_elim, List, [], ◌∷◌, ◌++◌, length, replicate, slice_get, Bool, Option, Some, None, refl, sym, ap, ◌∙◌, subst, append-nil, arith}
 use Rattle.kat_model.specs.Members.{Has}
 use Rattle.kat_model.specs.Steps.{Atom}
 use Rattle.kat_model.specs.Problems.{ProblemParts}
@@ -100,6 +100,10 @@ abbrev pub StepsBy : ℕ → Worklist → ListedPairsParts → ℕ → BothSteps
 StepsBy actions old new place steps acts =
     (q : ProblemParts) (store : NodeParts) → actions ≡ q.actions → (e : IdEntry) → IsUnderWay q store old place → slice_get old.listed.pairs place ≡ Some e → AreStepsAt store old e steps
     → HasStepped q store old.listed new place (pair_of store e) acts
+
+-- before the first action
+pub steps_none : (actions : ℕ) (old : Worklist) (place : ℕ) (steps : BothSteps) → StepsBy actions old old.listed place steps []
+steps_none actions old place steps q store count e under at steps_at = record { listed = under.listed; grows = record { more = []; is = sym (append-nil (entries_of store old.listed.pairs)) }; congruent = λ a h. absurd h }
 
 module _ (actions : ℕ) (old : Worklist) (place : ℕ) (steps : BothSteps) (acts : List ℕ) where
   module _ (d : DiagramsParts) (mid : ListedPairsParts) (source : StepSource) (items : List Item) (kept : KeepsFunctions old.diagrams d) (same_place : source.place ≡ place) (below : source.act < actions)

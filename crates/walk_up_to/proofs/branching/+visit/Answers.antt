@@ -2,9 +2,9 @@ use Rattle.std.proofs.Common.{◌≡◌, ◌+◌, inl, inr, true, false, refl, s
 use Rattle.std.specs.Prelude.{IsSome}
 use Rattle.std.proofs.lemmas.Result.{on_ok_weaker}
 use Rattle.test_diagrams.proofs.Kept.{KeepsFunctions-itself, KeepsFunctions-trans}
-use Rattle.walk_up_to.specs.Cases.{IsNextTest, open_count}
+use Rattle.walk_up_to.specs.Cases.{AreConstant, IsNextTest, open_count}
 use Rattle.walk_up_to.specs.Covers.{covers}
-use Rattle.walk_up_to.proofs.PassedOn.{passed_on, passed_cost, no_room_full, no_room_cost}
+use Rattle.walk_up_to.proofs.PassedOn.{passed_on, passed_cost, no_room_full, no_room_cost, not_stopped}
 use Rattle.walk_up_to.proofs.Leaves.{visits_covered}
 use Rattle.walk_up_to.proofs.Splits.{next_open, case_kept, fewer_part, low_then_high, high_then_low, low_first_passes, high_first_passes}
 use Rattle.walk_up_to.proofs.branching.+visit.Goals as goal
@@ -128,10 +128,10 @@ pub visit-returns-in_err-count_case-clause-kept : goal.visit-returns-in_err-coun
 visit-returns-in_err-count_case-clause-kept t c = KeepsFunctions-itself c.args.diagrams.now
 
 pub visit-returns-then-branch-clause-full : goal.visit-returns-then-branch-clause-full
-visit-returns-then-branch-clause-full t c is = absurd cc
+visit-returns-then-branch-clause-full t c is = absurd (not_stopped _ _ is)
 
 pub visit-returns-then-branch-clause-limited : goal.visit-returns-then-branch-clause-limited
-visit-returns-then-branch-clause-limited t c is = absurd cc
+visit-returns-then-branch-clause-limited t c is = absurd (not_stopped _ _ is)
 
 pub visit-returns-then-branch-clause-limit : goal.visit-returns-then-branch-clause-limit
 visit-returns-then-branch-clause-limit t c = refl
@@ -207,3 +207,27 @@ visit_both-returns-in_err-visit-clause-kept t c = c.in_err-visit.ensures.kept
 
 pub visit_both-returns-clause-limit : goal.visit_both-returns-clause-limit
 visit_both-returns-clause-limit t c = c.visit-2.ensures.limit ∙ c.visit.ensures.limit
+
+pub visit-visit_leaf-requires-clause-case : goal.visit-visit_leaf-requires-clause-case
+visit-visit_leaf-requires-clause-case t c = c.requires.case
+
+pub visit-returns-in_default-clause-visited : goal.visit-returns-in_default-clause-visited
+visit-returns-in_default-clause-visited t c = c.visit_leaf.ensures.visited
+
+pub visit-returns-in_default-clause-full : goal.visit-returns-in_default-clause-full
+visit-returns-in_default-clause-full t c = c.visit_leaf.ensures.full
+
+pub visit-returns-in_default-clause-limited : goal.visit-returns-in_default-clause-limited
+visit-returns-in_default-clause-limited t c = c.visit_leaf.ensures.limited
+
+pub visit-returns-in_default-clause-limit : goal.visit-returns-in_default-clause-limit
+visit-returns-in_default-clause-limit t c = c.visit_leaf.ensures.limit
+
+pub visit-returns-in_err-is_covered-clause-full : goal.visit-returns-in_err-is_covered-clause-full
+visit-returns-in_err-is_covered-clause-full t c is = absurd (no_room_full c.from_residual-in_err-is_covered.result c.from_residual-in_err-is_covered.ensures.1 is)
+
+pub visit-returns-in_err-is_covered-clause-kept : goal.visit-returns-in_err-is_covered-clause-kept
+visit-returns-in_err-is_covered-clause-kept t c = KeepsFunctions-itself c.args.diagrams.now
+
+pub visit-visit_leaf-requires-clause-constant : goal.visit-visit_leaf-requires-clause-constant
+visit-visit_leaf-requires-clause-constant t c = subst (AreConstant c.args.diagrams.now) c.deref.ensures.value c.in_default.ensures

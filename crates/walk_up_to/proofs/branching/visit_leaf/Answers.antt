@@ -1,6 +1,6 @@
 use Rattle.std.proofs.Common.{refl, sym, ap, ◌∙◌}
 use Rattle.walk_up_to.specs.Covers.{covers}
-use Rattle.walk_up_to.proofs.PassedOn.{no_room_full, no_room_cost}
+use Rattle.walk_up_to.proofs.PassedOn.{no_room_full, no_room_cost, not_stopped, one_limit}
 use Rattle.walk_up_to.proofs.Leaves.{visits_covered, visits_listed, leaf_passes}
 use Rattle.walk_up_to.proofs.branching.visit_leaf.Goals as goal
 
@@ -32,16 +32,16 @@ pub returns-in_err-is_covered-clause-limit : goal.returns-in_err-is_covered-clau
 returns-in_err-is_covered-clause-limit c = refl
 
 pub returns-then-branch-clause-full : goal.returns-then-branch-clause-full
-returns-then-branch-clause-full c is = absurd cc
+returns-then-branch-clause-full c is = absurd (not_stopped _ _ is)
 
 pub returns-then-branch-clause-limited : goal.returns-then-branch-clause-limited
-returns-then-branch-clause-limited c is = absurd cc
+returns-then-branch-clause-limited c is = absurd (not_stopped _ _ is)
 
 pub returns-then-branch-clause-limit : goal.returns-then-branch-clause-limit
 returns-then-branch-clause-limit c = refl
 
 pub returns-then-is_full-clause-limited : goal.returns-then-is_full-clause-limited
-returns-then-is_full-clause-limited c is = absurd cc
+returns-then-is_full-clause-limited c is = absurd (one_limit _ refl is)
 
 pub returns-then-is_full-clause-limit : goal.returns-then-is_full-clause-limit
 returns-then-is_full-clause-limit c = refl
@@ -56,10 +56,10 @@ pub returns-in_err-list_case-clause-limit : goal.returns-in_err-list_case-clause
 returns-in_err-list_case-clause-limit c = c.list_case.ensures.limit
 
 pub returns-clause-full : goal.returns-clause-full
-returns-clause-full c is = absurd cc
+returns-clause-full c is = absurd (not_stopped _ _ is)
 
 pub returns-clause-limited : goal.returns-clause-limited
-returns-clause-limited c is = absurd cc
+returns-clause-limited c is = absurd (not_stopped _ _ is)
 
 pub returns-clause-limit : goal.returns-clause-limit
 returns-clause-limit c = c.list_case.ensures.limit

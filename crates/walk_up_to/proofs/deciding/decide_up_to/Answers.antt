@@ -3,6 +3,7 @@ use Rattle.std.specs.Prelude.{IsSome}
 use Rattle.std.proofs.lemmas.Result.{IfOk-weaker}
 use Rattle.term_nodes.proofs.Growing.{Grows-trans}
 use Rattle.walk_up_to.specs.Decisions.{IsDecisionUpTo, HasPairsPast}
+use Rattle.walk_up_to.proofs.PassedOn.{no_room_full, no_room_cost}
 use Rattle.walk_up_to.proofs.Decisions.{sides_later, on_ok}
 use Rattle.walk_up_to.proofs.deciding.decide_up_to.Goals as goal
 
@@ -32,3 +33,27 @@ returns-clause-limited c = λ is. subst IsSome c.in_ok-walk.ensures.limit (c.evi
 
 pub returns-clause-limited_sides : goal.returns-clause-limited_sides
 returns-clause-limited_sides c = λ is. sides_later c.args.problem.now c.walk_of.new.store c.evidence_of.new.store c.evidence_of.ensures.kept c.in_ok-walk.ensures.sides
+
+pub returns-in_err-walk-clause-past : goal.returns-in_err-walk-clause-past
+returns-in_err-walk-clause-past c is = absurd (no_room_full c.from_residual.result c.from_residual.ensures.1 is)
+
+pub returns-in_err-walk-clause-limited : goal.returns-in_err-walk-clause-limited
+returns-in_err-walk-clause-limited c is = absurd (no_room_cost c.from_residual.result c.from_residual.ensures.1 is)
+
+pub returns-in_err-walk-clause-past_sides : goal.returns-in_err-walk-clause-past_sides
+returns-in_err-walk-clause-past_sides c is = absurd (no_room_full c.from_residual.result c.from_residual.ensures.1 is)
+
+pub returns-in_err-walk-clause-limited_sides : goal.returns-in_err-walk-clause-limited_sides
+returns-in_err-walk-clause-limited_sides c is = absurd (no_room_cost c.from_residual.result c.from_residual.ensures.1 is)
+
+pub returns-in_err-walk-clause-kept : goal.returns-in_err-walk-clause-kept
+returns-in_err-walk-clause-kept c = c.in_err-walk.ensures.kept
+
+pub returns-in_err-walk-clause-store : goal.returns-in_err-walk-clause-store
+returns-in_err-walk-clause-store c = c.in_err-walk.ensures.store
+
+pub returns-clause-nodes : goal.returns-clause-nodes
+returns-clause-nodes c = c.evidence_of.ensures.nodes
+
+pub returns-clause-store : goal.returns-clause-store
+returns-clause-store c = c.evidence_of.ensures.store

@@ -3,7 +3,7 @@ use Rattle.certificate.specs.declared.nodes.Style.TheVariants.{UpTo}
 use Rattle.walk_up_to.specs.Listings.{AreTraced, untested_of}
 use Rattle.walk_pairs.specs.StoredPairs.{AreStoredPairs}
 use Rattle.walk_pairs.specs.Numbering.{IsCertOf}
-use Rattle.walk_up_to.proofs.PassedOn.{passed_on, passed_cost, no_room_full, no_room_cost}
+use Rattle.walk_up_to.proofs.PassedOn.{passed_on, passed_cost, no_room_full, no_room_cost, not_stopped}
 use Rattle.walk_up_to.proofs.PairLimits.{pairs_past}
 use Rattle.walk_up_to.proofs.Decisions.{traced, stored, certified, difference_within, refuted}
 use Rattle.walk_up_to.proofs.deciding.evidence_of.Goals as goal
@@ -91,10 +91,10 @@ pub returns-in_err-cert-in-None-clause-store : goal.returns-in_err-cert-in-None-
 returns-in_err-cert-in-None-clause-store c = c.count.ensures.store
 
 pub returns-in_ok-string-in-Some-clause-past : goal.returns-in_ok-string-in-Some-clause-past
-returns-in_ok-string-in-Some-clause-past c is = absurd cc
+returns-in_ok-string-in-Some-clause-past c is = absurd (not_stopped _ _ is)
 
 pub returns-in_ok-string-in-Some-clause-limited : goal.returns-in_ok-string-in-Some-clause-limited
-returns-in_ok-string-in-Some-clause-limited c is = absurd cc
+returns-in_ok-string-in-Some-clause-limited c is = absurd (not_stopped _ _ is)
 
 pub returns-in_ok-string-in-Some-clause-kept : goal.returns-in_ok-string-in-Some-clause-kept
 returns-in_ok-string-in-Some-clause-kept c = c.run-found.ensures.kept
@@ -103,10 +103,10 @@ pub returns-in_ok-string-in-Some-clause-store : goal.returns-in_ok-string-in-Som
 returns-in_ok-string-in-Some-clause-store c = c.count.ensures.store
 
 pub returns-in_ok-cert-in-None-clause-past : goal.returns-in_ok-cert-in-None-clause-past
-returns-in_ok-cert-in-None-clause-past c is = absurd cc
+returns-in_ok-cert-in-None-clause-past c is = absurd (not_stopped _ _ is)
 
 pub returns-in_ok-cert-in-None-clause-limited : goal.returns-in_ok-cert-in-None-clause-limited
-returns-in_ok-cert-in-None-clause-limited c is = absurd cc
+returns-in_ok-cert-in-None-clause-limited c is = absurd (not_stopped _ _ is)
 
 pub returns-in_ok-cert-in-None-clause-kept : goal.returns-in_ok-cert-in-None-clause-kept
 returns-in_ok-cert-in-None-clause-kept c = c.run-found.ensures.kept

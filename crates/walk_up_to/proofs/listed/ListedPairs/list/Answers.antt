@@ -1,4 +1,5 @@
 use Rattle.std.proofs.Common.{◌≡◌, ◌++◌, ◌∷◌, [], length, ap, ◌∙◌, subst, sym, arith}
+use Rattle.std.proofs.lemmas.Result.{MatchResult-from_err}
 use Rattle.walk_pairs.specs.declared.items.Side.TheVariants.{Left, Right}
 use Rattle.walk_up_to.specs.Listings.{IdEntry}
 use Rattle.walk_up_to.specs.Marks.{ListedPairsParts}
@@ -62,3 +63,20 @@ returns-clause-limit c = ap (λ (r : ListedPairsParts). r.limit) c.self.view_is
 
 pub returns-clause-pairs : goal.returns-clause-pairs
 returns-clause-pairs c = let own : IdEntry = c.args.pair in c.in_ok-push.ensures.items ∙ ap (λ (r : ListedPairsParts). r.pairs ++ own ∷ []) c.self.view_is
+
+pub returns-in_err-push-clause-members : goal.returns-in_err-push-clause-members
+returns-in_err-push-clause-members c =
+    within_more c.push.new.self.items c.self.inside.members.items c.note_pair.new.members.items
+    (subst (λ es. AreWithin es c.self.inside.members.items) (sym c.in_err-push.ensures.items) c.self.invariant.0) c.note_pair.ensures.marks
+
+pub invariant_of-self-in_err-push : goal.invariant_of-self-in_err-push
+invariant_of-self-in_err-push c = (
+  within_more c.push.new.self.items c.self.inside.members.items c.note_pair.new.members.items
+      (subst (λ es. AreWithin es c.self.inside.members.items) (sym c.in_err-push.ensures.items) c.self.invariant.0) c.note_pair.ensures.marks,
+  indexed_kept c.self.inside.index c.note_pair.new.index c.push.new.self.items c.note_pair.ensures.places
+      (subst (AreIndexed c.self.inside.index) (sym c.in_err-push.ensures.items) c.self.invariant.1),
+)
+
+pub returns-in_err-push-clause-same : goal.returns-in_err-push-clause-same
+returns-in_err-push-clause-same c =
+    MatchResult-from_err c.from_residual-in_err-push.result _ _ c.from_residual-in_err-push.ensures.0 (λ _. c.in_err-push.ensures.items ∙ ap (λ (r : ListedPairsParts). r.pairs) c.self.view_is)

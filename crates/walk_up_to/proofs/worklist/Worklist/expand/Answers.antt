@@ -4,10 +4,11 @@ use Rattle.std.proofs.lemmas.List.{take_more, take_all}
 use Rattle.std.proofs.lemmas.Option.{slice_get-get_or}
 use Rattle.kat_model.specs.Members.{Has}
 use Rattle.kat_model.proofs.Places.{has_at}
-use Rattle.test_diagrams.proofs.Kept.{KeepsFunctions-trans}
+use Rattle.test_diagrams.proofs.Kept.{KeepsFunctions-itself, KeepsFunctions-trans}
+use Rattle.partial_derivs.specs.Moves.{AreMerged}
 use Rattle.walk_pairs.specs.Items.{AreItemsOf, AreLedTo}
-use Rattle.walk_up_to.proofs.PassedOn.{passed_on, passed_cost, no_room_full, no_room_cost}
-use Rattle.walk_up_to.proofs.Expanding.{StepsBy, steps_more, steps_pass, steps_all}
+use Rattle.walk_up_to.proofs.PassedOn.{passed_on, passed_cost, no_room_full, no_room_cost, not_stopped}
+use Rattle.walk_up_to.proofs.Expanding.{StepsBy, steps_none, steps_more, steps_pass, steps_all}
 use Rattle.walk_up_to.proofs.worklist.Worklist.expand.Goals as goal
 
 pub loop-act-preserved : goal.loop-act-preserved
@@ -74,10 +75,49 @@ pub returns-in_err-actions_in_order-clause-limit : goal.returns-in_err-actions_i
 returns-in_err-actions_in_order-clause-limit c = refl
 
 pub returns-clause-limited : goal.returns-clause-limited
-returns-clause-limited c is = absurd cc
+returns-clause-limited c is = absurd (not_stopped _ _ is)
 
 pub returns-clause-full : goal.returns-clause-full
-returns-clause-full c is = absurd cc
+returns-clause-full c is = absurd (not_stopped _ _ is)
 
 pub returns-clause-limit : goal.returns-clause-limit
 returns-clause-limit c = c.loop-act.invariant.limit
+
+pub returns-in_err-items-clause-tests : goal.returns-in_err-items-clause-tests
+returns-in_err-items-clause-tests c = c.loop-act.invariant.kept.tests
+
+pub returns-in_err-items-clause-full : goal.returns-in_err-items-clause-full
+returns-in_err-items-clause-full c is = λ q store e acts under_way at steps. absurd (no_room_full c.from_residual-in_err-items.result c.from_residual-in_err-items.ensures.1 is)
+
+pub returns-in_err-items-clause-limited : goal.returns-in_err-items-clause-limited
+returns-in_err-items-clause-limited c is = absurd (no_room_cost c.from_residual-in_err-items.result c.from_residual-in_err-items.ensures.1 is)
+
+pub returns-in_err-items-clause-limit : goal.returns-in_err-items-clause-limit
+returns-in_err-items-clause-limit c = c.loop-act.invariant.limit
+
+pub returns-in_err-visit_all-clause-tests : goal.returns-in_err-visit_all-clause-tests
+returns-in_err-visit_all-clause-tests c = c.in_err-visit_all.ensures.kept.tests ∙ c.loop-act.invariant.kept.tests
+
+pub returns-in_err-visit_all-clause-limit : goal.returns-in_err-visit_all-clause-limit
+returns-in_err-visit_all-clause-limit c = c.in_err-visit_all.ensures.limit ∙ c.loop-act.invariant.limit
+
+pub returns-clause-tests : goal.returns-clause-tests
+returns-clause-tests c = c.loop-act.invariant.kept.tests
+
+pub items_of-requires-clause-left : goal.items_of-requires-clause-left
+items_of-requires-clause-left c m h = c.loop-act.invariant.kept.ids m.guard (c.requires.ids.left m (subst (λ l. Has l m) c.deref-in-loop-act.ensures.value h))
+
+pub items_of-requires-clause-right : goal.items_of-requires-clause-right
+items_of-requires-clause-right c m h = c.loop-act.invariant.kept.ids m.guard (c.requires.ids.right m (subst (λ l. Has l m) c.deref-in-loop-act-2.ensures.value h))
+
+pub items_of-requires-clause-left_merged : goal.items_of-requires-clause-left_merged
+items_of-requires-clause-left_merged c = subst AreMerged (sym c.deref-in-loop-act.ensures.value) c.requires.ids.left_merged
+
+pub items_of-requires-clause-right_merged : goal.items_of-requires-clause-right_merged
+items_of-requires-clause-right_merged c = subst AreMerged (sym c.deref-in-loop-act-2.ensures.value) c.requires.ids.right_merged
+
+pub visit_all-requires : goal.visit_all-requires
+visit_all-requires c = record { items = c.in_ok-items.ensures.items.are }
+
+pub loop-act-init : goal.loop-act-init
+loop-act-init c = record { kept = KeepsFunctions-itself c.args.self.now.diagrams; same = refl; limit = refl; stepped = steps_none c.args.actions c.args.self.now c.args.place c.args.steps.now }

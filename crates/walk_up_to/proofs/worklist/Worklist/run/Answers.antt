@@ -4,7 +4,7 @@ use borrow.Author.Count.{falls}
 use Rattle.term_nodes.proofs.Growing.{Grows-trans}
 use Rattle.walk_up_to.specs.Working.IdWalks.{IsPastLimit}
 use Rattle.certificate.specs.Decisions.{pair_limit}
-use Rattle.walk_up_to.proofs.PassedOn.{passed_on, passed_cost}
+use Rattle.walk_up_to.proofs.PassedOn.{passed_on, passed_cost, not_stopped}
 use Rattle.walk_up_to.proofs.UnderWay.{place_limit, all_taken}
 use Rattle.walk_up_to.proofs.worklist.Worklist.run.Goals as goal
 
@@ -50,3 +50,15 @@ returns-in_err-atom-clause-kept c = Grows-trans c.args.store.now c.loop-place.st
 pub returns-in_err-atom-clause-limited : goal.returns-in_err-atom-clause-limited
 returns-in_err-atom-clause-limited c = λ is.
     subst IsSome c.loop-place.invariant.limit (c.in_err-atom.ensures.limited (ap Err (passed_cost c.from_residual.result c.in_err-atom.field-0.0 c.from_residual.ensures.1 is)))
+
+pub returns-in-Some-clause-full : goal.returns-in-Some-clause-full
+returns-in-Some-clause-full c is = absurd (not_stopped _ _ is)
+
+pub returns-in-Some-clause-limited : goal.returns-in-Some-clause-limited
+returns-in-Some-clause-limited c is = absurd (not_stopped _ _ is)
+
+pub returns-clause-full : goal.returns-clause-full
+returns-clause-full c is = absurd (not_stopped _ _ is)
+
+pub returns-clause-limited : goal.returns-clause-limited
+returns-clause-limited c is = absurd (not_stopped _ _ is)

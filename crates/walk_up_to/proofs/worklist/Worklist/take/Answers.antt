@@ -3,7 +3,7 @@ use Rattle.std.specs.Prelude.{IsSome}
 use Rattle.walk_up_to.specs.declared.worklist.Worklist.{Worklist}
 use Rattle.walk_up_to.specs.Working.IdWalks.{IsPastLimit}
 use Rattle.kat_model.proofs.Places.{element_at}
-use Rattle.walk_up_to.proofs.PassedOn.{passed_on, passed_cost, no_room_full, no_room_cost}
+use Rattle.walk_up_to.proofs.PassedOn.{passed_on, passed_cost, no_room_full, no_room_cost, not_stopped}
 use Rattle.walk_up_to.proofs.UnderWay.{under_way_more, step_ids_more, steps_at_more, alike, apart, taken}
 use Rattle.walk_up_to.proofs.worklist.Worklist.take.Goals as goal
 
@@ -107,10 +107,10 @@ pub returns-in_err-atom-clause-kept : goal.returns-in_err-atom-clause-kept
 returns-in_err-atom-clause-kept c = c.in_ok-steps.ensures.kept
 
 pub returns-in-Some-clause-full : goal.returns-in-Some-clause-full
-returns-in-Some-clause-full c is q acts under_way = absurd cc
+returns-in-Some-clause-full c is q acts under_way = absurd (not_stopped _ _ is)
 
 pub returns-in-Some-clause-limited : goal.returns-in-Some-clause-limited
-returns-in-Some-clause-limited c is = absurd cc
+returns-in-Some-clause-limited c is = absurd (not_stopped _ _ is)
 
 pub returns-in-Some-clause-limit : goal.returns-in-Some-clause-limit
 returns-in-Some-clause-limit c = c.in_ok-steps.ensures.limit
@@ -125,10 +125,10 @@ pub returns-in_err-expand-clause-kept : goal.returns-in_err-expand-clause-kept
 returns-in_err-expand-clause-kept c = c.in_ok-steps.ensures.kept
 
 pub returns-clause-full : goal.returns-clause-full
-returns-clause-full c is q acts under_way = absurd cc
+returns-clause-full c is q acts under_way = absurd (not_stopped _ _ is)
 
 pub returns-clause-limited : goal.returns-clause-limited
-returns-clause-limited c is = absurd cc
+returns-clause-limited c is = absurd (not_stopped _ _ is)
 
 pub returns-clause-limit : goal.returns-clause-limit
 returns-clause-limit c = c.in_ok-expand.ensures.limit ∙ c.in_ok-steps.ensures.limit
