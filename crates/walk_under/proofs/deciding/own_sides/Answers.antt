@@ -1,4 +1,5 @@
 use Rattle.std.proofs.Common.{refl, ◌∙◌}
+use Rattle.std.proofs.lemmas.Option.{none-some}
 use Rattle.term_nodes.proofs.Growing.{Grows-trans}
 use Rattle.walk_under.proofs.deciding.own_sides.Goals as goal
 
@@ -12,7 +13,7 @@ returns-clause-ids c =
       left = grows.trees c.in_ok-left.left left.is_id ∙ left.tree ∙ c.left.ensures.value;
       right_id = right.is_id;
       right = right.tree ∙ c.right.ensures.value;
-      universal_id = λ u e. absurd cc;
+      universal_id = λ u e. absurd (none-some u e);
       universal = refl;
     }
 
@@ -21,3 +22,6 @@ returns-in_err-right-clause-kept c = Grows-trans _ _ _ c.in_ok-left.ensures.grow
 
 pub returns-clause-kept : goal.returns-clause-kept
 returns-clause-kept c = Grows-trans _ _ _ c.in_ok-left.ensures.grows c.in_ok-right.ensures.grows
+
+pub returns-in_err-left-clause-kept : goal.returns-in_err-left-clause-kept
+returns-in_err-left-clause-kept c = c.in_err-left.ensures.grows

@@ -23,3 +23,9 @@ returns-in_err-long-clause-kept c = Grows-itself c.args.store.now
 
 pub returns-in_err-closed-clause-kept : goal.returns-in_err-closed-clause-kept
 returns-in_err-closed-clause-kept c = Grows-itself c.args.store.now
+
+pub returns-then-not-any_long-clause-kept : goal.returns-then-not-any_long-clause-kept
+returns-then-not-any_long-clause-kept c = c.own_sides.ensures.kept
+
+pub returns-clause-kept : goal.returns-clause-kept
+returns-clause-kept c = c.closed_ids.ensures.kept
