@@ -77,7 +77,10 @@ fn command_reply<S: Shelf>(
         Command::OneLoop(file, prog) => {
             reply_to_file(alloc, &OneLoopCommand { prog }, file, shelf)
         }
-        Command::Bench(count) => Ok(bench_reply(alloc, count)?),
+        Command::Bench(count) => match bench_reply(alloc, count) {
+            Ok(reply) => Ok(reply),
+            Err(NoMemory) => Err(EarlyEnd::NoMemory),
+        },
         Command::Optimise { file, prog, turns } => {
             reply_to_file(alloc, &OptimiseCommand { prog, turns }, file, shelf)
         }

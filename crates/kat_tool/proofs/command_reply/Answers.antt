@@ -30,5 +30,5 @@ returns-in-Optimise-clause-replied g c = rw c.in-Optimise.is c.reply_to_file-in-
 pub returns-in-OutlineCheck-clause-replied : goal.returns-in-OutlineCheck-clause-replied
 returns-in-OutlineCheck-clause-replied g c = rw c.in-OutlineCheck.is c.reply_to_files-in-OutlineCheck.ensures.replied
 
-pub returns-in_ok-bench_reply-in-Bench-clause-replied : goal.returns-in_ok-bench_reply-in-Bench-clause-replied
-returns-in_ok-bench_reply-in-Bench-clause-replied g c = rw c.in-Bench.is c.in_ok-bench_reply-in-Bench.ensures
+pub returns-in-Ok-clause-replied : goal.returns-in-Ok-clause-replied
+returns-in-Ok-clause-replied g c = rw c.in-Bench.is c.in-Ok.ensures
