@@ -14,7 +14,7 @@ use Rattle.while_lang.specs.Files.{FileParts, triple, prog_side}
 use Rattle.while_lang.specs.Ranges.{IsExprInRange, IsCondInRange, IsProgInRange}
 use Rattle.abstraction.specs.Comparisons.{atomics, cond_comparisons, prog_comparisons, prog_assignments}
 use Rattle.abstraction.specs.Tables.{Tables, first_comparisons, file_assignments}
-use Rattle.abstraction.specs.Rounds.{rounds, tables_of}
+use Rattle.abstraction.specs.Rounds.{tables_of}
 use Rattle.abstraction.specs.Facts.{Hypothesis}
 use Rattle.abstraction.specs.Derived.{stated_from, hypotheses}
 use Rattle.abstraction.specs.Abstracts.{with_goal, file_problem}

@@ -3,7 +3,7 @@ use Rattle.std.proofs.Common.{◌≡◌, ◌<◌, ◌≤◌, ◌+◌, ℕ, ⊎_e
 use Rattle.std.proofs.lemmas.Bool.{cases_eq, cases_lt}
 use Rattle.kat_model.specs.Expressions.{ExprTree, CondTree, always, negation}
 use Rattle.while_lang.specs.Files.{FileParts}
-use Rattle.while_lang.specs.Programs.{ProgTree, empty, branch_then, loop_then, StmtTree, skip, abort, assert, act, assign, branch, loop, prog_of, stmts_of}
+use Rattle.while_lang.specs.Programs.{ProgTree, empty, branch_then, loop_then, with_stmt, StmtTree, skip, abort, assert, act, assign, branch, loop, prog_of, stmts_of}
 use Rattle.while_lang.specs.ProgramViews.{stmt_tree}
 use Rattle.while_lang.specs.declared.prog.Stmt.{Stmt}
 use Rattle.while_lang.proofs.ProgramLists.{stmts_of-prog_of}
@@ -151,6 +151,13 @@ module _ (f : FileParts) (s : StmtTree) where
       pub none_before_while : (IsValid f always (single s) (negation c) → ⊥) → NoStepFrom f (s ∷ loop c p ∷ rest) 9 11
       none_before_while possible = none_more f (s ∷ loop c p ∷ rest) 9 10 none_below_left_loop (λ ts x. possible x.0)
 
+-- a list that begins with a statement, by what this statement is
+pub begins_with : (all later : List StmtTree) (next plain : Stmt) → all ≡ stmt_tree next ∷ later → next ≡ plain → all ≡ stmt_tree plain ∷ later
+begins_with all later next plain split is = split ∙ ap (λ (x : Stmt). stmt_tree x ∷ later) is
+
+pub none_before_next : (f : FileParts) (s : StmtTree) (all later : List StmtTree) (next plain : Stmt) → all ≡ stmt_tree next ∷ later → next ≡ plain → NoStepFrom f (s ∷ stmt_tree plain ∷ later) 9 11 → NoStepFrom f (s ∷ all) 9 11
+none_before_next f s all later next plain split is none = subst (λ (l : List StmtTree). NoStepFrom f (s ∷ l) 9 11) (sym (begins_with all later next plain split is)) none
+
 -- ---- loops
 
 -- the statement is not a loop
@@ -166,6 +173,10 @@ abbrev pub IsNested : ProgTree → Type 0
 IsNested (branch_then c p q empty) = Unit {0}
 IsNested (loop_then c p empty) = Unit {0}
 IsNested p = ⊥
+
+-- a program that is one statement without a block is not nested
+pub unnested_at : (s t : Stmt) (p : ProgTree) → with_stmt (stmt_tree s) empty ≡ p → s ≡ t → (IsNested (with_stmt (stmt_tree t) empty) → ⊥) → IsNested p → ⊥
+unnested_at s t p whole is plain nested = plain (subst (λ (x : Stmt). IsNested (with_stmt (stmt_tree x) empty)) is (subst IsNested (sym whole) nested))
 
 module _ (f : FileParts) (rest : List StmtTree) where
   not_unswitched : (s : StmtTree) (ts : List StmtTree) → IsNoLoop s → Step f 11 (s ∷ rest) ts → ⊥

@@ -5,7 +5,6 @@ use Rattle.kat_model.specs.Expressions.{CondTree}
 use Rattle.while_lang.specs.Programs.{ProgTree, StmtTree, branch, prog_of, stmts_of}
 use Rattle.while_lang.specs.ProgramViews.{stmt_tree, list_tree}
 use Rattle.while_lang.specs.declared.prog.Stmt.{Stmt}
-use Rattle.while_lang.proofs.ProgramLists.{listed_stmts}
 use Rattle.optimiser_steps.proofs.OneFirstStep.{last_same}
 use Rattle.while_lang.proofs.BlockMeasures.{prog_of-stmts_of}
 use Rattle.optimiser_steps.specs.Working.Found.{EndAlike}
@@ -33,11 +32,11 @@ module _ (xs ys front other_front : List Stmt) (last other : Stmt) (p q : ProgTr
       differ (one.1 ∙ sym two.1)
 
   -- programs with the same last statement share it
-  pub end_alike : stmt_tree last ≡ stmt_tree other → (copies other_copies : List Stmt) (copy : Stmt) → map stmt_tree copies ≡ map stmt_tree front → map stmt_tree other_copies ≡ map stmt_tree other_front →
-      stmt_tree copy ≡ stmt_tree last → EndAlike p q (stmts_of (list_tree copies)) (stmts_of (list_tree other_copies)) (stmt_tree copy)
+  pub end_alike : stmt_tree last ≡ stmt_tree other → (copies other_copies : ProgTree) (copy : StmtTree) → stmts_of copies ≡ map stmt_tree front → stmts_of other_copies ≡ map stmt_tree other_front →
+      copy ≡ stmt_tree last → EndAlike p q (stmts_of copies) (stmts_of other_copies) copy
   end_alike same copies other_copies copy copied others kept = (
-    ends_with xs front last p first xs_is ∙ rw (listed_stmts copies, copied, kept) refl,
-    ends_with ys other_front other q second ys_is ∙ rw (listed_stmts other_copies, others, kept, same) refl,
+    ends_with xs front last p first xs_is ∙ rw (copied, kept) refl,
+    ends_with ys other_front other q second ys_is ∙ rw (others, kept, same) refl,
   )
 
 -- the shared statement follows the `if` of the remaining blocks

@@ -1,5 +1,5 @@
 -- In a file without tests, actions, terms and stated hypotheses, steps preserve the stores in which a program ends.
-use Rattle.std.proofs.Common.{◌≡◌, ℕ, zero, suc, ◌+◌, ◌⊎◌, inl, inr, ⊎_elim, ◌↔◌, List, [], ◌∷◌, refl, sym, ap, ◌∙◌, subst, true, false, set}
+use Rattle.std.proofs.Common.{◌≡◌, ℕ, zero, suc, ◌+◌, inl, inr, ⊎_elim, ◌↔◌, List, [], ◌∷◌, refl, sym, ap, ◌∙◌, subst, true, false, set}
 use Rattle.std.proofs.lemmas.List.{length-set}
 use Rattle.kat_model.specs.Expressions.{ExprTree, CondTree}
 use Rattle.kat_model.specs.Stores.{Store, value, holds}

@@ -1,5 +1,5 @@
 -- The term of a program relates exactly the states of a frame between which the program leads.
-use Rattle.std.proofs.Common.{◌≡◌, ◌⊎◌, inl, inr, ⊎_elim, ◌↔◌, refl, sym, subst, true, false}
+use Rattle.std.proofs.Common.{◌≡◌, inl, inr, ⊎_elim, ◌↔◌, refl, sym, subst, true, false}
 use Rattle.std.proofs.lemmas.Bool.{not-true, not_from_false}
 use Rattle.kat_model.specs.Trees.{TestTree, complement, Term, test, product}
 use Rattle.kat_model.specs.Steps.{truth}

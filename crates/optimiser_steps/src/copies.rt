@@ -1,7 +1,7 @@
 //! Copies of statements, and equality of statements and conditions.
 ghost use Rattle.std.specs.Prelude.{◌≡◌, ◌↔◌, ◌∷◌, ◌++◌, IsTrue, IfOk, OnOk, map};
 ghost use Rattle.kat_model.specs.Expressions.{cond_tree};
-ghost use Rattle.while_lang.specs.Programs.{branch};
+ghost use Rattle.while_lang.specs.Programs.{assert, branch, stmts_of};
 ghost use Rattle.while_lang.specs.ProgramViews.{stmt_tree};
 ghost use Rattle.optimiser_steps.specs.Statements.{single};
 
@@ -30,6 +30,15 @@ pub(crate) fn copies_of(alloc: Global, stmts: &[Stmt]) -> Result<Vec<Stmt>, NoMe
     let mut list = Vec::new(alloc);
     push_copies(alloc, &mut list, stmts)?;
     Ok(list)
+}
+
+/// Returns the program that consists of copies of the statements.
+pub(crate) fn prog_of(alloc: Global, stmts: &[Stmt]) -> Result<Prog, NoMemory>
+    ensures { IfOk result (λ p. stmts_of p ≡ map stmt_tree stmts.now) }
+{
+    Ok(Prog {
+        list: copies_of(alloc, stmts)?,
+    })
 }
 
 /// Returns `stmt`, followed by copies of `rest`.
@@ -101,11 +110,18 @@ pub(crate) fn is_same_stmt(alloc: Global, left: &Stmt, right: &Stmt) -> Result<b
     Ok(first.same(&second))
 }
 
+// Returns the program that asserts a copy of the condition.
+fn assertion_of(alloc: Global, cond: &Cond) -> Result<Prog, NoMemory>
+    ensures { IfOk result (λ p. p ≡ single (assert (cond_tree cond.now))) }
+{
+    single(alloc, Stmt::Assert(cond.copy(alloc)?))
+}
+
 /// Whether the two conditions are the same tree.
 pub(crate) fn is_same_cond(alloc: Global, left: &Cond, right: &Cond) -> Result<bool, NoMemory>
     ensures { IfOk result (λ same. IsTrue same ↔ (cond_tree left.now ≡ cond_tree right.now)) }
 {
-    let first = single(alloc, Stmt::Assert(left.copy(alloc)?))?;
-    let second = single(alloc, Stmt::Assert(right.copy(alloc)?))?;
+    let first = assertion_of(alloc, left)?;
+    let second = assertion_of(alloc, right)?;
     Ok(first.same(&second))
 }

@@ -4,12 +4,14 @@ ghost use Rattle.kat_model.specs.Expressions.{cond_tree};
 ghost use Rattle.kat_model.specs.Problems.{AreInRange};
 ghost use Rattle.while_lang.specs.Files.{FileParts};
 ghost use Rattle.while_lang.specs.Ranges.{IsCondInRange};
-ghost use Rattle.while_lang.specs.Programs.{abort, assert, branch, loop};
+ghost use Rattle.while_lang.specs.Programs.{abort, assert, branch, loop, stmts_of};
 ghost use Rattle.while_lang.specs.ProgramViews.{stmt_tree};
 ghost use Rattle.optimiser_steps.specs.Statements.{IsStmtInRange};
 ghost use Rattle.optimiser_steps.specs.Working.Found.{FindsLeast, FindsSharedEnd};
 
-use crate::copies::{branch_of, copies_of, is_same_stmt, joined_list, list_of, list_of_two};
+use crate::copies::{
+    branch_of, copies_of, is_same_stmt, joined_list, list_of, list_of_two, prog_of,
+};
 use crate::rewriting::Made;
 use crate::validity::{holds_always, holds_never};
 use kat_model::{Cond, NoMemory};
@@ -55,6 +57,27 @@ struct SharedEnd {
     last: Stmt,
 }
 
+// Returns copies of a statement and of what precedes it in each block.
+fn copied_end(
+    alloc: Global,
+    front: &[Stmt],
+    other_front: &[Stmt],
+    last: &Stmt,
+) -> Result<SharedEnd, NoMemory>
+    ensures first { IfOk result (λ e. stmts_of e.first ≡ map stmt_tree front.now) }
+    ensures second { IfOk result (λ e. stmts_of e.second ≡ map stmt_tree other_front.now) }
+    ensures last { IfOk result (λ e. stmt_tree e.last ≡ stmt_tree last.now) }
+{
+    let first = prog_of(alloc, front)?;
+    let second = prog_of(alloc, other_front)?;
+    let last = copy_stmt(alloc, last)?;
+    Ok(SharedEnd {
+        first,
+        second,
+        last,
+    })
+}
+
 fn shared_end(alloc: Global, first: &Prog, second: &Prog) -> Result<Option<SharedEnd>, NoMemory>
     ensures { IfOk result (FindsSharedEnd first.now second.now) }
 {
@@ -67,18 +90,7 @@ fn shared_end(alloc: Global, first: &Prog, second: &Prog) -> Result<Option<Share
     if !is_same_stmt(alloc, last, other)? {
         return Ok(None);
     }
-    let first = Prog {
-        list: copies_of(alloc, front)?,
-    };
-    let second = Prog {
-        list: copies_of(alloc, other_front)?,
-    };
-    let last = copy_stmt(alloc, last)?;
-    Ok(Some(SharedEnd {
-        first,
-        second,
-        last,
-    }))
+    Ok(Some(copied_end(alloc, front, other_front, last)?))
 }
 
 // Tries S8 at an `if`.

@@ -13,4 +13,4 @@ pub returns : goal.returns
 returns c =
     end_alike c.first.inside.list.items c.second.inside.list.items c.in-Some.front.now c.in-Some-split_last.other_front.now c.in-Some.last.now c.in-Some-split_last.other.now c.args.first.now c.args.second.now
     c.first.view_is c.second.view_is (sym c.deref.ensures.value ∙ c.in-Some.ensures.cases.0) (sym c.deref-2.ensures.value ∙ c.in-Some-split_last.ensures.cases.0)
-    (c.in_ok-is_same_stmt.ensures.0 c.if-not-branch.false) c.in_ok-copies_of.field-0.items c.in_ok-copies_of-2.field-0.items c.in_ok-last.last c.in_ok-copies_of.ensures c.in_ok-copies_of-2.ensures c.in_ok-last.ensures
+    (c.in_ok-is_same_stmt.ensures.0 c.if-not-branch.false) _ _ _ c.in_ok-copied_end.ensures.first c.in_ok-copied_end.ensures.second c.in_ok-copied_end.ensures.last
