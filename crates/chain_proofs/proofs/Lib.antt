@@ -1,5 +1,6 @@
 pub mod PathSteps
 pub mod ChainSteps
+pub mod ChainParts
 pub mod ChainSoundness
 pub mod ChainCompleteness
 pub mod ScannedChains

@@ -21,7 +21,6 @@ struct RuleReason<R, P> {
 }
 
 // Returns the number after the name of a rule, or 0 without one, and the index after it.
-#[tactic(auto, using(text_parser::proofs::TokenPlaces::next_drop))]
 fn argument(toks: &[Token], from: usize, name: &str) -> Result<(u64, usize), TextFault>
     ensures value { Reads ⊥ (λ n. n) (lexemes toks.now) result (argument name.now (drop from (lexemes toks.now))) }
     ensures goes { IfOk result (λ x. from ≤ x.1) }
@@ -35,7 +34,6 @@ fn argument(toks: &[Token], from: usize, name: &str) -> Result<(u64, usize), Tex
 }
 
 // Reads the parts that continue a path, and returns the path and the index after it.
-#[tactic(auto, using(crate::proofs::PathSteps::parts_step, text_parser::proofs::TokenPlaces::next_drop, crate::proofs::PathSteps::second_drop))]
 fn parts<R: ChainReading>(
     reading: &R,
     toks: &[Token],
@@ -57,7 +55,6 @@ fn parts<R: ChainReading>(
 }
 
 // Reads the path of a line and the index after it. Without a path, the place is the whole term.
-#[tactic(auto, using(text_parser::proofs::TokenPlaces::next_drop, crate::proofs::PathSteps::second_drop))]
 fn path<R: ChainReading>(
     reading: &R,
     toks: &[Token],
@@ -77,7 +74,6 @@ fn path<R: ChainReading>(
 }
 
 // Reads the rule at an index. Returns the rule, its path, whether it requires an inner chain, and the index after it.
-#[tactic(auto, using(text_parser::proofs::TokenPlaces::next_drop))]
 fn rule_and_place<R: ChainReading>(
     reading: &R,
     toks: &[Token],
@@ -100,7 +96,6 @@ fn rule_and_place<R: ChainReading>(
 // `TooDeep` at the token that exceeds `MAX_OPEN` open constructs, `NumberTooWide` at a number of 2^64 or more, or the
 // fault with which the reading refuses a part.
 #[cycle(chains)]
-#[tactic(auto, using(crate::proofs::ChainSteps::chain_step, text_parser::proofs::TokenPlaces::next_drop))]
 pub(crate) fn read_chain<R: ChainReading>(
     reading: &R,
     toks: &[Token],
@@ -126,7 +121,6 @@ pub(crate) fn read_chain<R: ChainReading>(
 
 // Reads one line that continues a chain, starting after its `=`.
 #[cycle(chains)]
-#[tactic(auto, using(text_parser::proofs::TokenPlaces::next_drop))]
 fn line<R: ChainReading>(
     reading: &R,
     toks: &[Token],
@@ -148,7 +142,6 @@ fn line<R: ChainReading>(
 
 // Reads the inner chain of a line, if the rule requires one.
 #[cycle(chains)]
-#[tactic(auto, using(text_parser::proofs::TokenPlaces::next_drop))]
 fn inner_chain<R: ChainReading>(
     reading: &R,
     toks: &[Token],
@@ -170,7 +163,6 @@ fn inner_chain<R: ChainReading>(
 
 // Reads a chain in braces.
 #[cycle(chains)]
-#[tactic(auto, using(text_parser::proofs::TokenPlaces::next_drop))]
 fn braces<R: ChainReading>(
     reading: &R,
     toks: &[Token],
