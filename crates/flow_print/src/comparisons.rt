@@ -3,7 +3,7 @@ ghost use Rattle.std.specs.Prelude.{◌≡◌, ◌++◌, true, OnOk};
 ghost use Rattle.flow_forms.specs.Forms.{form_tree};
 ghost use Rattle.flow_forms.specs.Comparisons.{comparison_tree};
 ghost use Rattle.flow_print.specs.NameTables.{names_of};
-ghost use Rattle.flow_print.specs.FormTexts.{side_end, is_on_side as is_written_on, side_text, comparison_text};
+ghost use Rattle.flow_print.specs.FormTexts.{form_text, side_end, is_on_side as is_written_on, side_text, comparison_text};
 
 use crate::forms::{put_form, put_plus, put_times};
 use crate::names::FlowNames;
@@ -60,6 +60,23 @@ fn put_side(
     }
 }
 
+// Appends two forms of a width with this sign between them.
+fn put_sides(
+    alloc: Global,
+    out: &mut Vec<u8>,
+    names: &FlowNames,
+    width: Width,
+    left: &FlowForm,
+    sign: &[u8],
+    right: &FlowForm,
+) -> Result<(), NoMemory>
+    ensures { OnOk result (out.new.items ≡ out.old.items ++ (form_text (names_of names.now.variables.now names.now.sorts.now names.now.functions.now) width (form_tree left.now) ++ sign.now ++ form_text (names_of names.now.variables.now names.now.sorts.now names.now.functions.now) width (form_tree right.now))) }
+{
+    put_form(alloc, out, names, width, true, left)?;
+    put(out, sign)?;
+    put_form(alloc, out, names, width, true, right)
+}
+
 /// Appends a comparison.
 pub(crate) fn put_comparison(
     alloc: Global,
@@ -76,14 +93,10 @@ pub(crate) fn put_comparison(
             put_side(alloc, out, names, *width, true, true, form)
         }
         FlowComparison::Less(width, left, right) => {
-            put_form(alloc, out, names, *width, true, left)?;
-            put(out, b" < ")?;
-            put_form(alloc, out, names, *width, true, right)
+            put_sides(alloc, out, names, *width, left, b" < ", right)
         }
         FlowComparison::Same(left, right) => {
-            put_form(alloc, out, names, Width::W64, true, left)?;
-            put(out, b" == ")?;
-            put_form(alloc, out, names, Width::W64, true, right)
+            put_sides(alloc, out, names, Width::W64, left, b" == ", right)
         }
     }
 }

@@ -1,8 +1,8 @@
 //! Forms, as text.
-ghost use Rattle.std.specs.Prelude.{◌≡◌, ◌++◌, true, OnOk};
+ghost use Rattle.std.specs.Prelude.{◌≡◌, ◌++◌, true, codes, OnOk};
 ghost use Rattle.flow_forms.specs.Forms.{form_tree};
 ghost use Rattle.flow_print.specs.NameTables.{names_of};
-ghost use Rattle.flow_print.specs.FormTexts.{star_text, plus_text, minus_text, sign_text, times_text, constant_text, one_text, width_text, conversion_text, is_long as has_too_many, arguments_text, part_text};
+ghost use Rattle.flow_print.specs.FormTexts.{star_text, plus_text, minus_text, sign_text, times_text, magnitude as magnitude_of, constant_text, one_text, width_text, conversion_text, is_long as has_too_many, arguments_text, part_text};
 
 use crate::limits::MAX_SHOWN_NODES;
 use crate::names::{FlowNames, put_function, put_variable, sort_width};
@@ -63,6 +63,20 @@ pub(crate) fn put_times(alloc: Global, out: &mut Vec<u8>, times: u64) -> Result<
     put(out, b"*")
 }
 
+// Appends the sign and the coefficient of a term of a sum.
+fn put_coefficient(
+    alloc: Global,
+    out: &mut Vec<u8>,
+    width: Width,
+    first: bool,
+    number: u64,
+) -> Result<(), NoMemory>
+    ensures { OnOk result (out.new.items ≡ out.old.items ++ (sign_text width first number ++ times_text (magnitude_of width number))) }
+{
+    put_sign(out, width, first, number)?;
+    put_times(alloc, out, magnitude(width, number))
+}
+
 // Appends the constant of a sum.
 fn put_constant(
     alloc: Global,
@@ -104,16 +118,17 @@ fn put_width(out: &mut Vec<u8>, width: Width) -> Result<(), NoMemory>
     }
 }
 
-// Appends the word of a conversion.
+// Appends the word of a conversion and an opening parenthesis.
 fn put_conversion(out: &mut Vec<u8>, signed: bool, to: Width) -> Result<(), NoMemory>
-    ensures { OnOk result (out.new.items ≡ out.old.items ++ conversion_text signed to) }
+    ensures { OnOk result (out.new.items ≡ out.old.items ++ (conversion_text signed to ++ codes "(")) }
 {
     if signed {
         put(out, b"s")?;
     } else {
         put(out, b"u")?;
     }
-    put_width(out, to)
+    put_width(out, to)?;
+    put(out, b"(")
 }
 
 // Returns whether an application with these arguments is written without them.
@@ -155,8 +170,7 @@ pub(crate) fn put_form(
     match form {
         FlowForm::Constant(number) => put_constant(alloc, out, width, first, *number),
         FlowForm::Term(times, product, rest) => {
-            put_sign(out, width, first, *times)?;
-            put_times(alloc, out, magnitude(width, *times))?;
+            put_coefficient(alloc, out, width, first, *times)?;
             put_form(alloc, out, names, width, true, product)?;
             put_form(alloc, out, names, width, false, rest)
         }
@@ -173,7 +187,6 @@ pub(crate) fn put_form(
         }
         FlowForm::Converted(signed, from, to, operand) => {
             put_conversion(out, *signed, *to)?;
-            put(out, b"(")?;
             put_form(alloc, out, names, *from, true, operand)?;
             put(out, b")")
         }

@@ -6,24 +6,34 @@ ghost use Rattle.problem_file.specs.Working.Scopes.{IsPlain};
 ghost use Rattle.flow_questions.specs.HypothesisViews.{flow_rule};
 ghost use Rattle.flow_print.specs.ReasonTexts.{two_tests, three_tests, reason_text, is_same_reason, is_new as is_new_reason, reason_before, comments_before, comments_from};
 
-use crate::writing::{put, put_numbered};
+use crate::writing::{put, put_numbered, put_word};
 use flow_questions::FlowRule;
 use kat_model::{NoMemory, Problem};
 use problem_file::put_hyp;
 use std::alloc::Global;
 use text_parser::Scope;
 
-fn put_two(alloc: Global, out: &mut Vec<u8>, i: usize, j: usize) -> Result<(), NoMemory>
-    ensures { OnOk result (out.new.items ≡ out.old.items ++ two_tests i j) }
+// Appends the name of a fact over two tests, and the tests.
+fn put_two(alloc: Global, out: &mut Vec<u8>, name: &str, i: usize, j: usize) -> Result<(), NoMemory>
+    ensures { OnOk result (out.new.items ≡ out.old.items ++ (name.now ++ two_tests i j)) }
 {
+    put_word(out, name)?;
     put_numbered(alloc, out, " t", i)?;
     put_numbered(alloc, out, " t", j)
 }
 
-fn put_three(alloc: Global, out: &mut Vec<u8>, i: usize, j: usize, k: usize) -> Result<(), NoMemory>
-    ensures { OnOk result (out.new.items ≡ out.old.items ++ three_tests i j k) }
+// Appends the name of a fact over three tests, and the tests.
+fn put_three(
+    alloc: Global,
+    out: &mut Vec<u8>,
+    name: &str,
+    i: usize,
+    j: usize,
+    k: usize,
+) -> Result<(), NoMemory>
+    ensures { OnOk result (out.new.items ≡ out.old.items ++ (name.now ++ three_tests i j k)) }
 {
-    put_two(alloc, out, i, j)?;
+    put_two(alloc, out, name, i, j)?;
     put_numbered(alloc, out, " t", k)
 }
 
@@ -36,30 +46,12 @@ fn put_reason(alloc: Global, out: &mut Vec<u8>, rule: &FlowRule) -> Result<(), N
             put_numbered(alloc, out, "assign a", *action)?;
             put_numbered(alloc, out, " t", *test)
         }
-        FlowRule::Order(i, j) => {
-            put(out, b"F2")?;
-            put_two(alloc, out, *i, *j)
-        }
-        FlowRule::Equality(i, j) => {
-            put(out, b"F3")?;
-            put_two(alloc, out, *i, *j)
-        }
-        FlowRule::ThreeWays(i, j, k) => {
-            put(out, b"F6")?;
-            put_three(alloc, out, *i, *j, *k)
-        }
-        FlowRule::TwoIntervals(i, j) => {
-            put(out, b"F9")?;
-            put_two(alloc, out, *i, *j)
-        }
-        FlowRule::ThreeIntervals(i, j, k) => {
-            put(out, b"F9")?;
-            put_three(alloc, out, *i, *j, *k)
-        }
-        FlowRule::NextNumber(i, j, k) => {
-            put(out, b"F10")?;
-            put_three(alloc, out, *i, *j, *k)
-        }
+        FlowRule::Order(i, j) => put_two(alloc, out, "F2", *i, *j),
+        FlowRule::Equality(i, j) => put_two(alloc, out, "F3", *i, *j),
+        FlowRule::ThreeWays(i, j, k) => put_three(alloc, out, "F6", *i, *j, *k),
+        FlowRule::TwoIntervals(i, j) => put_two(alloc, out, "F9", *i, *j),
+        FlowRule::ThreeIntervals(i, j, k) => put_three(alloc, out, "F9", *i, *j, *k),
+        FlowRule::NextNumber(i, j, k) => put_three(alloc, out, "F10", *i, *j, *k),
     }
 }
 
