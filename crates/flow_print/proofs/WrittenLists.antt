@@ -1,7 +1,7 @@
 -- Loops that write the members of a list: the text so far, with the text of another member.
-use Rattle.std.proofs.Common.{◌≡◌, ◌<◌, ◌+◌, ℕ, List, ◌∷◌, ◌++◌, length, map, drop, get_or, Bool, false, Option, sym, ap, ◌∙◌, append_assoc}
+use Rattle.std.proofs.Common.{◌≡◌, ◌<◌, ◌≤◌, ◌+◌, ℕ, List, [], ◌∷◌, ◌++◌, length, map, drop, get_or, Bool, false, Option, sym, ap, ◌∙◌, append_assoc}
 use Rattle.std.specs.List.{enumerate_from}
-use Rattle.std.proofs.lemmas.List.{drop_more}
+use Rattle.std.proofs.lemmas.List.{append-nil, drop_more, drop_all}
 use Rattle.kat_model.specs.declared.expression.Width.{Width}
 use Rattle.flow_forms.specs.declared.form.FlowForm.{FlowForm}
 use Rattle.flow_forms.specs.Forms.{FlowFormTree, form_tree}
@@ -16,6 +16,11 @@ use Rattle.flow_print.specs.ActionTexts.{stays_first, results_text}
 part_written : (out now part all rest whole : List ℕ) → now ≡ out ++ part → all ≡ part ++ rest → out ++ all ≡ whole → now ++ rest ≡ whole
 part_written out now part all rest whole added parts invariant =
     ap (λ (l : List ℕ). l ++ rest) added ∙ append_assoc out part rest ∙ sym (ap (λ (l : List ℕ). out ++ l) parts) ∙ invariant
+
+-- no member is left
+pub all_written : {A X : Type 0} (view : A → X) (text : List X → List ℕ) → text [] ≡ [] → (xs : List A) (i : ℕ) (out whole : List ℕ) → length xs ≤ i → out ++ text (map view (drop i xs)) ≡ whole → out ≡ whole
+all_written view text none xs i out whole past invariant =
+    sym (append-nil out) ∙ ap (λ (l : List ℕ). out ++ l) (sym none) ∙ ap (λ ys. out ++ text (map view ys)) (sym (drop_all i xs past)) ∙ invariant
 
 -- what is set, for a text of one variable and of those from a number on
 pub set_written : (one : ℕ → Bool → Option FlowFormTree → List ℕ) (text : ℕ → Bool → List (Option FlowFormTree) → List ℕ)

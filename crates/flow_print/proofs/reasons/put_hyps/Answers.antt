@@ -1,6 +1,7 @@
-use Rattle.std.proofs.Common.{◌+◌, ◌++◌, map, drop}
+use Rattle.std.proofs.Common.{◌+◌, ◌++◌, map, drop, refl}
 use Rattle.kat_model.specs.Trees.{kat_tree}
 use Rattle.flow_questions.specs.HypothesisViews.{flow_rule}
+use Rattle.flow_print.proofs.WrittenLists.{all_written}
 use Rattle.flow_print.proofs.WrittenTexts.{hyps_text, hyps_left, hyp_written}
 use Rattle.flow_print.proofs.reasons.put_hyps.Goals as goal
 
@@ -15,3 +16,7 @@ loop-number-preserved c =
     (hyps_left hyps c.loop-number.number c.index-hyps-number.result c.loop-number-test.true c.index-hyps-number.is)
     c.loop-number.invariant.in_range c.in_ok-put_comment.ensures c.in_ok-put_hyp.ensures c.loop-number.invariant.text in
     record { text = more.0; in_range = more.1 }
+
+pub returns : goal.returns
+returns c =
+    all_written kat_tree (hyps_text (map flow_rule c.args.rules.now) c.loop-number.number) refl c.hyps-hyps.result.now c.loop-number.number c.loop-number.out.items _ c.loop-number-test.false c.loop-number.invariant.text
