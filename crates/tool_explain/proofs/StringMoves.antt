@@ -1,4 +1,4 @@
--- The next move of a string, as it is read from the list of its moves.
+-- The next move of a string, read from the list of its moves.
 use Rattle.std.proofs.Common.{◌≡◌, ℕ, List, length, slice_get, Option, Some, None, true, false, nat_eq, refl, sym, ap, ◌∙◌, inl, inr}
 use Rattle.std.specs.Option.{option_map}
 use Rattle.std.specs.List.{ItemBy}

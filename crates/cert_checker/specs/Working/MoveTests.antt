@@ -13,6 +13,6 @@ undecided_in (Undecided k) = Some k
 abbrev pub tied_by : Truth → Truth → Option ℕ
 tied_by x y = if truly x then undecided_in y else (if truly y then undecided_in x else None)
 
--- a test that it depends on, if neither is known to be true
+-- a test on which it depends whether both are true, if neither is known to be true
 abbrev pub loose_by : Truth → Truth → Option ℕ
 loose_by x y = if truly x || truly y then None else undecided_in (known_and x y)
