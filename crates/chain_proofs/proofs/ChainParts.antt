@@ -28,7 +28,7 @@ pub word_named : (w : List ℕ) (ts : List Lexeme) → IsNamed (wants_word w ts)
 word_named w ts = if_named (is_word w ts) (Ok (drop 1 ts)) (Err (Syntax (place_of ts))) (λ e. tt) (λ e. tt)
 
 module _ {V W : Type 0} (memory : Type 0) (means : V → W) (ts : List Lexeme) (whole : Parsed W) (e : TextFault) (r : Result (V × ℕ) TextFault) (same : IsErrAnd r (λ y. y ≡ e)) where
-  -- an action fails; `other` holds if that is for want of memory
+  -- an action fails; `other` holds if it is out of memory
   pub action_fails : {A B : Type 0} (other : Type 0) → (other → memory) → (of : A → B) (m : Result B TextFault) → Makes other of (Err e) m → (m ≡ Err e → whole ≡ Err e) → Reads memory means ts r whole
   action_fails other so of m h k = subst (λ y. Reads memory means ts y whole) (sym (returned r e same)) (ends e h k)
     where

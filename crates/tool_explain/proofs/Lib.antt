@@ -13,4 +13,5 @@ pub mod MarkedLists
 pub mod UsedTexts
 pub mod WrittenStates
 pub mod StringMoves
+pub mod KnownRows
 pub mod PlaceLines
