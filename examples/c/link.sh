@@ -1,4 +1,4 @@
-# Read by examples/c/run and examples/python/run, in the folder of the repository: finds the library's archive and a way to
+# Sourced by examples/c/run and examples/python/run, in the folder of the repository: finds the archive of the library and a way to
 # compile and link. They have a folder $room of their own.
 #   archive    the archive that was named, or crates/kat_c/out/libkat.a, or that of the release
 #   link_with  compiles and links a program in C: link_with OUTPUT SOURCE..

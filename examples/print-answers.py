@@ -1,7 +1,7 @@
 #!/usr/bin/env python3
 """Reads reports of `kat decide FILE --json`: prints the answer and the size of the evidence for each file.
 
-    examples/report.py FILE..
+    examples/print-answers.py FILE..
 """
 
 import json
