@@ -1,12 +1,3 @@
-pub mod Bars
-pub mod Allowance
-pub mod Working
-pub mod Entries
-pub mod Filing
-pub mod Reaching
-pub mod Listings
-pub mod Parts
-pub mod Merging
 pub mod Items
 pub mod Outputs
 pub mod Covered

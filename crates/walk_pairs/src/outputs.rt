@@ -9,7 +9,7 @@ use std::alloc::Global;
 use test_diagrams::{DiagramId, Diagrams};
 
 /// Returns the diagram that is true where `a` is true and `b` is false. On failure, extra diagrams may remain.
-pub(crate) fn and_not(
+pub fn and_not(
     diagrams: &mut Diagrams,
     a: DiagramId,
     b: DiagramId,
@@ -64,7 +64,7 @@ fn value_for(
 
 /// Returns an atom at which the diagram is true. The diagram must be true somewhere. From the first test on, each has
 /// its value in `like` where possible, and otherwise is false where possible; no clause depends on this.
-pub(crate) fn true_atom(
+pub fn true_atom(
     alloc: Global,
     diagrams: &mut Diagrams,
     id: DiagramId,

@@ -20,14 +20,14 @@ use Rattle.term_nodes.specs.NodeLists.{NodeParts}
 use Rattle.term_nodes.specs.NumberSets.{terms_of}
 use Rattle.test_diagrams.specs.Functions.{IsDiagramId, IsAtomOf}
 use Rattle.walk_under.specs.TestedWalks.{TestedOrigin, TestedEntry, IsListedAt, ComesFrom}
-use Rattle.walk_pairs.specs.Entries.{EntryParts}
-use Rattle.walk_pairs.specs.Allowance.{IsWithin, IsAllowedSource, HasAllowedSource}
-use Rattle.walk_pairs.specs.Listings.{IsLevelAtom, IsPlaceWith}
+use Rattle.walk_regions.specs.Entries.{EntryParts}
+use Rattle.walk_regions.specs.Allowance.{IsWithin, IsAllowedSource, HasAllowedSource}
+use Rattle.walk_regions.specs.Listings.{IsLevelAtom, IsPlaceWith}
 use Rattle.walk_under.specs.Working.IdEntries.{origin_of, entry_of, entries_of}
 use Rattle.walk_under.specs.Working.Walking.{WalkContext, walk_context, IsUnderWay, IsDifference}
-use Rattle.walk_pairs.specs.declared.entry.StepOrigin.{StepOrigin}
+use Rattle.walk_regions.specs.declared.entry.StepOrigin.{StepOrigin}
 use Rattle.walk_under.specs.declared.walk.TestedWorklist.{TestedWorklist}
-use Rattle.walk_pairs.proofs.AllowedImages.{atom_allowed}
+use Rattle.walk_regions.proofs.AllowedImages.{atom_allowed}
 use Rattle.walk_under.proofs.JoinedAt.{entry_at}
 use Rattle.walk_under.proofs.Standing.{level_atom}
 use Rattle.walk_under.proofs.Shortest.{IsSuffix, origin_at, suffix_step, suffix_start, suffix_end}

@@ -20,8 +20,8 @@ use Rattle.test_diagrams.specs.Functions.{DiagramsParts, value_of}
 use Rattle.walk_pairs.specs.Covered.{HasUniversal, IsReached, IsBetween}
 use Rattle.walk_pairs.proofs.Covered.{covered_congruent, congruent_same, listed_congruent}
 use Rattle.walk_under.specs.TestedWalks.{TestedEntry, AreJoined}
-use Rattle.walk_pairs.specs.Entries.{EntryParts}
-use Rattle.walk_pairs.specs.Reaching.{AllHold, IsClosedUnder, BringsAt}
+use Rattle.walk_regions.specs.Entries.{EntryParts}
+use Rattle.walk_regions.specs.Reaching.{AllHold, IsClosedUnder, BringsAt}
 use Rattle.walk_under.specs.Working.IdEntries.{pair_of, entry_of, entries_of}
 
 -- the pairs of the entries that were reached at the atom

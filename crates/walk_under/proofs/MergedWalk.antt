@@ -23,16 +23,16 @@ use Rattle.walk_pairs.specs.IdSets.{IsIdSet}
 use Rattle.walk_pairs.proofs.PlaceNumbers.{mapped_at, at_mapped}
 use Rattle.walk_under.specs.TestedWalks.{TestedEntry, closed_sides, IsListedAt}
 use Rattle.walk_under.specs.MergedPairs.{AreMergedPairs}
-use Rattle.walk_pairs.specs.Entries.{EntryParts}
-use Rattle.walk_pairs.specs.Listings.{IsLevelAtom}
+use Rattle.walk_regions.specs.Entries.{EntryParts}
+use Rattle.walk_regions.specs.Listings.{IsLevelAtom}
 use Rattle.walk_under.specs.Working.IdEntries.{pair_of, entry_of, entries_of}
 use Rattle.walk_under.specs.Working.Walking.{WalkContext, IsUnderWay}
-use Rattle.walk_pairs.specs.Merging.{IsReachedThere, HasPairOf, IsFirst, AreFirst, AreMergedIds}
+use Rattle.walk_regions.specs.Merging.{IsReachedThere, HasPairOf, IsFirst, AreFirst, AreMergedIds}
 use Rattle.walk_under.specs.declared.walk.TestedWorklist.{TestedWorklist}
 use Rattle.walk_under.proofs.WalkSteps.{first_entry}
 use Rattle.walk_under.proofs.Standing.{one_id_set, same_ids, level_atom}
 use Rattle.walk_under.proofs.Taking.{terms_kept, set_kept}
-use Rattle.walk_pairs.proofs.MergedIds.{has_pair_more}
+use Rattle.walk_regions.proofs.MergedIds.{has_pair_more}
 
 -- ---- the first pair
 

@@ -15,8 +15,8 @@ use Rattle.test_diagrams.specs.Functions.{DiagramsParts, value_of}
 use Rattle.partial_derivs.specs.Moves.{IsTermOf, Keeps}
 use Rattle.partial_derivs.specs.Tables.{AreRight}
 use Rattle.walk_under.specs.TestedWalks.{TestedEntry, IsTestedWalk}
-use Rattle.walk_pairs.specs.Entries.{EntryParts}
-use Rattle.walk_pairs.specs.Allowance.{IsAllowance}
+use Rattle.walk_regions.specs.Entries.{EntryParts}
+use Rattle.walk_regions.specs.Allowance.{IsAllowance}
 use Rattle.walk_under.specs.Working.IdEntries.{entry_of, entries_of, IsIdEntry}
 use Rattle.walk_pairs.specs.IdSets.{IsIdSet}
 use Rattle.walk_under.specs.Working.Walking.{WalkContext, walk_context, IsUnderWay, first_ids, AreClosedIds, first_acts, walk_limit}
@@ -24,7 +24,7 @@ use Rattle.walk_under.specs.declared.walk.TestedWorklist.{TestedWorklist}
 use Rattle.walk_pairs.specs.declared.closed.ClosedIds.{ClosedIds}
 use Rattle.walk_under.proofs.WalkSteps.{first_entry, walk_starts}
 use Rattle.walk_under.proofs.Few.{entry_limit, walk_few}
-use Rattle.walk_pairs.proofs.AllowedImages.{allowed_atom}
+use Rattle.walk_regions.proofs.AllowedImages.{allowed_atom}
 use Rattle.walk_pairs.proofs.ClosedTerms.{universal_kept}
 use Rattle.partial_derivs.proofs.Kept.{IsTermOf-kept}
 

@@ -18,19 +18,19 @@ use Rattle.partial_derivs.specs.Tables.{AreRight}
 use Rattle.partial_derivs.proofs.Kept.{Keeps-functions}
 use Rattle.partial_derivs.proofs.Tables.{AreRight-kept}
 use Rattle.walk_under.specs.TestedWalks.{TestedOrigin, TestedEntry, IsListedAt, IsTestedWalk}
-use Rattle.walk_pairs.specs.Entries.{EntryParts}
-use Rattle.walk_pairs.specs.Allowance.{IsAllowance}
-use Rattle.walk_pairs.specs.Listings.{IsFreshPart, IsLevelAtom, AreLevelAtoms}
+use Rattle.walk_regions.specs.Entries.{EntryParts}
+use Rattle.walk_regions.specs.Allowance.{IsAllowance}
+use Rattle.walk_regions.specs.Listings.{IsFreshPart, IsLevelAtom, AreLevelAtoms}
 use Rattle.walk_under.specs.Working.IdEntries.{origin_of, pair_of, entry_of, entries_of, IsIdEntry, IsNextPart}
 use Rattle.walk_pairs.specs.IdSets.{IsIdSet}
 use Rattle.walk_under.specs.Working.Walking.{WalkContext, IsUnderWay, IsAtSource}
-use Rattle.walk_pairs.specs.declared.entry.StepOrigin.{StepOrigin}
-use Rattle.walk_pairs.specs.declared.parts.Part.{Part}
+use Rattle.walk_regions.specs.declared.entry.StepOrigin.{StepOrigin}
+use Rattle.walk_regions.specs.declared.parts.Part.{Part}
 use Rattle.walk_under.specs.declared.walk.TestedWorklist.{TestedWorklist}
 use Rattle.walk_under.specs.declared.walk.StepSource.{StepSource}
-use Rattle.walk_pairs.proofs.Allowances.{allowance_kept}
-use Rattle.walk_pairs.proofs.AllowedImages.{within_kept}
-use Rattle.walk_pairs.proofs.LevelAtoms.{level_atoms_kept}
+use Rattle.walk_regions.proofs.Allowances.{allowance_kept}
+use Rattle.walk_regions.proofs.AllowedImages.{within_kept}
+use Rattle.walk_regions.proofs.LevelAtoms.{level_atoms_kept}
 
 module _ (store : NodeParts) (c d : DiagramsParts) (kept : KeepsFunctions c d) where
   -- the functions are the same at all atoms

@@ -24,19 +24,19 @@ use Rattle.walk_pairs.specs.Items.{AreItemsOf, AreLedTo}
 use Rattle.walk_pairs.specs.declared.items.Item.{Item}
 use Rattle.walk_pairs.proofs.NextSets.{next_of_ids, target_term}
 use Rattle.walk_under.specs.TestedWalks.{TestedEntry, AreJoinedAfter, IsTaken, IsTestedWalk}
-use Rattle.walk_pairs.specs.Entries.{EntryParts}
-use Rattle.walk_pairs.specs.Allowance.{IsAllowance}
-use Rattle.walk_pairs.specs.declared.allowed.AllowedMoves.{AllowedMoves}
+use Rattle.walk_regions.specs.Entries.{EntryParts}
+use Rattle.walk_regions.specs.Allowance.{IsAllowance}
+use Rattle.walk_regions.specs.declared.allowed.AllowedMoves.{AllowedMoves}
 use Rattle.walk_under.specs.Working.IdEntries.{pair_of, entry_of, entries_of, IsIdEntry}
 use Rattle.walk_pairs.specs.IdSets.{IsIdSet}
 use Rattle.walk_under.specs.Working.Walking.{WalkContext, walk_context, IsUnderWay, IsAtSource, IsVisited, AreNextItems, IsTaking, IsTakenPair, HasStepped, IsDifference, TellApart, AcceptAlike}
-use Rattle.walk_pairs.specs.declared.listing.Listing.{Listing}
+use Rattle.walk_regions.specs.declared.listing.Listing.{Listing}
 use Rattle.walk_under.specs.declared.walk.TestedWorklist.{TestedWorklist}
 use Rattle.walk_under.specs.declared.walk.StepSource.{StepSource}
 use Rattle.walk_under.specs.declared.walk.TakenPair.{TakenPair}
 use Rattle.walk_pairs.specs.declared.found.BothSteps.{BothSteps}
 use Rattle.walk_under.proofs.WalkSteps.{first_entry, walk_takes}
-use Rattle.walk_pairs.proofs.Allowances.{allowance_kept}
+use Rattle.walk_regions.proofs.Allowances.{allowance_kept}
 use Rattle.walk_under.proofs.JoinedAt.{entry_at}
 use Rattle.walk_under.proofs.Standing.{entries_same, id_entry_kept, under_way_kept}
 use Rattle.walk_under.proofs.Visiting.{joined_grown}

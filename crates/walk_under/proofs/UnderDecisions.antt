@@ -41,10 +41,10 @@ use Rattle.walk_under.specs.TestedWalks.{TestedEntry, IsTestedWalk}
 use Rattle.walk_under.specs.MergedPairs.{AreMergedPairs}
 use Rattle.walk_under.specs.Decisions.{IsDecisionUnder}
 use Rattle.walk_under.specs.Laws.{AreFewPairs}
-use Rattle.walk_pairs.specs.Entries.{EntryParts}
+use Rattle.walk_regions.specs.Entries.{EntryParts}
 use Rattle.walk_under.specs.Working.IdEntries.{entry_of}
 use Rattle.walk_under.specs.Working.Walking.{WalkContext, walk_context, IsUnderWay, AreClosedIds}
-use Rattle.walk_pairs.specs.Merging.{AreMergedIds}
+use Rattle.walk_regions.specs.Merging.{AreMergedIds}
 use Rattle.walk_under.specs.declared.walk.TestedWorklist.{TestedWorklist}
 use Rattle.walk_under.proofs.EndedWalks.{ended_accepted}
 use Rattle.walk_under.proofs.Few.{entry_reached}

@@ -25,26 +25,26 @@ use Rattle.walk_pairs.specs.declared.items.Side.{Side}
 use Rattle.walk_pairs.specs.declared.items.Side.TheVariants.{Left, Right}
 use Rattle.walk_pairs.proofs.ItemTargets.{chosen_where, has_where, where_ascending}
 use Rattle.walk_under.specs.TestedWalks.{TestedOrigin, TestedEntry, IsRegion, HasSource, IsApart, AreJoined, IsTestedWalk}
-use Rattle.walk_pairs.specs.Entries.{EntryParts}
-use Rattle.walk_pairs.specs.Allowance.{IsAllowance, IsWithin, HasAllowedSource, IsAllowedImage}
-use Rattle.walk_pairs.specs.Reaching.{IsOpenPart}
-use Rattle.walk_pairs.specs.Parts.{IsPart}
-use Rattle.walk_pairs.specs.Listings.{IsFreshPart, AreLevelAtoms}
+use Rattle.walk_regions.specs.Entries.{EntryParts}
+use Rattle.walk_regions.specs.Allowance.{IsAllowance, IsWithin, HasAllowedSource, IsAllowedImage}
+use Rattle.walk_regions.specs.Reaching.{IsOpenPart}
+use Rattle.walk_regions.specs.Parts.{IsPart}
+use Rattle.walk_regions.specs.Listings.{IsFreshPart, AreLevelAtoms}
 use Rattle.walk_under.specs.Working.IdEntries.{entry_of, entries_of, IsIdEntry, IsNextPart}
 use Rattle.walk_pairs.specs.IdSets.{IsIdSet}
 use Rattle.walk_under.specs.Working.Walking.{WalkContext, new_ids, IsAtSource, IsVisited, IsOpenAt, AreNextItems}
-use Rattle.walk_pairs.specs.declared.entry.StepOrigin.{StepOrigin}
-use Rattle.walk_pairs.specs.declared.listing.Listing.{Listing}
-use Rattle.walk_pairs.specs.declared.parts.Part.{Part}
+use Rattle.walk_regions.specs.declared.entry.StepOrigin.{StepOrigin}
+use Rattle.walk_regions.specs.declared.listing.Listing.{Listing}
+use Rattle.walk_regions.specs.declared.parts.Part.{Part}
 use Rattle.walk_under.specs.declared.walk.TestedWorklist.{TestedWorklist}
 use Rattle.walk_under.specs.declared.walk.StepSource.{StepSource}
 use Rattle.walk_under.proofs.WalkSteps.{joined_more, walk_lists}
-use Rattle.walk_pairs.proofs.Allowances.{allowance_kept}
-use Rattle.walk_pairs.proofs.AllowedImages.{allowed_atom, source_kept, source_was}
-use Rattle.walk_pairs.proofs.PartCases.{chosen_kept}
+use Rattle.walk_regions.proofs.Allowances.{allowance_kept}
+use Rattle.walk_regions.proofs.AllowedImages.{allowed_atom, source_kept, source_was}
+use Rattle.walk_regions.proofs.PartCases.{chosen_kept}
 use Rattle.walk_under.proofs.JoinedAt.{pairs_true, joined_by, joined_same, brought_congruent, entry_congruent, entries-append, entry_at}
 use Rattle.walk_under.proofs.Standing.{entries_same, next_part_kept, fresh_part_kept, listed_at, at_source_kept, one_id_set}
-use Rattle.walk_pairs.proofs.LevelAtoms.{level_past, level_atoms_within}
+use Rattle.walk_regions.proofs.LevelAtoms.{level_past, level_atoms_within}
 
 pub allowed_image_kept : (c d : DiagramsParts) → KeepsFunctions c d → (shorts : List Term) (region act id : ℕ) → IsDiagramId c region → IsAllowedImage c shorts region act id → IsAllowedImage d shorts region act id
 allowed_image_kept c d kept shorts region act id is image = record {

@@ -11,10 +11,10 @@ ghost use Rattle.term_nodes.specs.Growth.{Grows};
 ghost use Rattle.partial_derivs.specs.Moves.{IsTermOf};
 ghost use Rattle.partial_derivs.specs.Tables.{AreRight};
 ghost use Rattle.test_diagrams.specs.Functions.{value_of, IsDiagramId, IsAtomOf, KeepsFunctions};
-ghost use Rattle.walk_pairs.specs.Entries.{EntryParts};
-ghost use Rattle.walk_pairs.specs.Listings.{IsLevelAtom, IsPlaceWith};
+ghost use Rattle.walk_regions.specs.Entries.{EntryParts};
+ghost use Rattle.walk_regions.specs.Listings.{IsLevelAtom, IsPlaceWith};
 ghost use Rattle.walk_under.specs.Working.IdEntries.{IsNextPart};
-ghost use Rattle.walk_pairs.specs.Merging.{AreMergedIds};
+ghost use Rattle.walk_regions.specs.Merging.{AreMergedIds};
 ghost use Rattle.walk_under.specs.Working.Walking.{WalkContext, walk_context, first_ids, new_ids, AreClosedIds, IsUnderWay, IsAtSource, IsOpenAt, IsVisited, AreNextItems, IsTaking, IsTakenPair, HasStepped, IsDifference, TellApart, AcceptAlike, IsRunEnd};
 ghost use Rattle.walk_under.specs.declared.walk.RunEnd.TheVariants.{Full};
 
@@ -25,8 +25,10 @@ use std::mem;
 use string_tables::{GString, Move};
 use test_diagrams::{DiagramId, Diagrams};
 use walk_pairs::{
-    AllowedMoves, BothSteps, ClosedIds, Entry, EntryList, Item, Listing, Part, StepOrigin,
-    StoredPair, TargetSets, actions_in_order, difference, differing_atom, differing_part, items_of,
+    BothSteps, ClosedIds, Item, StoredPair, actions_in_order, difference, differing_atom, items_of,
+};
+use walk_regions::{
+    AllowedMoves, Entry, EntryList, Listing, Part, StepOrigin, TargetSets, differing_part,
     listed_atoms, merged_pairs, parts_of, place_with, unlisted_part,
 };
 

@@ -8,10 +8,10 @@ use Rattle.kat_model.specs.Steps.{Atom, set_next}
 use Rattle.kat_model.specs.Pairs.{SetPair}
 use Rattle.test_diagrams.specs.Functions.{DiagramsParts, value_of, IsDiagramId, IsAtomOf}
 use Rattle.walk_pairs.specs.IdSets.{IsIdSet}
-use Rattle.walk_pairs.specs.Allowance.{IsWithin}
-use Rattle.walk_pairs.specs.Entries.{EntryParts}
-use Rattle.walk_pairs.specs.declared.entry.StepOrigin.{StepOrigin}
-use Rattle.walk_pairs.specs.declared.parts.Part.{Part}
+use Rattle.walk_regions.specs.Allowance.{IsWithin}
+use Rattle.walk_regions.specs.Entries.{EntryParts}
+use Rattle.walk_regions.specs.declared.entry.StepOrigin.{StepOrigin}
+use Rattle.walk_regions.specs.declared.parts.Part.{Part}
 use Rattle.walk_under.specs.TestedWalks.{TestedOrigin, TestedEntry}
 
 abbrev pub origin_of : DiagramsParts → StepOrigin → TestedOrigin

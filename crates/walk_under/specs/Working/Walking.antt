@@ -17,11 +17,11 @@ use Rattle.walk_pairs.specs.Items.{chosen, AreItems}
 use Rattle.walk_pairs.specs.declared.items.Item.{Item}
 use Rattle.walk_pairs.specs.declared.items.Side.TheVariants.{Left, Right}
 use Rattle.walk_under.specs.TestedWalks.{AreJoined, AreJoinedAfter, IsTestedWalk}
-use Rattle.walk_pairs.specs.Entries.{EntryParts}
-use Rattle.walk_pairs.specs.Allowance.{IsAllowance, IsWithin, HasAllowedSource}
-use Rattle.walk_pairs.specs.Listings.{AreLevelAtoms}
+use Rattle.walk_regions.specs.Entries.{EntryParts}
+use Rattle.walk_regions.specs.Allowance.{IsAllowance, IsWithin, HasAllowedSource}
+use Rattle.walk_regions.specs.Listings.{AreLevelAtoms}
 use Rattle.walk_under.specs.Working.IdEntries.{pair_of, entries_of, IsIdEntry, IsNextPart}
-use Rattle.walk_pairs.specs.declared.parts.Part.{Part}
+use Rattle.walk_regions.specs.declared.parts.Part.{Part}
 use Rattle.walk_under.specs.declared.walk.TestedWorklist.{TestedWorklist}
 use Rattle.walk_under.specs.declared.walk.StepSource.{StepSource}
 use Rattle.walk_under.specs.declared.walk.TakenPair.{TakenPair}

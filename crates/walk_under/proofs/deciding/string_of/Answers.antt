@@ -6,7 +6,7 @@ use Rattle.test_diagrams.specs.Functions.{DiagramsParts, IsDiagramId}
 use Rattle.walk_under.specs.Working.Walking.{walk_context}
 use Rattle.walk_under.specs.Working.Counting.{IsFoundUnder, with_counted}
 use Rattle.walk_under.proofs.Uncounted.{no_items, some_items}
-use Rattle.walk_pairs.proofs.PartCases.{always_ok}
+use Rattle.walk_regions.proofs.PartCases.{always_ok}
 use Rattle.walk_under.proofs.CountedWalks.{counted_split, found_unbroken}
 use Rattle.walk_under.proofs.deciding.string_of.Goals as goal
 

@@ -1,6 +1,6 @@
 use Rattle.std.proofs.Common.{ℕ, List, ◌∙◌}
 use mathlib.Core.Path.{ap₂}
-use Rattle.walk_pairs.specs.Entries.{EntryParts}
+use Rattle.walk_regions.specs.Entries.{EntryParts}
 use Rattle.walk_under.specs.Working.Walking.{new_ids}
 use Rattle.walk_under.proofs.walk.entry_of.Goals as goal
 

@@ -1,6 +1,6 @@
 use Rattle.std.proofs.Common.{map, refl, subst}
 use Rattle.term_nodes.specs.NodeTrees.{tree_at}
-use Rattle.walk_pairs.specs.Allowance.{IsAllowance}
+use Rattle.walk_regions.specs.Allowance.{IsAllowance}
 use Rattle.walk_under.specs.declared.walk.TestedWorklist.{TestedWorklist}
 use Rattle.walk_under.proofs.Running.{walk_begun}
 use Rattle.walk_under.proofs.walk.TestedWorklist.begin.Goals as goal

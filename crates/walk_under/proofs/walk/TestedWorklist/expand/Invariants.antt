@@ -1,5 +1,5 @@
 use Rattle.std.proofs.Common.{◌≡◌, take}
-use Rattle.walk_pairs.specs.Entries.{EntryParts}
+use Rattle.walk_regions.specs.Entries.{EntryParts}
 use Rattle.walk_under.specs.Working.Walking.{WalkContext, IsTaking, IsTakenPair, HasStepped}
 use Rattle.walk_under.proofs.walk.TestedWorklist.expand.Given as goal
 

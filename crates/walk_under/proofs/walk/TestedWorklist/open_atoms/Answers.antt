@@ -1,6 +1,6 @@
 use Rattle.std.proofs.Common.{◌<◌, refl, sym, subst}
 use Rattle.std.proofs.lemmas.Result.{IfOk-weaker}
-use Rattle.walk_pairs.specs.Allowance.{IsAllowance}
+use Rattle.walk_regions.specs.Allowance.{IsAllowance}
 use Rattle.walk_under.specs.declared.walk.TestedWorklist.{TestedWorklist}
 use Rattle.walk_under.proofs.Visiting.{region_within, open_at}
 use Rattle.walk_under.proofs.walk.TestedWorklist.open_atoms.Goals as goal

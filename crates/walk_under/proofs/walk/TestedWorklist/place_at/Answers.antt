@@ -1,7 +1,7 @@
 use Rattle.std.proofs.Common.{◌≡◌, slice_get, Some, sym, ap, ◌∙◌, subst}
 use Rattle.std.proofs.lemmas.Option.{same_Some, slice_get-get_or}
-use Rattle.walk_pairs.specs.Entries.{EntryParts}
-use Rattle.walk_pairs.specs.Listings.{IsPlaceWith}
+use Rattle.walk_regions.specs.Entries.{EntryParts}
+use Rattle.walk_regions.specs.Listings.{IsPlaceWith}
 use Rattle.walk_under.proofs.walk.TestedWorklist.place_at.Goals as goal
 
 pub place_with-requires-clause-tests : goal.place_with-requires-clause-tests

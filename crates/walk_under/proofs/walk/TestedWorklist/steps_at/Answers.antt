@@ -5,7 +5,7 @@ use Rattle.term_nodes.proofs.Growing.{Grows-trans}
 use Rattle.term_nodes.specs.NumberSets.{terms_of}
 use Rattle.partial_derivs.specs.Moves.{IsTermOf, IsStepsOf}
 use Rattle.partial_derivs.proofs.Kept.{Keeps-trans}
-use Rattle.walk_pairs.specs.Entries.{EntryParts}
+use Rattle.walk_regions.specs.Entries.{EntryParts}
 use Rattle.walk_under.specs.declared.walk.TestedWorklist.{TestedWorklist}
 use Rattle.walk_pairs.specs.declared.found.BothSteps.{BothSteps}
 use Rattle.walk_pairs.proofs.IdSets.{all_terms}

@@ -11,17 +11,17 @@ use Rattle.kat_model.proofs.Places.{element_at, has_at}
 use Rattle.kat_model.proofs.Lists.{has_pushed}
 use Rattle.certificate.specs.Decisions.{IsShortest}
 use Rattle.test_diagrams.proofs.Kept.{KeepsFunctions-itself, KeepsFunctions-trans}
-use Rattle.walk_pairs.specs.declared.entry.StepOrigin.{StepOrigin}
-use Rattle.walk_pairs.specs.declared.listing.Listing.{Listing}
-use Rattle.walk_pairs.specs.declared.allowed.AllowedMoves.{AllowedMoves}
+use Rattle.walk_regions.specs.declared.entry.StepOrigin.{StepOrigin}
+use Rattle.walk_regions.specs.declared.listing.Listing.{Listing}
+use Rattle.walk_regions.specs.declared.allowed.AllowedMoves.{AllowedMoves}
 use Rattle.walk_under.specs.declared.walk.TestedWorklist.{TestedWorklist}
-use Rattle.walk_pairs.specs.Entries.{EntryParts}
-use Rattle.walk_pairs.specs.Allowance.{IsAllowance, IsWithin, IsAllowedSource, HasAllowedSource}
-use Rattle.walk_pairs.specs.Listings.{IsLevelAtom, IsPlaceWith}
+use Rattle.walk_regions.specs.Entries.{EntryParts}
+use Rattle.walk_regions.specs.Allowance.{IsAllowance, IsWithin, IsAllowedSource, HasAllowedSource}
+use Rattle.walk_regions.specs.Listings.{IsLevelAtom, IsPlaceWith}
 use Rattle.walk_under.specs.Working.Walking.{WalkContext, walk_context, IsUnderWay}
-use Rattle.walk_pairs.proofs.Allowances.{allowance_kept}
-use Rattle.walk_pairs.proofs.AllowedImages.{within_kept, source_kept, source_was}
-use Rattle.walk_pairs.proofs.LevelAtoms.{level_atom_kept}
+use Rattle.walk_regions.proofs.Allowances.{allowance_kept}
+use Rattle.walk_regions.proofs.AllowedImages.{within_kept, source_kept, source_was}
+use Rattle.walk_regions.proofs.LevelAtoms.{level_atom_kept}
 use Rattle.walk_under.proofs.Backward.{string_of, IsSoFar, so_far_start, so_far_within, origin_region, origin_act, origin_source, origin_within, origin_listed, level_of, level_at, level_down, first_fits, first_allowed, source_listed, origin_step, so_far_shortest}
 use Rattle.walk_under.proofs.walk.TestedWorklist.string_to.Goals as goal
 

@@ -1,7 +1,7 @@
 use Rattle.std.proofs.Common.{◌<◌, List, length, sym, subst}
 use Rattle.std.proofs.lemmas.Result.{IfOk-weaker}
 use Rattle.kat_model.proofs.Places.{element_at}
-use Rattle.walk_pairs.specs.Entries.{EntryParts}
+use Rattle.walk_regions.specs.Entries.{EntryParts}
 use Rattle.walk_under.specs.Working.Walking.{walk_context}
 use Rattle.walk_under.proofs.walk.TestedWorklist.take.Goals as goal
 

@@ -1,7 +1,7 @@
 use Rattle.std.proofs.Common.{◌≡◌, List, slice_get, Some, sym, ap, ◌∙◌, subst, refl}
 use Rattle.std.proofs.lemmas.Option.{same_Some, slice_get-get_or}
-use Rattle.walk_pairs.specs.Entries.{EntryParts}
-use Rattle.walk_pairs.specs.Listings.{AreLevelAtoms}
+use Rattle.walk_regions.specs.Entries.{EntryParts}
+use Rattle.walk_regions.specs.Listings.{AreLevelAtoms}
 use Rattle.walk_under.proofs.walk.TestedWorklist.taken_pair_at.Goals as goal
 
 pub listed_atoms-requires : goal.listed_atoms-requires

@@ -7,17 +7,17 @@ use Rattle.partial_derivs.proofs.Items.{has_item, take_item}
 use Rattle.test_diagrams.specs.Functions.{DiagramsParts, value_of, IsAtomOf, KeepsFunctions}
 use Rattle.test_diagrams.proofs.Kept.{KeepsFunctions-itself, KeepsFunctions-trans}
 use Rattle.walk_pairs.specs.declared.items.Item.{Item}
-use Rattle.walk_pairs.specs.declared.parts.Part.{Part}
+use Rattle.walk_regions.specs.declared.parts.Part.{Part}
 use Rattle.walk_under.specs.declared.walk.TestedWorklist.{TestedWorklist}
 use Rattle.walk_under.specs.declared.walk.StepSource.{StepSource}
-use Rattle.walk_pairs.specs.Entries.{EntryParts}
-use Rattle.walk_pairs.specs.Allowance.{IsWithin}
-use Rattle.walk_pairs.specs.Reaching.{IsPartOf}
-use Rattle.walk_pairs.specs.Parts.{HasPartAt, AreParts}
+use Rattle.walk_regions.specs.Entries.{EntryParts}
+use Rattle.walk_regions.specs.Allowance.{IsWithin}
+use Rattle.walk_regions.specs.Reaching.{IsPartOf}
+use Rattle.walk_regions.specs.Parts.{HasPartAt, AreParts}
 use Rattle.walk_under.specs.Working.IdEntries.{IsNextPart}
 use Rattle.walk_under.specs.Working.Walking.{WalkContext, IsAtSource, AreNextItems}
-use Rattle.walk_pairs.proofs.AllowedImages.{within_kept}
-use Rattle.walk_pairs.proofs.PartCases.{region_somewhere, part_at_last}
+use Rattle.walk_regions.proofs.AllowedImages.{within_kept}
+use Rattle.walk_regions.proofs.PartCases.{region_somewhere, part_at_last}
 use Rattle.walk_under.proofs.Standing.{next_part_kept, source_later}
 use Rattle.walk_under.proofs.Visiting.{visited_then, visited_part, visited_nowhere, visited_from, next_items_kept, next_same, part_next}
 use Rattle.walk_under.proofs.walk.TestedWorklist.visit.Goals as goal

@@ -1,8 +1,8 @@
 use Rattle.std.proofs.Common.{take}
 use Rattle.kat_model.specs.Members.{Has}
-use Rattle.walk_pairs.specs.declared.parts.Part.{Part}
-use Rattle.walk_pairs.specs.Entries.{EntryParts}
-use Rattle.walk_pairs.specs.Parts.{HasPartAt}
+use Rattle.walk_regions.specs.declared.parts.Part.{Part}
+use Rattle.walk_regions.specs.Entries.{EntryParts}
+use Rattle.walk_regions.specs.Parts.{HasPartAt}
 use Rattle.walk_under.specs.Working.IdEntries.{IsNextPart}
 use Rattle.walk_under.specs.Working.Walking.{WalkContext, IsAtSource, IsVisited}
 use Rattle.walk_under.proofs.walk.TestedWorklist.visit.Given as goal

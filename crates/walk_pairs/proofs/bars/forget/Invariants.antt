@@ -1,9 +1,0 @@
-use Rattle.test_diagrams.specs.Functions.{KeepsFunctions}
-use Rattle.walk_pairs.specs.Bars.{IsForgotten}
-use Rattle.walk_pairs.proofs.bars.forget.Given as goal
-
-abbrev pub invariant-loop-test : goal.invariant-loop-test
-invariant-loop-test l = record {
-  kept : KeepsFunctions l.initial.diagrams l.diagrams;
-  forgotten : IsForgotten l.diagrams l.fn.whole l.tests l.id;
-}

@@ -1,5 +1,0 @@
-use Rattle.std.proofs.Common.{◌+◌, ◌-◌, length}
-use Rattle.walk_pairs.proofs.entry_list.note.Given as goal
-
-abbrev pub decreases-loop-flags : goal.decreases-loop-flags
-decreases-loop-flags l = l.number + 1 - length l.flags.items

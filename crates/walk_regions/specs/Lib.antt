@@ -1,0 +1,9 @@
+pub mod Bars
+pub mod Allowance
+pub mod Entries
+pub mod Filing
+pub mod Reaching
+pub mod Listings
+pub mod Parts
+pub mod Merging
+pub mod Working
