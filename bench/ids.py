@@ -1,5 +1,5 @@
 #!/usr/bin/env python3
-"""Measures the crates test_diagrams and partial_derivs, and prints tables.
+"""Measures the crates test_diagrams, term_store and partial_derivs, and prints tables.
 
     python3 bench/ids.py [--build DIR] [--runs N] [--size N]
 
@@ -26,7 +26,7 @@ from pathlib import Path
 TOP = Path(__file__).resolve().parent.parent
 SOURCES = Path(__file__).resolve().parent / "ids"
 PROGRAM = "ids"
-STANDS_ON = "partial_derivs test_diagrams kat_model indexmap"
+STANDS_ON = "partial_derivs term_store test_diagrams kat_model indexmap"
 
 
 # Building

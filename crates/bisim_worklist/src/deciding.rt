@@ -11,8 +11,8 @@ ghost use Rattle.bisim_worklist.specs.Working.Limits.{limit_of as limit_of'};
 use certificate::Evidence;
 use goal_forms::has_short;
 use kat_model::{NoMemory, Problem};
-use partial_derivs::Store;
 use std::alloc::Global;
+use term_store::Store;
 use walk_under::{decide_under, is_same_under};
 use walk_up_to::{EarlyStop, decide_up_to, is_same_up_to};
 

@@ -1,4 +1,3 @@
-pub mod Found
 pub mod Items
 pub mod Entries
 pub mod Kept

@@ -1,4 +1,3 @@
-pub mod StoreLaws
 pub mod Moves
 pub mod Tables
 pub mod Laws

@@ -11,12 +11,11 @@ ghost use Rattle.partial_derivs.specs.Tables.{IsRight, AreRight};
 
 use crate::forms::{action_steps, constant_steps, product_steps, star_steps, test_steps};
 use crate::moves::Steps;
-use crate::nodes::{Shape, TermId};
 use crate::sets::{Union, sum_steps};
-use crate::store::Store;
 use indexmap::IndexMap;
 use kat_model::NoMemory;
 use std::alloc::Global;
+use term_store::{Shape, Store, TermId};
 use test_diagrams::Diagrams;
 
 /// The derivatives computed so far, including those of parts of terms. A table belongs to the store and the collection

@@ -11,10 +11,9 @@ ghost use Rattle.partial_derivs.specs.Moves.{IsTermOf, AreTargets, HasIds, IsSte
 
 use crate::gathered::Gathered;
 use crate::moves::{Guarded, Steps};
-use crate::nodes::{Shape, TermId, TestId, TestShape};
-use crate::store::Store;
 use kat_model::{NoMemory, Test};
 use std::alloc::Global;
+use term_store::{Shape, Store, TermId, TestId, TestShape};
 use test_diagrams::{DiagramId, Diagrams};
 
 // Returns the diagram of a test of the store.

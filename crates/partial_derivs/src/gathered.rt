@@ -8,11 +8,10 @@ ghost use Rattle.partial_derivs.specs.Moves.{IsTermOf, AreGuards, AreTargets, Ar
 ghost use Rattle.partial_derivs.specs.Working.Gathered.{moves_of, guard_at, same_target, AddsMove, AddsUnder, AddsFollowed, Follows};
 
 use crate::moves::Guarded;
-use crate::nodes::TermId;
-use crate::store::Store;
 use indexmap::IndexMap;
 use kat_model::NoMemory;
 use std::alloc::Global;
+use term_store::{Store, TermId};
 use test_diagrams::{DiagramId, Diagrams};
 
 /// The action and the target term of a move.

@@ -1,9 +1,9 @@
 //! Moves under guards.
 ghost use Rattle.std.specs.Prelude.{◌≡◌, IfOk};
 
-use crate::nodes::TermId;
 use kat_model::NoMemory;
 use std::alloc::Global;
+use term_store::TermId;
 use test_diagrams::DiagramId;
 
 /// A move: at each atom at which the guard is true, the action can lead to the term.

@@ -2,10 +2,10 @@
 use bisim_worklist::{decide, decide_in};
 use certificate::Evidence;
 use kat_model::{Kat, NoMemory, Problem};
-use partial_derivs::Store;
 use problem_file::{File, Goal, Side, read};
 use std::alloc::Global;
 use std::test::Fail;
+use term_store::Store;
 use text_parser::TextFault;
 
 // Returns the term of a side. No text here has a program as a side.

@@ -3,9 +3,10 @@ ghost use Rattle.std.specs.Prelude.{◌≡◌, All, IfOk};
 ghost use Rattle.partial_derivs.specs.Moves.{IsTermOf};
 
 use kat_model::NoMemory;
-use partial_derivs::{Guarded, Shape, Steps, Store, TermId, TestShape, step};
+use partial_derivs::{Guarded, Steps, step};
 use std::alloc::Global;
 use std::test::Fail;
+use term_store::{Shape, Store, TermId, TestShape};
 use test_diagrams::Diagrams;
 
 // Returns an action with a test before it, and the action without it.

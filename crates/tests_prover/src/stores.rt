@@ -2,9 +2,9 @@
 ghost use Rattle.term_nodes.specs.NodeLists.{IsTerm};
 
 use kat_model::{Kat, NoMemory};
-use partial_derivs::{Shape, Store, TermId, TestShape};
 use std::alloc::Global;
 use std::test::Fail;
+use term_store::{Shape, Store, TermId, TestShape};
 
 // Whether an action that is interned twice in an empty store has one id and one node.
 fn actions_are_one(store: &mut Store) -> Result<bool, NoMemory> {

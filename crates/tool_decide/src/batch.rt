@@ -18,9 +18,9 @@ use crate::decide::decided_reply;
 use abstraction::{AbstractFault, abstracted_for};
 use bisim_worklist::decide_in;
 use kat_model::{NoMemory, Problem};
-use partial_derivs::Store;
 use problem_file::{File, Goal, read_all};
 use std::alloc::Global;
+use term_store::Store;
 use tool_inputs::{EarlyEnd, Reply, TextCommand, abstract_for, reply_to_text, text_fault_stop};
 
 // Reads a text. Returns the file with its first goal, and the goals after it.

@@ -13,8 +13,8 @@ use crate::needed::{Terms, Tests, needed_terms, needed_tests};
 use crate::pair::StoredPair;
 use certificate::{Cert, Pair, Style, TermNode, TestNode};
 use kat_model::{Items, NoMemory, append};
-use partial_derivs::{Shape, Store, TermId, TestId, TestShape};
 use std::alloc::Global;
+use term_store::{Shape, Store, TermId, TestId, TestShape};
 
 // Returns the number of a test of `tests`.
 fn test_number(tests: &Tests, test: TestId) -> usize

@@ -9,7 +9,7 @@ ghost use Rattle.walk_pairs.specs.ClosedTerms.{AreIdsOf};
 
 use goal_forms::Closed;
 use kat_model::NoMemory;
-use partial_derivs::{Store, TermId};
+use term_store::{Store, TermId};
 
 /// The ids of the closed sides, and of the universal term if there is one.
 #[derive(Clone, Copy)]

@@ -8,9 +8,10 @@ ghost use Rattle.walk_pairs.specs.Items.{guard_of, guard_beyond, with_guard as w
 ghost use Rattle.walk_pairs.specs.Items.{AreEnds};
 
 use kat_model::{NoMemory, append};
-use partial_derivs::{Guarded, TermId};
+use partial_derivs::Guarded;
 use std::alloc::Global;
 use std::collections::BTreeMap;
+use term_store::TermId;
 use test_diagrams::{DiagramId, Diagrams};
 
 /// A target term, and the atoms at which the step leads to it on the left and on the right.

@@ -10,9 +10,9 @@ ghost use Rattle.term_nodes.specs.declared.TermNode.{TermNode};
 use crate::pair::StoredPair;
 use indexmap::IndexSet;
 use kat_model::NoMemory;
-use partial_derivs::{Shape, Store, TermId, TestId, TestShape};
 use std::alloc::Global;
 use std::collections::BTreeSet;
+use term_store::{Shape, Store, TermId, TestId, TestShape};
 
 /// Ids of terms, numbered from 0 in ascending order.
 pub(crate) type Terms = IndexSet<TermId>;

@@ -9,11 +9,7 @@ use std::alloc::Global;
 use test_diagrams::{DiagramId, Diagrams};
 
 /// Returns the diagram that is true where `a` is true and `b` is false. On failure, extra diagrams may remain.
-pub fn and_not(
-    diagrams: &mut Diagrams,
-    a: DiagramId,
-    b: DiagramId,
-) -> Result<DiagramId, NoMemory>
+pub fn and_not(diagrams: &mut Diagrams, a: DiagramId, b: DiagramId) -> Result<DiagramId, NoMemory>
     requires first { IsDiagramId diagrams.old a }
     requires second { IsDiagramId diagrams.old b }
     ensures function { IfOk result (λ id. IsDiagramOf diagrams.new id (λ atom. value_of diagrams.old a atom && not (value_of diagrams.old b atom))) }

@@ -1,7 +1,7 @@
 //! Pairs of sets of terms as ids of a store.
 use kat_model::Items;
-use partial_derivs::{TermId, TestId};
 use std::marker::Model;
+use term_store::{TermId, TestId};
 
 /// A pair of sets of terms, each as ids in ascending order, and the test at whose atoms the pair must hold. A pair
 /// without a test must hold at all atoms.

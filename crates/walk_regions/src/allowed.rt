@@ -11,8 +11,9 @@ ghost use Rattle.walk_regions.specs.Allowance.{action_count, IsAllowance, IsWith
 use crate::asking::bars_of;
 use crate::bars::Bars;
 use kat_model::{NoMemory, append};
-use partial_derivs::{Derivatives, Store, TermId};
+use partial_derivs::Derivatives;
 use std::alloc::Global;
+use term_store::{Store, TermId};
 use test_diagrams::{DiagramId, Diagrams};
 use walk_pairs::true_atom;
 

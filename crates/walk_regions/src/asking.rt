@@ -12,8 +12,9 @@ ghost use Rattle.walk_regions.specs.Working.Asking.{IsUnaskedTest, Asks, AreFres
 
 use crate::bars::{Bar, Bars, depends_on};
 use kat_model::{NoMemory, append};
-use partial_derivs::{Derivatives, Guarded, Store, TermId};
+use partial_derivs::{Derivatives, Guarded};
 use std::alloc::Global;
+use term_store::{Store, TermId};
 use test_diagrams::{DiagramId, Diagrams};
 
 // Returns whether the diagram `id` is the first to depend on `test`. If it is, sets the flag of `test` in `asked`.

@@ -2,9 +2,9 @@
 ghost use Rattle.std.specs.Prelude.{◌≡◌, IfOk};
 
 use kat_model::{Items, NoMemory};
-use partial_derivs::TermId;
 use std::alloc::Global;
 use std::marker::Model;
+use term_store::TermId;
 use test_diagrams::DiagramId;
 
 /// A step from a listed pair: the place of the pair, the action, and the atoms from which the action leads to the sets.

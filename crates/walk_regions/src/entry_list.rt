@@ -7,9 +7,9 @@ ghost use Rattle.walk_regions.specs.Filing.{key_from, key_of as key_of', KeepsLi
 
 use crate::entry::Entry;
 use kat_model::NoMemory;
-use partial_derivs::TermId;
 use std::alloc::Global;
 use std::marker::Model;
+use term_store::TermId;
 
 // The number of keys.
 const KEYS: usize = 4_096;

@@ -11,8 +11,8 @@ use crate::entry::Entry;
 use crate::entry_list::EntryList;
 use crate::reaching::{mark_all, reached_at, saturate};
 use kat_model::{NoMemory, append};
-use partial_derivs::TermId;
 use std::alloc::Global;
+use term_store::TermId;
 use test_diagrams::{DiagramId, Diagrams};
 use walk_pairs::and_not;
 

@@ -12,8 +12,8 @@ use crate::entry_list::EntryList;
 use crate::listing::{alike_entries, has_sets};
 use crate::test_table::TestTable;
 use kat_model::{Items, NoMemory, append};
-use partial_derivs::{Store, TermId, TestId};
 use std::alloc::Global;
+use term_store::{Store, TermId, TestId};
 use test_diagrams::{DiagramId, Diagrams};
 use walk_pairs::StoredPair;
 

@@ -12,8 +12,8 @@ ghost use Rattle.walk_regions.specs.Reaching.{IsPartOf};
 ghost use Rattle.walk_regions.specs.Parts.{with_if, IsRegionWhere, IsPart, AreParts, HavePartIds, HasPartAt, IsCase, TellsApart};
 
 use kat_model::{NoMemory, append};
-use partial_derivs::TermId;
 use std::alloc::Global;
+use term_store::TermId;
 use test_diagrams::{DiagramId, Diagrams};
 use walk_pairs::{Item, and_not, difference};
 

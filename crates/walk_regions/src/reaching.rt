@@ -8,7 +8,7 @@ ghost use Rattle.walk_regions.specs.Reaching.{Brings, AreMarks, IsPartOf, IsReac
 
 use crate::entry::Entry;
 use kat_model::NoMemory;
-use partial_derivs::TermId;
+use term_store::TermId;
 use test_diagrams::{DiagramId, Diagrams};
 
 // Adds the atoms of `test` to the mark of `term`, if it has a mark. Returns whether the mark grew.

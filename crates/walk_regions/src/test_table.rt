@@ -8,8 +8,8 @@ ghost use Rattle.walk_regions.specs.Working.StoredTests.{IsTestFor, IsConstantTe
 
 use indexmap::IndexMap;
 use kat_model::NoMemory;
-use partial_derivs::{Store, TestId, TestShape};
 use std::alloc::Global;
+use term_store::{Store, TestId, TestShape};
 use test_diagrams::{DiagramId, Diagrams};
 
 // Returns the value of the test if its node is a constant.

@@ -14,9 +14,9 @@ ghost use Rattle.walk_under.specs.Counting.{uncounted, AreShortHyps, AreCounted,
 
 use goal_forms::{accepts_atom, accepts_move, is_short};
 use kat_model::{Kat, MAX_TESTS, NoMemory, Problem, Test};
-use partial_derivs::{Store, TermId};
 use std::alloc::Global;
 use string_tables::{GString, Move};
+use term_store::{Store, TermId};
 
 // The maximal number of pairs of a walk that does not count all short hypotheses.
 const PAIR_LIMIT: usize = 2_000;

@@ -27,9 +27,9 @@ use crate::walk::{FoundDifference, FoundString, RunEnd, TestedWorklist};
 use certificate::{Evidence, Style};
 use goal_forms::{eliminate, is_short, long_problem};
 use kat_model::{NoMemory, Problem};
-use partial_derivs::Store;
 use std::alloc::Global;
 use string_tables::{GString, refutes};
+use term_store::Store;
 use test_diagrams::{DiagramId, Diagrams};
 use walk_pairs::{ClosedIds, cert_of, closed_ids};
 

@@ -19,10 +19,11 @@ ghost use Rattle.walk_under.specs.Working.Walking.{WalkContext, walk_context, fi
 ghost use Rattle.walk_under.specs.declared.walk.RunEnd.TheVariants.{Full};
 
 use kat_model::{Items, NoMemory, append};
-use partial_derivs::{Derivatives, Store, TermId};
+use partial_derivs::Derivatives;
 use std::alloc::Global;
 use std::mem;
 use string_tables::{GString, Move};
+use term_store::{Store, TermId};
 use test_diagrams::{DiagramId, Diagrams};
 use walk_pairs::{
     BothSteps, ClosedIds, Item, StoredPair, actions_in_order, difference, differing_atom, items_of,

@@ -8,8 +8,8 @@ use crate::listed::ListedPairs;
 use crate::mark_set::MarkSet;
 use crate::saturation::reaches;
 use kat_model::NoMemory;
-use partial_derivs::TermId;
 use std::alloc::Global;
+use term_store::TermId;
 use walk_pairs::{Ends, Item, Side, guard_across, guard_on};
 
 /// Returns the targets that are surely in the side's set, in ascending order.

@@ -20,8 +20,8 @@ use crate::worklist::Worklist;
 use certificate::{Evidence, Style};
 use goal_forms::eliminate;
 use kat_model::{NoMemory, Problem};
-use partial_derivs::Store;
 use std::alloc::Global;
+use term_store::Store;
 use walk_pairs::{cert_of, closed_ids};
 
 // Returns a walk of the problem over the store that has listed the pair of the closed sides.

@@ -8,9 +8,9 @@ ghost use Rattle.walk_up_to.specs.Indices.{StandsUnder, KeepsPlaces, KeepsLists,
 
 use crate::pair::{ListedPair, PairSide};
 use kat_model::NoMemory;
-use partial_derivs::TermId;
 use std::alloc::Global;
 use std::marker::Model;
+use term_store::TermId;
 use walk_pairs::Side;
 
 /// A list of sets of listed pairs.

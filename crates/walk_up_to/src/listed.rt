@@ -7,9 +7,9 @@ ghost use Rattle.walk_up_to.specs.Marks.{AllMarked, Stays};
 use crate::index::PairIndex;
 use crate::pair::ListedPair;
 use kat_model::NoMemory;
-use partial_derivs::TermId;
 use std::alloc::Global;
 use std::marker::Model;
+use term_store::TermId;
 
 /// The listed pairs in order, a mark for each term in them, their index, the universal term, if there is one, and the
 /// limit on the number of pairs, if there is one. All ids are below the count.

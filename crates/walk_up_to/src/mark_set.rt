@@ -7,9 +7,9 @@ ghost use Rattle.walk_up_to.specs.Marks.{are_marked, with_marks, without_marks, 
 use crate::pair::ListedPair;
 use crate::stop::EarlyStop;
 use kat_model::NoMemory;
-use partial_derivs::TermId;
 use std::alloc::Global;
 use std::marker::Model;
+use term_store::TermId;
 use walk_pairs::Side;
 
 // The maximal cost of a walk whose number of pairs is limited. Long before a walk lists many pairs, the guards of a

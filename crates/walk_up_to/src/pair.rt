@@ -3,9 +3,9 @@ ghost use Rattle.std.specs.Prelude.{◌≡◌, map, IfOk};
 ghost use Rattle.walk_up_to.specs.Listings.{untested_of};
 
 use kat_model::{Items, NoMemory, append};
-use partial_derivs::TermId;
 use std::alloc::Global;
 use std::marker::Model;
+use term_store::TermId;
 use walk_pairs::{Side, StoredPair};
 
 /// A step from a listed pair: the place of the pair, and the atom and the action of the step.

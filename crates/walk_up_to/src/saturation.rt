@@ -10,7 +10,7 @@ use crate::listed::ListedPairs;
 use crate::mark_set::{MarkSet, add_across, either, holds_all};
 use crate::pair::PairSide;
 use kat_model::NoMemory;
-use partial_derivs::TermId;
+use term_store::TermId;
 use walk_pairs::Side;
 
 // Whether there is a universal term and it is marked.

@@ -4,7 +4,7 @@ ghost use Rattle.test_diagrams.specs.Functions.{IsDiagramId};
 ghost use Rattle.walk_pairs.specs.Items.{AreItems};
 ghost use Rattle.walk_up_to.specs.Cases.{HasNextTest, IsNextTest, AreConstant, IsConstantItem};
 
-use partial_derivs::TermId;
+use term_store::TermId;
 use test_diagrams::Diagrams;
 use walk_pairs::Item;
 

@@ -19,8 +19,9 @@ use crate::mark_set::MarkSet;
 use crate::pair::ListedPair;
 use crate::stop::EarlyStop;
 use kat_model::{Items, NoMemory, Problem};
-use partial_derivs::{Derivatives, Store, TermId};
+use partial_derivs::Derivatives;
 use std::alloc::Global;
+use term_store::{Store, TermId};
 use test_diagrams::Diagrams;
 use walk_pairs::{BothSteps, Difference, actions_in_order, differing_atom, items_of};
 

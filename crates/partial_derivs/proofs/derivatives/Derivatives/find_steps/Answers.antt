@@ -1,6 +1,6 @@
 use Rattle.std.proofs.Common.{rules, sym}
 use Rattle.term_nodes.specs.NodeTrees.{tree_at}
-use Rattle.partial_derivs.specs.contracts.nodes.TermIdPartialEq.TheImpl.{eq-value}
+use Rattle.term_store.specs.contracts.nodes.TermIdPartialEq.TheImpl.{eq-value}
 use Rattle.partial_derivs.proofs.Tables.{right_found, same_steps}
 use Rattle.partial_derivs.proofs.derivatives.Derivatives.find_steps.Goals as goal
 

@@ -2,7 +2,7 @@ use Rattle.std.proofs.Common.{ap}
 use Rattle.term_nodes.specs.NodeTrees.{test_tree_at, tree_at}
 use Rattle.term_nodes.proofs.TestTrees.{one_id_a_test}
 use Rattle.term_nodes.proofs.TermTrees.{one_id_a_tree}
-use Rattle.partial_derivs.proofs.laws.equal_ids_are_equal_trees.Goals as goal
+use Rattle.term_store.proofs.laws.equal_ids_are_equal_trees.Goals as goal
 
 pub returns : goal.returns
 returns c store is = record {

@@ -7,8 +7,8 @@ use Rattle.term_nodes.specs.NodeLists.{AreNodes}
 use Rattle.term_nodes.specs.TreeParts.{HasParts}
 use Rattle.term_nodes.proofs.Growing.{Grows-itself, Grows-trans}
 use Rattle.term_nodes.proofs.TreeParts.{has_parts}
-use Rattle.partial_derivs.proofs.Found.{found, trees_found}
-use Rattle.partial_derivs.proofs.store.Store.+of_tree.Goals as goal
+use Rattle.term_store.proofs.Found.{found, trees_found}
+use Rattle.term_store.proofs.store.Store.+of_tree.Goals as goal
 
 pub of_tree-returns-in_err-shape-clause-found : goal.of_tree-returns-in_err-shape-clause-found
 of_tree-returns-in_err-shape-clause-found t c =

@@ -1,6 +1,6 @@
 use Rattle.std.proofs.Common.{◌+◌, ◌*◌, max}
 use Rattle.kat_model.proofs.tree.Kat.TheLaws.{the_size}
-use Rattle.partial_derivs.proofs.store.Store.+of_tree.Given as goal
+use Rattle.term_store.proofs.store.Store.+of_tree.Given as goal
 
 -- The measure of the call for both parts lies between the measures of the calls for the whole and for each part.
 abbrev pub decreases-of_tree : goal.decreases-of_tree

@@ -7,8 +7,8 @@ use Rattle.term_nodes.specs.NodeLists.{AreNodes}
 use Rattle.term_nodes.specs.TreeParts.{HasTestParts}
 use Rattle.term_nodes.proofs.Growing.{Grows-itself, Grows-trans}
 use Rattle.term_nodes.proofs.TreeParts.{test_has_parts}
-use Rattle.partial_derivs.proofs.Found.{test_found, tests_found}
-use Rattle.partial_derivs.proofs.store.Store.+of_test.Goals as goal
+use Rattle.term_store.proofs.Found.{test_found, tests_found}
+use Rattle.term_store.proofs.store.Store.+of_test.Goals as goal
 
 pub of_test-returns-in_err-shape-clause-found : goal.of_test-returns-in_err-shape-clause-found
 of_test-returns-in_err-shape-clause-found t c =

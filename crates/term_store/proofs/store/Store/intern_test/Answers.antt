@@ -3,7 +3,7 @@ use Rattle.std.proofs.lemmas.Grind.{common_steps}
 use Rattle.term_nodes.specs.NodeLists.{AreNodes}
 use Rattle.term_nodes.proofs.Insertions.{test_inserted}
 use Rattle.term_nodes.proofs.Growing.{AddsTest-grows, test_interned}
-use Rattle.partial_derivs.proofs.store.Store.intern_test.Goals as goal
+use Rattle.term_store.proofs.store.Store.intern_test.Goals as goal
 
 pub invariant_of-self : goal.invariant_of-self
 invariant_of-self c =
