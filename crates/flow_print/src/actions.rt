@@ -8,12 +8,13 @@ ghost use Rattle.flow_print.specs.ActionTexts.{stays_first as is_still_first, ta
 
 use crate::forms::put_form;
 use crate::names::{FlowNames, put_variable, sort_width, variable_width};
-use crate::writing::{put, put_comma};
+use crate::writing::put_comma;
 use flow_forms::FlowForm;
 use flow_tables::FlowAction;
 use flow_ways::SortedForm;
 use kat_model::NoMemory;
 use std::alloc::Global;
+use text_print::put;
 
 // Returns whether the next part of a list is the first still.
 fn stays_first(first: bool, form: &Option<FlowForm>) -> bool

@@ -8,10 +8,10 @@ ghost use Rattle.flow_print.specs.FormTexts.{form_text, side_end, is_on_side as 
 use crate::forms::{put_form, put_plus, put_times};
 use crate::names::FlowNames;
 use crate::numbers::{is_minus, magnitude, side_number};
-use crate::writing::{put, put_number};
 use flow_forms::{FlowComparison, FlowForm};
 use kat_model::{NoMemory, Width};
 use std::alloc::Global;
+use text_print::{put, put_number};
 
 // Appends the number at the end of a side of an equation.
 fn put_side_end(alloc: Global, out: &mut Vec<u8>, first: bool, number: u64) -> Result<(), NoMemory>

@@ -7,10 +7,11 @@ ghost use Rattle.flow_print.specs.FormTexts.{star_text, plus_text, minus_text, s
 use crate::limits::MAX_SHOWN_NODES;
 use crate::names::{FlowNames, put_function, put_variable, sort_width};
 use crate::numbers::{is_minus, magnitude};
-use crate::writing::{put, put_comma, put_number};
+use crate::writing::put_comma;
 use flow_forms::FlowForm;
 use kat_model::{NoMemory, Width};
 use std::alloc::Global;
+use text_print::{put, put_number};
 
 // Appends the text before a part of a product, unless the part is the first.
 fn put_star(out: &mut Vec<u8>, first: bool) -> Result<(), NoMemory>

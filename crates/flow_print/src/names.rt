@@ -2,10 +2,10 @@
 ghost use Rattle.std.specs.Prelude.{◌≡◌, ◌++◌, OnOk};
 ghost use Rattle.flow_print.specs.NameTables.{names_of, variable_text, function_text, variable_width, sort_width as width_of_sort};
 
-use crate::writing::{put_numbered, put_word};
 use flow_model::Sort;
 use kat_model::{NoMemory, Width};
 use std::alloc::Global;
+use text_print::{put_numbered, put_word};
 
 /// The names of the variables and functions of a flow file, and the sorts of the variables, each in the order of their
 /// numbers. A number without a name is written as `variable7` or `function7`; a variable without a sort counts as one of

@@ -6,12 +6,12 @@ ghost use Rattle.problem_file.specs.Working.Scopes.{IsPlain};
 ghost use Rattle.flow_questions.specs.HypothesisViews.{flow_rule};
 ghost use Rattle.flow_print.specs.ReasonTexts.{two_tests, three_tests, reason_text, is_same_reason, is_new as is_new_reason, reason_before, comments_before, comments_from};
 
-use crate::writing::{put, put_numbered, put_word};
 use flow_questions::FlowRule;
 use kat_model::{NoMemory, Problem};
 use problem_file::put_hyp;
 use std::alloc::Global;
 use text_parser::Scope;
+use text_print::{put, put_numbered, put_word};
 
 // Appends the name of a fact over two tests, and the tests.
 fn put_two(alloc: Global, out: &mut Vec<u8>, name: &str, i: usize, j: usize) -> Result<(), NoMemory>

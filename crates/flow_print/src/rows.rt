@@ -10,12 +10,12 @@ ghost use Rattle.flow_print.specs.FlowTexts.{test_comment, action_comment};
 use crate::actions::put_action;
 use crate::comparisons::put_comparison;
 use crate::names::FlowNames;
-use crate::writing::put;
 use flow_forms::FlowComparison;
 use flow_tables::FlowAction;
 use kat_model::NoMemory;
 use problem_file::{put_action_name, put_test_name};
 use std::alloc::Global;
+use text_print::put;
 
 fn put_test_comment(
     alloc: Global,

@@ -2,10 +2,10 @@
 ghost use Rattle.std.specs.Prelude.{◌≡◌, IfOk};
 ghost use Rattle.kat_report.specs.AbstractRefusals.{abstract_fault_word, abstract_fault_line};
 
-use crate::writing::{put, put_word};
 use abstraction::AbstractFault;
 use kat_model::NoMemory;
 use std::alloc::Global;
+use text_print::{put, put_word};
 
 fn word(fault: &AbstractFault) -> &'static str
     ensures { result.now ≡ abstract_fault_word fault.now }

@@ -2,10 +2,10 @@
 ghost use Rattle.std.specs.Prelude.{◌≡◌, ◌≢◌, ◌++◌, ◌∷◌, [], IfOk, OnOk};
 ghost use Rattle.kat_report.specs.Refusals.{evidence_word, evidence_place, place_text, evidence_fault_line};
 
-use crate::writing::{put_number, put_word};
 use certificate::EvidenceFault;
 use kat_model::NoMemory;
 use std::alloc::Global;
+use text_print::{put_number, put_word};
 
 fn word(fault: &EvidenceFault) -> &'static str
     ensures { result.now ≡ evidence_word fault.now }

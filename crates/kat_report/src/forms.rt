@@ -5,12 +5,11 @@ ghost use Rattle.text_print.specs.Printing.{name_of};
 ghost use Rattle.kat_report.specs.Shows.{plus_text, times_text, form_text, comparison_text};
 ghost use Rattle.kat_report.specs.Working.SumParts.{mono_text, term_text, constant_text};
 
-use crate::writing::{put, put_number};
 use kat_model::NoMemory;
 use linear_forms::{Atomic, Form, Mono, Term};
 use std::alloc::Global;
 use text_parser::{Meaning, Scope};
-use text_print::put_name;
+use text_print::{put, put_name, put_number};
 
 // Writes the text before a part of a sum, unless the part is the first.
 fn put_plus(out: &mut Vec<u8>, first: bool) -> Result<(), NoMemory>

@@ -4,12 +4,12 @@ ghost use Rattle.std.specs.List.{zip};
 ghost use Rattle.problem_file.specs.Working.Scopes.{IsPlain};
 ghost use Rattle.kat_report.specs.Shows.{and_test, rule_text, rule_comment, is_new, hyps_text};
 
-use crate::writing::{put, put_numbered, put_word};
 use abstraction::Rule;
 use kat_model::{NoMemory, Problem};
 use problem_file::put_hyp;
 use std::alloc::Global;
 use text_parser::Scope;
+use text_print::{put, put_numbered, put_word};
 
 // Writes the name of a rule over two tests, and the tests.
 fn put_fact(

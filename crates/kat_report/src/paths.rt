@@ -2,9 +2,9 @@
 ghost use Rattle.std.specs.Prelude.{◌≡◌, ◌++◌, OnOk};
 ghost use Rattle.kat_report.specs.Paths.{dotted, path_text};
 
-use crate::writing::put_numbered;
 use kat_model::NoMemory;
 use std::alloc::Global;
+use text_print::put_numbered;
 
 fn put_dotted(alloc: Global, out: &mut Vec<u8>, path: &[usize]) -> Result<(), NoMemory>
     ensures { OnOk result (out.new.items ≡ out.old.items ++ dotted path.now) }

@@ -4,10 +4,10 @@ ghost use Rattle.std.specs.Fmt.{decimal};
 ghost use Rattle.certificate.specs.Texts.{atom_bits};
 ghost use Rattle.kat_report.specs.Reasons.{atom_text, reason_text, reason_line, no_string_line};
 
-use crate::writing::{put_numbered, put_word};
 use cert_checker::Reason;
 use kat_model::{Items, NoMemory};
 use std::alloc::Global;
+use text_print::{put_numbered, put_word};
 
 fn bit(value: bool) -> u8
     ensures { result ≡ (if value then 49 else 48) }

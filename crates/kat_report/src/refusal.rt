@@ -2,10 +2,10 @@
 ghost use Rattle.std.specs.Prelude.{◌≡◌, ◌≢◌, ◌++◌, ◌∷◌, [], codes, IfOk, OnOk};
 ghost use Rattle.kat_report.specs.Refusals.{fault_word, fault_place, text_fault_line, place_text};
 
-use crate::writing::{put_numbered, put_word};
 use kat_model::NoMemory;
 use std::alloc::Global;
 use text_parser::TextFault;
+use text_print::{put_numbered, put_word};
 
 fn word(fault: &TextFault) -> &'static str
     ensures { result.now ≡ fault_word fault.now }

@@ -2,10 +2,10 @@
 ghost use Rattle.std.specs.Prelude.{◌≡◌, ◌++◌, IfOk, OnOk};
 ghost use Rattle.kat_report.specs.Replays.{literal_text, literals_text, position_line, move_line, moves_text, string_text, finding_line, replay_text, Fits};
 
-use crate::writing::{put_numbered, put_word};
 use kat_model::NoMemory;
 use std::alloc::Global;
 use string_tables::{Finding, GString, Move};
+use text_print::{put_numbered, put_word};
 
 // Appends a space and the test with this number, or its complement if it is false.
 fn put_literal(alloc: Global, out: &mut Vec<u8>, test: usize, value: bool) -> Result<(), NoMemory>

@@ -5,13 +5,12 @@ ghost use Rattle.text_print.specs.Printing.{name_of};
 ghost use Rattle.kat_report.specs.Shows.{test_comment, action_comment};
 
 use crate::forms::{put_comparison, put_form};
-use crate::writing::put;
 use abstraction::{ActionRow, TestRow};
 use kat_model::NoMemory;
 use problem_file::{put_action_name, put_test_name};
 use std::alloc::Global;
 use text_parser::{Meaning, Scope};
-use text_print::put_name;
+use text_print::{put, put_name};
 
 fn put_test_comment(
     alloc: Global,

@@ -4,11 +4,10 @@ ghost use Rattle.std.specs.Fmt.{decimal};
 ghost use Rattle.text_print.specs.Printing.{name_of};
 ghost use Rattle.kat_report.specs.RunTexts.{values_text, outcome_line};
 
-use crate::writing::{put, put_number, put_word};
 use kat_model::NoMemory;
 use std::alloc::Global;
 use text_parser::{Meaning, Scope};
-use text_print::name_of;
+use text_print::{name_of, put, put_number, put_word};
 use while_lang::{Outcome, Store};
 
 fn put_value(alloc: Global, out: &mut Vec<u8>, name: &str, value: u64) -> Result<(), NoMemory>

@@ -7,11 +7,10 @@ ghost use Rattle.while_lang.specs.ProgramViews.{stmt_tree};
 ghost use Rattle.problem_file.specs.ProgramPrinting.{block_pieces};
 ghost use Rattle.problem_file.specs.Working.ProgramTexts.{stmt_text, block_text};
 
-use crate::writing::put;
 use kat_model::{Cond, Expr, NoMemory};
 use std::alloc::Global;
 use text_parser::{Meaning, Scope};
-use text_print::{print_cond, print_expr, put_name};
+use text_print::{print_cond, print_expr, put, put_name};
 use while_lang::{Prog, Stmt};
 
 #[tactic(auto, using(crate::proofs::PrintedPieces::cond_whole))]

@@ -5,11 +5,10 @@ ghost use Rattle.text_print.specs.Printing.{name_of};
 ghost use Rattle.problem_file.specs.ProgramTexts.{width_text, vars_text, prog_text, equal_text, one_program_text};
 
 use crate::print::put_block;
-use crate::writing::put;
 use kat_model::{NoMemory, Width};
 use std::alloc::Global;
 use text_parser::{Meaning, Scope};
-use text_print::put_name;
+use text_print::{put, put_name};
 use while_lang::Prog;
 
 fn put_width(out: &mut Vec<u8>, width: Width) -> Result<(), NoMemory>

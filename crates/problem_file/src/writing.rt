@@ -11,14 +11,7 @@ ghost use Rattle.problem_file.specs.Questions.{plain_name, declaration_text, tes
 use kat_model::{Kat, NoMemory};
 use std::alloc::Global;
 use text_parser::Scope;
-use text_print::print_term;
-
-pub(crate) fn put(out: &mut Vec<u8>, text: &[u8]) -> Result<(), NoMemory>
-    ensures { OnOk result (out.new.items ≡ out.old.items ++ text.now) }
-{
-    out.extend_from_slice(text)?;
-    Ok(())
-}
+use text_print::{print_term, put};
 
 // Appends a letter and a number.
 fn put_name(alloc: Global, out: &mut Vec<u8>, letter: u8, number: usize) -> Result<(), NoMemory>

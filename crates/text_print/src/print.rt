@@ -6,6 +6,7 @@ ghost use Rattle.kat_model.specs.Expressions.{compared, expr_tree, cond_tree};
 ghost use Rattle.text_parser.specs.Pieces.{spelled};
 ghost use Rattle.text_print.specs.Printing.{name_of, relation_text, cond_of, is_star, expr_text, cond_text, test_text, term_text, expr_pieces, cond_pieces, term_pieces};
 
+use crate::writing::put_number;
 use kat_model::{Cond, Expr, Kat, NoMemory, Rel, Test};
 use std::alloc::Global;
 use text_parser::{Meaning, Scope};
@@ -25,14 +26,6 @@ pub fn put_name(out: &mut Vec<u8>, scope: &Scope, meaning: Meaning) -> Result<()
     ensures { OnOk result (out.new.items ≡ out.old.items ++ name_of scope.now meaning) }
 {
     out.extend_from_slice(name_of(scope, meaning).as_bytes())?;
-    Ok(())
-}
-
-fn put_number(alloc: Global, out: &mut Vec<u8>, n: u64) -> Result<(), NoMemory>
-    ensures { OnOk result (out.new.items ≡ out.old.items ++ decimal n) }
-{
-    let numeral = format!(in alloc; "{n}")?;
-    out.extend_from_slice(numeral.as_bytes())?;
     Ok(())
 }
 

@@ -10,13 +10,13 @@ ghost use Rattle.tool_explain.specs.Certificates.{style_text, pairs_line, counts
 
 use crate::signed::{put_action_at, put_test_at};
 use crate::used::{marked_hyps, marked_rules, used_marks};
-use crate::writing::{put, put_numbered};
 use abstraction::{Abstract, Rule};
 use certificate::{Cert, Evidence, Style};
 use kat_model::{Kat, NoMemory};
 use problem_file::put_hyp;
 use std::alloc::Global;
 use text_parser::Scope;
+use text_print::{put, put_numbered};
 use while_lang::File;
 
 fn style_text(style: Style) -> &'static [u8]
@@ -32,7 +32,7 @@ fn style_text(style: Style) -> &'static [u8]
 fn put_pairs_line(alloc: Global, out: &mut Vec<u8>, cert: &Cert) -> Result<(), NoMemory>
     ensures { OnOk result (out.new.items ≡ out.old.items ++ pairs_line cert.now) }
 {
-    put_numbered(alloc, out, b"equal: pairs ", cert.pairs().len())?;
+    put_numbered(alloc, out, "equal: pairs ", cert.pairs().len())?;
     put(out, style_text(cert.style()))
 }
 
@@ -40,14 +40,14 @@ fn put_pairs_line(alloc: Global, out: &mut Vec<u8>, cert: &Cert) -> Result<(), N
 fn put_counts(alloc: Global, out: &mut Vec<u8>, hyps: usize, stated: usize) -> Result<(), NoMemory>
     ensures { OnOk result (out.new.items ≡ out.old.items ++ counts_text hyps stated) }
 {
-    put_numbered(alloc, out, b"hypotheses ", hyps)?;
-    put_numbered(alloc, out, b", stated ", stated)
+    put_numbered(alloc, out, "hypotheses ", hyps)?;
+    put_numbered(alloc, out, ", stated ", stated)
 }
 
 fn put_used(alloc: Global, out: &mut Vec<u8>, used: usize) -> Result<(), NoMemory>
     ensures { OnOk result (out.new.items ≡ out.old.items ++ used_text used) }
 {
-    put_numbered(alloc, out, b", used ", used)?;
+    put_numbered(alloc, out, ", used ", used)?;
     put(out, b"\n")
 }
 

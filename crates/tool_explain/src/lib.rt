@@ -14,7 +14,6 @@ mod signed;
 mod states;
 mod used;
 mod walking;
-mod writing;
 
 pub use explain::{ExplainCommand, explain_bytes};
 pub use laws::{accepted_strings_end, places_are_statements};

@@ -4,12 +4,12 @@ ghost use Rattle.while_lang.specs.Trees.{goal_tree, side_tree};
 ghost use Rattle.tool_explain.specs.Differences.{IsNameOfProg, IsListed, IsSideName, AreSideNames, relation_line, sides_line, triple_line, place_line, blocked_line, at_action_line, ended_line, side_line, goal_lines};
 
 use crate::place::{Place, place_of};
-use crate::writing::{put, put_numbered};
 use abstraction::{Abstract, flow_of};
 use kat_model::NoMemory;
 use kat_report::put_path;
 use std::alloc::Global;
 use string_tables::GString;
+use text_print::{put, put_numbered};
 use while_lang::{File, Goal, Prog, Side};
 
 // Returns the name of the first program of the file that is this program.
@@ -71,7 +71,7 @@ fn put_triple_line(
         out,
         b" relates the ends: the precondition holds at 0, the postcondition fails at ",
     )?;
-    put_numbered(alloc, out, b"", last)?;
+    put_numbered(alloc, out, "", last)?;
     put(out, b"\n")
 }
 
@@ -88,7 +88,7 @@ fn put_ended_line(
     if at == last {
         return put(out, b" has ended\n");
     }
-    put_numbered(alloc, out, b" has ended too early, at ", at)?;
+    put_numbered(alloc, out, " has ended too early, at ", at)?;
     put(out, b"\n")
 }
 
@@ -102,7 +102,7 @@ fn put_blocked_line(
     ensures { OnOk result (out.new.items ≡ out.old.items ++ blocked_line name.now at path.now) }
 {
     put(out, name)?;
-    put_numbered(alloc, out, b" cannot continue at ", at)?;
+    put_numbered(alloc, out, " cannot continue at ", at)?;
     put(out, b": it is at ")?;
     put_path(alloc, out, path)?;
     put(out, b"\n")

@@ -7,13 +7,12 @@ ghost use Rattle.kat_report.specs.Shows.{plus_text, times_text};
 ghost use Rattle.tool_explain.specs.Signed.{is_negative, magnitude, sign_text, signed_text, half_text, still_first, equation_word, order_word, comparison_text, literal_text, action_text, test_at_text, action_at_text};
 ghost use Rattle.tool_explain.specs.Working.FormParts.{mono_text, signed_part, half_term, signed_constant, half_constant};
 
-use crate::writing::{put, put_number};
 use abstraction::{ActionRow, TestRow};
 use kat_model::{NoMemory, Width};
 use linear_forms::{Atomic, Form, Mono, Term};
 use std::alloc::Global;
 use text_parser::{Meaning, Scope};
-use text_print::put_name;
+use text_print::{put, put_name, put_number};
 
 // Returns half of the number of values of the width.
 fn half(width: Width) -> u64

@@ -6,12 +6,12 @@ ghost use Rattle.tool_explain.specs.Signed.{is_same};
 ghost use Rattle.tool_explain.specs.Differences.{comma_text, literals_text, change_text, changes_text, state_line, action_line, moves_text, string_text};
 
 use crate::signed::{put_action_at, put_literal};
-use crate::writing::{put, put_numbered};
 use abstraction::{Abstract, TestRow};
 use kat_model::{NoMemory, Width};
 use std::alloc::Global;
 use string_tables::{GString, Move};
 use text_parser::Scope;
+use text_print::{put, put_numbered};
 
 fn put_comma(out: &mut Vec<u8>, first: bool) -> Result<(), NoMemory>
     ensures { OnOk result (out.new.items ≡ out.old.items ++ comma_text first) }
@@ -102,7 +102,7 @@ fn put_first(
 ) -> Result<(), NoMemory>
     ensures { OnOk result (out.new.items ≡ out.old.items ++ state_line 0 (literals_text (modulus shown.now.width) (name_of scope.now) true shown.now.tests atom.now)) }
 {
-    put_numbered(alloc, out, b"", 0)?;
+    put_numbered(alloc, out, "", 0)?;
     put(out, b":")?;
     put_literals(alloc, out, shown.width, &shown.tests, atom, scope)?;
     put(out, b"\n")
@@ -120,7 +120,7 @@ fn put_state(
 ) -> Result<(), NoMemory>
     ensures { OnOk result (out.new.items ≡ out.old.items ++ state_line state (changes_text (modulus shown.now.width) (name_of scope.now) true shown.now.tests before.now atom.now)) }
 {
-    put_numbered(alloc, out, b"", state)?;
+    put_numbered(alloc, out, "", state)?;
     put(out, b":")?;
     put_changes(alloc, out, shown.width, &shown.tests, before, atom, scope)?;
     put(out, b"\n")

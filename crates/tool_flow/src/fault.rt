@@ -1,5 +1,5 @@
 //! The line that reports why two graphs have no problem.
-ghost use Rattle.std.specs.Prelude.{◌≡◌, ◌≢◌, ◌++◌, IfOk, OnOk};
+ghost use Rattle.std.specs.Prelude.{◌≡◌, ◌≢◌, IfOk};
 ghost use Rattle.flow_questions.specs.declared.fault.FlowFault.TheVariants.{NoMemory as NoRoom};
 ghost use Rattle.tool_inputs.specs.ReplySpecs.{EndsWith};
 ghost use Rattle.tool_flow.specs.FlowFaults.{flow_fault_word, flow_fault_line};
@@ -7,6 +7,7 @@ ghost use Rattle.tool_flow.specs.FlowFaults.{flow_fault_word, flow_fault_line};
 use flow_questions::FlowFault;
 use kat_model::NoMemory;
 use std::alloc::Global;
+use text_print::put;
 use tool_inputs::{EarlyEnd, Reply};
 
 fn word(fault: &FlowFault) -> &'static str
@@ -21,13 +22,6 @@ fn word(fault: &FlowFault) -> &'static str
         FlowFault::TooManyActions => "TooManyActions",
         FlowFault::ProblemTooLarge => "ProblemTooLarge",
     }
-}
-
-fn put(out: &mut Vec<u8>, text: &[u8]) -> Result<(), NoMemory>
-    ensures { OnOk result (out.new.items ≡ out.old.items ++ text.now) }
-{
-    out.extend_from_slice(text)?;
-    Ok(())
 }
 
 fn fault_line(alloc: Global, fault: &FlowFault) -> Result<Vec<u8>, NoMemory>

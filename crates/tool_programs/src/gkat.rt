@@ -16,7 +16,7 @@ use kat_model::NoMemory;
 use problem_file::put_goal;
 use std::alloc::Global;
 use text_parser::{Meaning, Scope};
-use text_print::put_name;
+use text_print::{put, put_name};
 use tool_inputs::{EarlyEnd, Reply, TextCommand, reply_to_text, text_fault_stop};
 
 // The kinds of names that a text of GKAT declares.
@@ -44,13 +44,6 @@ impl Kind {
             Kind::Action => Meaning::Action(k),
         }
     }
-}
-
-fn put(out: &mut Vec<u8>, text: &[u8]) -> Result<(), NoMemory>
-    ensures { OnOk result (out.new.items ≡ out.old.items ++ text.now) }
-{
-    out.extend_from_slice(text)?;
-    Ok(())
 }
 
 // Appends the declaration of the first `count` names of a kind, or nothing if `count` is 0.

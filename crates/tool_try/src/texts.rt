@@ -1,23 +1,14 @@
 //! The lines of `try`.
 ghost use Rattle.std.specs.Prelude.{◌≡◌, ◌++◌, OnOk, IfOk};
-ghost use Rattle.std.specs.Fmt.{decimal};
 ghost use Rattle.tool_try.specs.TryTexts.{comma_text, item_text, items_text, store_text, ends_text, trial_text, trial_status, not_concrete_line};
 
 use kat_model::NoMemory;
 use kat_report::outcome_line;
 use std::alloc::Global;
-use std::fmt::Write;
 use store_trials::{RunEnd, Trial};
 use text_parser::{Meaning, Scope};
-use text_print::put_name;
+use text_print::{put_name, put_number};
 use while_lang::Store;
-
-fn put_number(alloc: Global, out: &mut Vec<u8>, number: u64) -> Result<(), NoMemory>
-    ensures { OnOk result (out.new.items ≡ out.old.items ++ decimal number) }
-{
-    out.extend_from_slice(format!(in alloc; "{number}")?.as_bytes())?;
-    Ok(())
-}
 
 // Writes a comma before all variables but the first.
 fn put_comma(out: &mut Vec<u8>, var: usize) -> Result<(), NoMemory>
