@@ -7,7 +7,7 @@ use Rattle.std.proofs.lemmas.List.Sums.{sum_by-cons, sum_by-append, sum_by_push,
 use Rattle.std.proofs.lemmas.List.Elements.{All-nil, All-cons, All-head, All-append, All-push, All-take, All-drop, All-map}
 use Rattle.while_lang.specs.Programs.{ProgTree, empty, skip_then, abort_then, assert_then, act_then, assign_then, branch_then, loop_then, statements}
 use Rattle.while_lang.specs.ProgramSizes.{prog_size, largest_in}
-use Rattle.problem_file.specs.ProgramPrinting.{stmts_nesting, block_levels}
+use Rattle.while_lang.specs.ProgramPrinting.{stmts_nesting, block_levels}
 use Rattle.one_loop.specs.Sizes.{IsSmallForm}
 use Rattle.one_loop.specs.Working.Machine.{Point, passes, stops, checks, sets, chooses, start_of, points_of}
 use Rattle.one_loop.specs.Working.Blocks.{block_of, Chooses, no_block, one_block, two_parts, is_below, loop_from, IsPointLoop}

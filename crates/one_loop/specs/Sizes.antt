@@ -2,7 +2,7 @@
 use Rattle.std.specs.Prelude.{◌≤◌, ◌<◌, ◌+◌, ◌*◌, ◌^◌, ℕ, max}
 use Rattle.while_lang.specs.Programs.{ProgTree, statements}
 use Rattle.while_lang.specs.ProgramSizes.{prog_size, largest_in}
-use Rattle.problem_file.specs.ProgramPrinting.{block_levels}
+use Rattle.while_lang.specs.ProgramPrinting.{block_levels}
 use Rattle.while_lang.specs.Leaves.{Anything, EveryLeaf}
 
 -- each number of the program is below m

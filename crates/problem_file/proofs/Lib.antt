@@ -1,6 +1,3 @@
-pub mod PrintedPieces
-pub mod SeparatePrograms
-pub mod PrintedBlocks
 pub mod PlainNames
 pub mod PlainScopes
 pub mod ScopeNames
@@ -26,7 +23,6 @@ pub mod NameWalks
 pub mod ReadFaults
 pub mod ItemParts
 pub mod FollowedParts
-pub mod PrintedStatements
 pub mod PhraseFronts
 pub mod Appends
 pub mod FoundItems

@@ -19,7 +19,7 @@ use Rattle.text_print.specs.Printing.{relation_text, spaced, expr_pieces, cond_p
 use Rattle.text_print.proofs.WordTerminals.{relation_terminal, name_terminal, zero_written, one_written, number_is}
 use Rattle.text_print.proofs.PrintedPhrases.{lexemes_from}
 use Rattle.while_lang.specs.Programs.{ProgTree, empty, skip_then, abort_then, assert_then, act_then, assign_then, branch_then, loop_then}
-use Rattle.problem_file.specs.ProgramPrinting.{keyword_pieces, in_curly, stmts_pieces, block_pieces, ProgIsNamed}
+use Rattle.while_lang.specs.ProgramPrinting.{keyword_pieces, in_curly, stmts_pieces, block_pieces, ProgIsNamed}
 use Rattle.problem_file.specs.Numbers.{IsNarrow, AreNarrow}
 use Rattle.problem_file.specs.ProgramNumbers.{ExprIsNarrow, CondIsNarrow, ProgIsNarrow}
 use Rattle.problem_file.proofs.ProgramScopes.{below_64}

@@ -16,12 +16,12 @@ use Rattle.text_print.specs.Printing.{cond_pieces, CondIsNamed}
 use Rattle.text_print.proofs.PrintedPhrases.{lexemes_from, leaf}
 use Rattle.text_print.proofs.PrintedConds.{EndsCond, cond_back}
 use Rattle.while_lang.specs.Programs.{ProgTree}
-use Rattle.problem_file.specs.ProgramPrinting.{block_pieces, ProgIsNamed, block_levels}
+use Rattle.while_lang.specs.ProgramPrinting.{block_pieces, ProgIsNamed, block_levels}
 use Rattle.while_lang.specs.NamedProgs.{ProgParts}
 use Rattle.while_lang.specs.BlockPhrases.{block, BlockPhrase, braced, block_before, BlockObeys, BlockFits}
 use Rattle.while_lang.specs.BlockSound.{block_nesting}
 use Rattle.while_lang.proofs.BlockMeasures.{prog_of-stmts_of}
-use Rattle.problem_file.proofs.PrintedBlocks.{stmts_begin}
+use Rattle.while_lang.proofs.PrintedBlocks.{stmts_begin}
 use Rattle.problem_file.specs.Numbers.{AreNarrow}
 use Rattle.problem_file.specs.Sound.{IsCond, IsBlock}
 use Rattle.problem_file.proofs.Appends.{block_append}

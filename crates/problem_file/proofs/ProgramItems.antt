@@ -22,7 +22,7 @@ use Rattle.text_print.proofs.WordTerminals.{name_terminal}
 use Rattle.text_print.proofs.PrintedPhrases.{lexemes_from, leaf}
 use Rattle.while_lang.specs.Programs.{ProgTree}
 use Rattle.while_lang.specs.ProgramSizes.{prog_size}
-use Rattle.problem_file.specs.ProgramPrinting.{block_pieces, ProgIsNamed, block_levels}
+use Rattle.while_lang.specs.ProgramPrinting.{block_pieces, ProgIsNamed, block_levels}
 use Rattle.while_lang.specs.BlockPhrases.{block_before, BlockObeys}
 use Rattle.while_lang.specs.Files.{prog_side, prog_meant, equal, triple}
 use Rattle.problem_file.specs.Files.{State, most_goals, width_of, width_with, with_width, add_prog, state_goal}

@@ -14,10 +14,10 @@ use Rattle.text_print.specs.Printing.{cond_text, cond_pieces, CondIsNamed}
 use Rattle.text_print.proofs.PieceTexts.{cond_spells}
 use Rattle.text_print.proofs.Separate.{EndsWords, cond_separate}
 use Rattle.while_lang.specs.Programs.{ProgTree}
-use Rattle.problem_file.specs.ProgramPrinting.{block_pieces, ProgIsNamed}
-use Rattle.problem_file.specs.Working.ProgramTexts.{stmts_text}
-use Rattle.problem_file.proofs.PrintedPieces.{stmts_spell}
-use Rattle.problem_file.proofs.SeparatePrograms.{open_alone, semicolon_ends, block_separate}
+use Rattle.while_lang.specs.ProgramPrinting.{block_pieces, ProgIsNamed}
+use Rattle.while_lang.specs.BlockTexts.{stmts_text}
+use Rattle.while_lang.proofs.PrintedPieces.{stmts_spell}
+use Rattle.while_lang.proofs.SeparatePrograms.{open_alone, semicolon_ends, block_separate}
 use Rattle.problem_file.specs.ProgramTexts.{width_text, vars_text, prog_text, equal_text, one_program_text, var_name, programs_text, triple_text}
 use Rattle.problem_file.proofs.PlainPieces.{declaration_pieces, declaration_spells, declaration_separate, AreIdentifiers}
 

@@ -15,7 +15,7 @@ use Rattle.text_parser.specs.ScopeParts.{ScopeParts, IsUndeclared, declared}
 use Rattle.text_print.specs.Printing.{CondIsNamed}
 use Rattle.while_lang.specs.Programs.{ProgTree}
 use Rattle.while_lang.specs.ProgramSizes.{prog_size}
-use Rattle.problem_file.specs.ProgramPrinting.{ProgIsNamed}
+use Rattle.while_lang.specs.ProgramPrinting.{ProgIsNamed}
 use Rattle.while_lang.specs.Concrete.{IsConcrete}
 use Rattle.while_lang.specs.Files.{prog_side, GoalTree, prog_meant, equal, triple}
 use Rattle.problem_file.specs.Files.{State, rounds_of, width_of, file_of}

@@ -16,7 +16,7 @@ use Rattle.text_parser.specs.ScopeParts.{ScopeParts, meaning, Means, IsUndeclare
 use Rattle.text_parser.proofs.Inverse.{insert_extends}
 use Rattle.text_print.specs.Printing.{ExprIsNamed, CondIsNamed}
 use Rattle.while_lang.specs.Programs.{ProgTree, empty, skip_then, abort_then, assert_then, act_then, assign_then, branch_then, loop_then}
-use Rattle.problem_file.specs.ProgramPrinting.{ProgIsNamed}
+use Rattle.while_lang.specs.ProgramPrinting.{ProgIsNamed}
 use Rattle.while_lang.specs.Ranges.{IsExprInRange, IsCondInRange, IsProgInRange}
 use Rattle.problem_file.specs.ProgramNumbers.{ExprIsNarrow, CondIsNarrow, ProgIsNarrow}
 use Rattle.problem_file.specs.ProgramTexts.{var_name, AreVarNames}

@@ -1,5 +1,3 @@
-pub mod ProgramPrinting
-pub mod PrintLaws
 pub mod Working
 pub mod Questions
 pub mod NamedTexts

@@ -16,7 +16,7 @@ use Rattle.text_parser.specs.Sizes.{cond_size, largest_expr}
 use Rattle.text_print.specs.Printing.{cond_text, cond_nesting}
 use Rattle.while_lang.specs.Programs.{ProgTree}
 use Rattle.while_lang.specs.ProgramSizes.{prog_size, largest_in}
-use Rattle.problem_file.specs.ProgramPrinting.{block_pieces, block_levels}
+use Rattle.while_lang.specs.ProgramPrinting.{block_pieces, block_levels}
 use Rattle.while_lang.specs.Ranges.{IsCondInRange, IsProgInRange}
 use Rattle.problem_file.specs.Questions.{declaration_text}
 use Rattle.problem_file.specs.ProgramNumbers.{CondIsNarrow, ProgIsNarrow}

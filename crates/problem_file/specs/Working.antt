@@ -1,4 +1,3 @@
-pub mod ProgramTexts
 pub mod Scopes
 pub mod Numbers
 pub mod Walks

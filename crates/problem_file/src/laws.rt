@@ -13,7 +13,6 @@ ghost use Rattle.problem_file.specs.NamedTexts.{named_text, IsNamedPrintable};
 ghost use Rattle.problem_file.specs.Questions.{question_text, IsPrintable};
 ghost use Rattle.problem_file.specs.ProgramTexts.{one_program_text, programs_text, triple_text, IsOnePrintable, ArePrintable, IsTriplePrintable};
 ghost use Rattle.problem_file.specs.TextLaws.{AsksEqual, AsksOfPrograms, SaysProgram};
-ghost use Rattle.problem_file.specs.PrintLaws.{PrintedReadsBack};
 
 /// The syntax check accepts all tokens exactly when they are one phrase `file` of the grammar and nothing in them is
 /// too deep or too wide.
@@ -78,10 +77,4 @@ pub fn plain_triples_read_back()
 pub fn named_programs_read_back()
     ensures { (names : Meaning → List ℕ) (w : Width) (v : ℕ) (name : List ℕ) (p : ProgTree) → IsOnePrintable names w v name p
         → SaysProgram (one_program_text names w v name p) names w v name p }
-{}
-
-/// A printed program reads back as the same program with no tokens left, if the text, the sizes of the program and the
-/// nesting of the text are within the limits.
-pub fn printed_programs_read_back()
-    ensures { PrintedReadsBack }
 {}

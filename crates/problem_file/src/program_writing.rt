@@ -4,12 +4,11 @@ ghost use Rattle.std.specs.Prelude.{◌≡◌, ◌++◌, OnOk, IfOk};
 ghost use Rattle.text_print.specs.Printing.{name_of};
 ghost use Rattle.problem_file.specs.ProgramTexts.{width_text, vars_text, prog_text, equal_text, one_program_text};
 
-use crate::print::put_block;
 use kat_model::{NoMemory, Width};
 use std::alloc::Global;
 use text_parser::{Meaning, Scope};
 use text_print::{put, put_name};
-use while_lang::Prog;
+use while_lang::{Prog, put_block};
 
 fn put_width(out: &mut Vec<u8>, width: Width) -> Result<(), NoMemory>
     ensures { OnOk result (out.new.items ≡ out.old.items ++ width_text width) }

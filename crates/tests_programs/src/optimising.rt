@@ -3,10 +3,11 @@ ghost use Rattle.while_lang.specs.Ranges.{IsNumbered};
 
 use kat_model::NoMemory;
 use optimiser_steps::{Ended, LogLine, Optimised, optimise};
-use problem_file::{File, print_prog, read};
+use problem_file::{File, read};
 use std::alloc::Global;
 use std::test::Fail;
 use text_parser::{Scope, TextFault};
+use while_lang::print_prog;
 
 // Whether the log has no step, or only this one, at the first statement.
 fn are_steps(log: &[LogLine], step: Option<u8>) -> bool {

@@ -5,11 +5,10 @@ ghost use Rattle.kat_model.specs.declared.expression.Width.{Width};
 
 use crate::fixtures::{cut, is_so, sample};
 use kat_model::{NoMemory, Width};
-use problem_file::print_prog;
 use std::alloc::Global;
 use std::test::Fail;
 use text_parser::{Scope, TextFault};
-use while_lang::{Outcome, Prog, Store, read_block, run};
+use while_lang::{Outcome, Prog, Store, print_prog, read_block, run};
 
 fn prog_of(alloc: Global, text: &str, scope: &Scope) -> Result<Prog, TextFault> {
     let found = cut(alloc, text)?;

@@ -5,10 +5,10 @@ ghost use Rattle.tool_decide.specs.LogTexts.{step_line, log_text, end_line, opti
 use kat_model::NoMemory;
 use kat_report::put_path;
 use optimiser_steps::{Ended, LogLine, Optimised};
-use problem_file::print_prog;
 use std::alloc::Global;
 use std::fmt::Write;
 use text_parser::Scope;
+use while_lang::print_prog;
 
 fn put_step(alloc: Global, out: &mut Vec<u8>, line: &LogLine) -> Result<(), NoMemory>
     ensures { OnOk result (out.new.items ≡ out.old.items ++ step_line line.now) }

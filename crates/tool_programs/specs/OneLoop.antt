@@ -9,7 +9,7 @@ use Rattle.text_parser.specs.ScopeParts.{ScopeParts, IsDeclared, IsUndeclared, I
 use Rattle.text_print.specs.Printing.{name_of}
 use Rattle.while_lang.specs.Programs.{ProgTree, statements}
 use Rattle.while_lang.specs.ProgramSizes.{prog_size, largest_in}
-use Rattle.problem_file.specs.ProgramPrinting.{block_levels}
+use Rattle.while_lang.specs.ProgramPrinting.{block_levels}
 use Rattle.one_loop.specs.declared.fault.OneLoopFault.{OneLoopFault}
 use Rattle.one_loop.specs.declared.fault.OneLoopFault.TheVariants.{NoMemory, TooManyVars, TooManyStatements}
 use Rattle.tool_programs.specs.FormFaults.{form_fault_line}

@@ -18,3 +18,7 @@ pub mod ScannedBlocks
 pub mod BlockScanFaults
 pub mod BlockNestings
 pub mod BlockMeasures
+pub mod PrintedPieces
+pub mod SeparatePrograms
+pub mod PrintedBlocks
+pub mod PrintedStatements

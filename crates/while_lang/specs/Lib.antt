@@ -28,3 +28,6 @@ pub mod BlockReadings
 pub mod BlockSound
 pub mod BlockLaws
 pub mod Working
+pub mod ProgramPrinting
+pub mod PrintLaws
+pub mod BlockTexts

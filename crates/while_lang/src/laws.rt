@@ -9,6 +9,7 @@ ghost use Rattle.while_lang.specs.Runs.{HasOneOutcome};
 ghost use Rattle.while_lang.specs.Flows.{FlowTree};
 ghost use Rattle.while_lang.specs.Encoding.{encoded};
 ghost use Rattle.while_lang.specs.Laws.{LoopsAgain};
+ghost use Rattle.while_lang.specs.PrintLaws.{PrintedReadsBack};
 
 /// For each concrete program, store and number of turns, exactly one of these holds, with exactly one store: the
 /// program ends, it reaches an `abort` or an `assert` that fails, or it reaches a loop body with no turn left.
@@ -24,4 +25,10 @@ pub fn loops_unfold()
 /// The term of a flow is guarded, so the bound on pairs of guarded terms applies to programs.
 pub fn flows_are_guarded()
     ensures { (f : FlowTree) → IsGuarded (encoded f) }
+{}
+
+/// A printed program reads back as the same program with no tokens left, if the text, the sizes of the program and the
+/// nesting of the text are within the limits.
+pub fn printed_programs_read_back()
+    ensures { PrintedReadsBack }
 {}

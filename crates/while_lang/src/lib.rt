@@ -1,5 +1,6 @@
-//! While programs: their texts, their runs on stores, and their terms; and the parts of a problem file: names, programs,
-//! hypotheses and a goal.
+//! While programs: their texts, their runs on stores, and their terms.
+//!
+//! Programs are read, printed, run and encoded; and the parts of a problem file: names, programs, hypotheses and a goal.
 #![tactic(auto)]
 
 mod block_build;
@@ -16,6 +17,7 @@ mod laws;
 mod named;
 mod numbered;
 mod outcome;
+mod print;
 mod prog;
 mod runs;
 mod size;
@@ -31,9 +33,10 @@ pub use block_scan::block_end;
 pub use blocks::enter;
 pub use file::{File, Goal, Side, prog_meant};
 pub use flow::{Flow, Flows, branch_term, encode, loop_term};
-pub use laws::{flows_are_guarded, loops_unfold, runs_have_one_end};
+pub use laws::{flows_are_guarded, loops_unfold, printed_programs_read_back, runs_have_one_end};
 pub use named::NamedProg;
 pub use outcome::Outcome;
+pub use print::{print_prog, put_block};
 pub use prog::{Prog, Stmt, copy_stmt, push_stmt};
 pub use runs::run;
 pub use store::Store;

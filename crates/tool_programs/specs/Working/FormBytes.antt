@@ -21,7 +21,7 @@ use Rattle.text_parser.specs.Sizes.{expr_size, cond_size}
 use Rattle.text_print.specs.Printing.{relation_text, spaced, expr_pieces, cond_pieces}
 use Rattle.while_lang.specs.Programs.{ProgTree, empty, skip_then, abort_then, assert_then, act_then, assign_then, branch_then, loop_then}
 use Rattle.while_lang.specs.ProgramSizes.{prog_size}
-use Rattle.problem_file.specs.ProgramPrinting.{keyword_pieces, in_curly, stmts_pieces, block_pieces}
+use Rattle.while_lang.specs.ProgramPrinting.{keyword_pieces, in_curly, stmts_pieces, block_pieces}
 use Rattle.while_lang.specs.Ranges.{IsExprInRange, IsCondInRange, IsProgInRange}
 use Rattle.problem_file.specs.Questions.{declaration_text}
 use Rattle.problem_file.specs.ProgramNumbers.{ExprIsNarrow, CondIsNarrow, ProgIsNarrow}

@@ -5,8 +5,8 @@ use Rattle.text_parser.specs.declared.meaning.Meaning.{Meaning}
 use Rattle.text_print.specs.Printing.{name_of}
 use Rattle.while_lang.specs.Programs.{ProgTree}
 use Rattle.problem_file.specs.ProgramTexts.{prog_text}
-use Rattle.problem_file.specs.Working.ProgramTexts.{block_text}
-use Rattle.problem_file.proofs.PrintedPieces.{block_spelled}
+use Rattle.while_lang.specs.BlockTexts.{block_text}
+use Rattle.while_lang.proofs.PrintedPieces.{block_spelled}
 use Rattle.problem_file.proofs.program_writing.put_prog.Goals as goal
 
 joined : (out x name y block z : List ℕ) → out ++ x ++ name ++ y ++ block ++ z ≡ out ++ (x ++ name ++ y ++ block ++ z)

@@ -8,7 +8,7 @@ use Rattle.text_parser.specs.declared.meaning.Meaning.{Meaning}
 use Rattle.while_lang.specs.Programs.{ProgTree, StmtTree, skip, abort, assert, act, assign, branch, loop, with_stmt}
 use Rattle.while_lang.specs.ProgramViews.{stmt_tree, list_tree}
 use Rattle.while_lang.specs.declared.prog.Stmt.{Stmt}
-use Rattle.problem_file.specs.Working.ProgramTexts.{assign_text, stmts_text, block_text, stmt_text}
+use Rattle.while_lang.specs.BlockTexts.{assign_text, stmts_text, block_text, stmt_text}
 
 module _ (names : Meaning → List ℕ) where
   text_of_first : (s : StmtTree) (rest : ProgTree) → stmts_text names (with_stmt s rest) ≡ stmt_text names s ++ stmts_text names rest

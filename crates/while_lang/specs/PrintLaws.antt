@@ -11,7 +11,7 @@ use Rattle.while_lang.specs.ProgramSizes.{prog_size, largest_in}
 use Rattle.while_lang.specs.NamedProgs.{ProgParts}
 use Rattle.while_lang.specs.BlockReadings.{block_at}
 use Rattle.while_lang.specs.BlockLaws.{AreLimited}
-use Rattle.problem_file.specs.ProgramPrinting.{block_pieces, ProgIsNamed, block_levels}
+use Rattle.while_lang.specs.ProgramPrinting.{block_pieces, ProgIsNamed, block_levels}
 
 -- a program printed with the only name of each meaning reads back as the same program with no tokens left, if the text,
 -- the sizes of the program and the nesting of the text are within the limits

@@ -30,7 +30,7 @@ use Rattle.text_print.proofs.PrintedReadings.{read_as, inside_ok}
 use Rattle.while_lang.specs.Programs.{ProgTree, empty, skip_then, abort_then, assert_then, act_then, assign_then, branch_then, loop_then, prog_of, stmts_of}
 use Rattle.while_lang.specs.Programs.{StmtTree, skip, abort, assert, act, assign, branch as branch_stmt, loop}
 use Rattle.while_lang.specs.ProgramSizes.{prog_size, largest_in}
-use Rattle.problem_file.specs.ProgramPrinting.{keyword_pieces, in_curly, stmts_pieces, block_pieces, ProgIsNamed, stmts_nesting, block_levels}
+use Rattle.while_lang.specs.ProgramPrinting.{keyword_pieces, in_curly, stmts_pieces, block_pieces, ProgIsNamed, stmts_nesting, block_levels}
 use Rattle.while_lang.specs.NamedProgs.{ProgParts}
 use Rattle.while_lang.specs.BlockPhrases.{BlockSymbol, block, stmts, stmt, BlockPhrase, braced, no_stmts, more_stmts, skip_stmt, abort_stmt, assert_stmt, name_stmt, assign_stmt, if_stmt, while_stmt, else_block}
 use Rattle.while_lang.specs.BlockPhrases.{block_before, BlockObeys, BlockFits}
@@ -40,12 +40,12 @@ use Rattle.while_lang.specs.BlockMeasuring.{extent, block_extents}
 use Rattle.while_lang.specs.BlockReadings.{measured_block, built_block, block_at}
 use Rattle.while_lang.specs.BlockSound.{IsStmtName, BlockIsSound, name_nesting, block_nesting}
 use Rattle.while_lang.specs.BlockLaws.{AreLimited}
-use Rattle.problem_file.specs.PrintLaws.{PrintedReadsBack}
+use Rattle.while_lang.specs.PrintLaws.{PrintedReadsBack}
 use Rattle.while_lang.proofs.ScannedBlocks.{enters}
 use Rattle.while_lang.proofs.BlockCompleteness.{parsed}
 use Rattle.while_lang.proofs.BlockNestings.{sound_measured}
 use Rattle.while_lang.proofs.BlockMeasures.{block_measured, prog_of-stmts_of}
-use Rattle.problem_file.proofs.SeparatePrograms.{block_separate}
+use Rattle.while_lang.proofs.SeparatePrograms.{block_separate}
 
 module _ (w : ScopeParts) (progs : List ProgParts) where
   -- the phrase adds the statements `xs` and has nesting `levels`

@@ -4,14 +4,14 @@ ghost use Rattle.kat_model.specs.Expressions.{expr_tree, cond_tree};
 ghost use Rattle.text_parser.specs.Pieces.{spelled};
 ghost use Rattle.text_print.specs.Printing.{name_of, expr_text, cond_text};
 ghost use Rattle.while_lang.specs.ProgramViews.{stmt_tree};
-ghost use Rattle.problem_file.specs.ProgramPrinting.{block_pieces};
-ghost use Rattle.problem_file.specs.Working.ProgramTexts.{stmt_text, block_text};
+ghost use Rattle.while_lang.specs.ProgramPrinting.{block_pieces};
+ghost use Rattle.while_lang.specs.BlockTexts.{stmt_text, block_text};
 
+use crate::prog::{Prog, Stmt};
 use kat_model::{Cond, Expr, NoMemory};
 use std::alloc::Global;
 use text_parser::{Meaning, Scope};
 use text_print::{print_cond, print_expr, put, put_name};
-use while_lang::{Prog, Stmt};
 
 #[tactic(auto, using(crate::proofs::PrintedPieces::cond_whole))]
 fn put_cond(alloc: Global, out: &mut Vec<u8>, cond: &Cond, scope: &Scope) -> Result<(), NoMemory>
@@ -87,9 +87,10 @@ fn put_stmt(alloc: Global, out: &mut Vec<u8>, stmt: &Stmt, scope: &Scope) -> Res
     }
 }
 
-// Appends a program as a block, with a blank before each statement and before the closing brace.
+/// Appends a program as a block, with a blank before each statement and before the closing brace. Fails only when out of
+/// memory; a part may then be written.
 #[cycle(prints)]
-pub(crate) fn put_block(
+pub fn put_block(
     alloc: Global,
     out: &mut Vec<u8>,
     prog: &Prog,

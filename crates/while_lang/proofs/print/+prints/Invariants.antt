@@ -1,8 +1,8 @@
 use Rattle.std.proofs.Common.{◌≡◌, ◌++◌, drop}
 use Rattle.text_print.specs.Printing.{name_of}
 use Rattle.while_lang.specs.ProgramViews.{list_tree}
-use Rattle.problem_file.specs.Working.ProgramTexts.{stmts_text}
-use Rattle.problem_file.proofs.print.+prints.Given as goal
+use Rattle.while_lang.specs.BlockTexts.{stmts_text}
+use Rattle.while_lang.proofs.print.+prints.Given as goal
 
 -- the text so far and that of the remaining statements are the whole text
 abbrev pub invariant-put_block-loop-stmt : goal.invariant-put_block-loop-stmt

@@ -9,8 +9,8 @@ use Rattle.text_parser.specs.declared.meaning.Meaning.TheVariants.{Action, Var}
 use Rattle.text_print.specs.Printing.{expr_text, cond_text, expr_pieces, cond_pieces}
 use Rattle.text_print.proofs.PieceTexts.{expr_spells, cond_spells}
 use Rattle.while_lang.specs.Programs.{ProgTree, empty, skip_then, abort_then, assert_then, act_then, assign_then, branch_then, loop_then}
-use Rattle.problem_file.specs.ProgramPrinting.{keyword_pieces, in_curly, stmts_pieces, block_pieces}
-use Rattle.problem_file.specs.Working.ProgramTexts.{stmts_text, block_text}
+use Rattle.while_lang.specs.ProgramPrinting.{keyword_pieces, in_curly, stmts_pieces, block_pieces}
+use Rattle.while_lang.specs.BlockTexts.{stmts_text, block_text}
 
 -- the pieces spell `text` before the pieces that follow
 abbrev Spell : (List Piece → List Piece) → List ℕ → Type 0

@@ -2,8 +2,8 @@ use Rattle.std.proofs.lemmas.Result.{IfOk-equal}
 use Rattle.kat_model.specs.Expressions.{expr_tree, cond_tree}
 use Rattle.text_parser.specs.declared.meaning.Meaning.TheVariants.{Var}
 use Rattle.text_print.specs.Printing.{name_of}
-use Rattle.problem_file.proofs.PrintedStatements.{text_more, assign_written, branch_written, loop_written}
-use Rattle.problem_file.proofs.print.+prints.Goals as goal
+use Rattle.while_lang.proofs.PrintedStatements.{text_more, assign_written, branch_written, loop_written}
+use Rattle.while_lang.proofs.print.+prints.Goals as goal
 
 pub put_stmt-returns-in-Assert : goal.put_stmt-returns-in-Assert
 put_stmt-returns-in-Assert t c = rw (c.in-Assert.is) c.put_guard.ensures
