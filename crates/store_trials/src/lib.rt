@@ -1,7 +1,6 @@
 //! Trying a goal on stores: the stores, those from which a string can be followed, and what runs from a store show.
 #![tactic(auto)]
 
-mod conditions;
 mod draws;
 mod followed;
 mod laws;

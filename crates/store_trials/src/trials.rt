@@ -7,12 +7,11 @@ ghost use Rattle.while_lang.specs.Files.{equal, triple, prog_side};
 ghost use Rattle.while_lang.specs.Trees.{goal_tree, side_tree};
 ghost use Rattle.store_trials.specs.Trials.{SideEndsAs, AreDifferent, OutcomeFails, AreEnds, ShowFalse, cut_of, cuts, IsTrial, IsConcreteSide, IsConcreteGoal};
 
-use crate::conditions::holds;
 use crate::stores::copy;
 use kat_model::{Cond, Items, NoMemory, Width};
 use std::alloc::Global;
 use std::marker::Model;
-use while_lang::{Goal, Outcome, Prog, Side, Store, run};
+use while_lang::{Goal, Outcome, Prog, Side, Store, holds, run};
 
 /// How a run ends, and the store that it reached.
 #[derive(Drop)]

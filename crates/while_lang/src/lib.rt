@@ -39,4 +39,4 @@ pub use outcome::Outcome;
 pub use print::{print_prog, put_block};
 pub use prog::{Prog, Stmt, copy_stmt, push_stmt};
 pub use runs::run;
-pub use store::Store;
+pub use store::{Store, holds};

@@ -72,8 +72,8 @@ fn compares(rel: Rel, left: u64, right: u64) -> bool
     }
 }
 
-// Whether a condition holds in the store. A named test is false.
-pub(crate) fn holds(width: Width, cond: &Cond, store: &[u64]) -> bool
+/// Whether a condition holds in the store. A named test is false.
+pub fn holds(width: Width, cond: &Cond, store: &[u64]) -> bool
     requires { IsStore width store.now }
     ensures { result ≡ holds width store.now (cond_tree cond.now) }
 {
