@@ -12,7 +12,7 @@ use Rattle.while_lang.specs.Files.{FileParts}
 use Rattle.abstraction.specs.declared.fault.AbstractFault.TheVariants.{TooManyTests, TooManyActions, ProblemTooLarge}
 use Rattle.abstraction.specs.Tables.{Tables, first_comparisons, file_assignments}
 use Rattle.abstraction.specs.Rounds.{tables_of}
-use Rattle.abstraction.specs.Facts.{Hypothesis, TestRowOf, fact_one, fact_two, fact_three, fact_four, fact_five, fact_six}
+use Rattle.abstraction.specs.Facts.{Hypothesis, TestRowOf, apart_fact, order_fact, equality_fact, bound_fact, constant_fact, three_way_fact}
 use Rattle.abstraction.specs.Derived.{stated_from, assignment_facts, test_rows, action_rows, of_pairs, derived, hypotheses}
 use Rattle.abstraction.specs.Abstracts.{AbstractParts, file_problem, abstract_parts, abstract_of, HasNumbersInRange}
 use Rattle.abstraction.specs.StoreFrames.{Sets, store_frame}
@@ -22,7 +22,7 @@ use Rattle.abstraction.proofs.EachDerived.{All-of_pairs, All-slice_get_past}
 use Rattle.abstraction.proofs.TableForms.{assignments_in_range, comparisons_atomic}
 use Rattle.kat_model.proofs.RelatesNothing.{RelatesNone}
 use Rattle.abstraction.proofs.TestRows.{IsTestRow}
-use Rattle.abstraction.proofs.FactsHold.{HoldsIn, fact_one_holds, fact_two_holds, fact_three_holds, fact_four_holds, fact_five_holds, fact_six_holds}
+use Rattle.abstraction.proofs.FactsHold.{HoldsIn, apart_fact_holds, order_fact_holds, equality_fact_holds, bound_fact_holds, constant_fact_holds, three_way_fact_holds}
 use Rattle.abstraction.proofs.AssignmentFacts.{IsActionRow, assignment_facts_hold}
 use Rattle.abstraction.proofs.StoreRows.{are_test_rows, are_action_rows}
 
@@ -43,11 +43,11 @@ module _ (frame : Frame Store) (t : Tables) (tests : All (IsTestRow (modulus t.w
       All-of_pairs (HoldsIn frame) (IsActionRow m frame) (IsTestRow m frame.atom) (assignment_facts t)
       (assignment_facts_hold frame t tests) (action_rows t) (test_rows t) actions tests
 
-  of_threes : Each (flat_map (λ a. of_pairs (fact_six m a) (test_rows t) (test_rows t)) (test_rows t))
+  of_threes : Each (flat_map (λ a. of_pairs (three_way_fact m a) (test_rows t) (test_rows t)) (test_rows t))
   of_threes =
-      All-flat_map (HoldsIn frame) (λ a. of_pairs (fact_six m a) (test_rows t) (test_rows t)) (test_rows t)
-      (All-weaker (IsTestRow m frame.atom) (λ a. Each (of_pairs (fact_six m a) (test_rows t) (test_rows t)))
-      (λ a p. of_tests (fact_six m a) (λ b c q r. fact_six_holds m (modulus_above_one t.width) frame a b c p q r)) (test_rows t) tests)
+      All-flat_map (HoldsIn frame) (λ a. of_pairs (three_way_fact m a) (test_rows t) (test_rows t)) (test_rows t)
+      (All-weaker (IsTestRow m frame.atom) (λ a. Each (of_pairs (three_way_fact m a) (test_rows t) (test_rows t)))
+      (λ a p. of_tests (three_way_fact m a) (λ b c q r. three_way_fact_holds m (modulus_above_one t.width) frame a b c p q r)) (test_rows t) tests)
 
   both : (xs ys : List Hypothesis) → Each xs → Each ys → Each (xs ++ ys)
   both = All-append (HoldsIn frame)
@@ -55,18 +55,18 @@ module _ (frame : Frame Store) (t : Tables) (tests : All (IsTestRow (modulus t.w
   pub derived_relate_none : Each (derived t)
   derived_relate_none =
       let h = modulus_above_one t.width in
-      both _ (flat_map (λ a. of_pairs (fact_six m a) (test_rows t) (test_rows t)) (test_rows t))
-      (both _ (of_pairs (fact_five m) (test_rows t) (test_rows t))
-      (both _ (of_pairs fact_four (test_rows t) (test_rows t))
-      (both _ (of_pairs (fact_three m) (test_rows t) (test_rows t))
-      (both _ (of_pairs fact_two (test_rows t) (test_rows t))
-      (both (of_pairs (assignment_facts t) (action_rows t) (test_rows t)) (of_pairs (fact_one m) (test_rows t) (test_rows t))
+      both _ (flat_map (λ a. of_pairs (three_way_fact m a) (test_rows t) (test_rows t)) (test_rows t))
+      (both _ (of_pairs (constant_fact m) (test_rows t) (test_rows t))
+      (both _ (of_pairs bound_fact (test_rows t) (test_rows t))
+      (both _ (of_pairs (equality_fact m) (test_rows t) (test_rows t))
+      (both _ (of_pairs order_fact (test_rows t) (test_rows t))
+      (both (of_pairs (assignment_facts t) (action_rows t) (test_rows t)) (of_pairs (apart_fact m) (test_rows t) (test_rows t))
       of_actions
-      (of_tests (fact_one m) (fact_one_holds m h frame)))
-      (of_tests fact_two (fact_two_holds m h frame)))
-      (of_tests (fact_three m) (fact_three_holds m h frame)))
-      (of_tests fact_four (fact_four_holds m h frame)))
-      (of_tests (fact_five m) (fact_five_holds m h frame)))
+      (of_tests (apart_fact m) (apart_fact_holds m h frame)))
+      (of_tests order_fact (order_fact_holds m h frame)))
+      (of_tests (equality_fact m) (equality_fact_holds m h frame)))
+      (of_tests bound_fact (bound_fact_holds m h frame)))
+      (of_tests (constant_fact m) (constant_fact_holds m h frame)))
       of_threes
 
 length-stated_from : (k : ℕ) (hs : List Term) → length (stated_from k hs) ≡ length hs

@@ -14,7 +14,7 @@ use Rattle.abstraction.specs.declared.rule.Rule.{Rule}
 use Rattle.abstraction.specs.declared.rule.Rule.TheVariants.{Assign, F1, F2, F3, F4, F5, F6}
 use Rattle.abstraction.specs.declared.rows.TestRow.TheVariants.{Compare}
 use Rattle.abstraction.specs.Rounds.{tables_of}
-use Rattle.abstraction.specs.Facts.{Hypothesis, fact_one, fact_two, fact_three, fact_four, fact_five, fact_six}
+use Rattle.abstraction.specs.Facts.{Hypothesis, apart_fact, order_fact, equality_fact, bound_fact, constant_fact, three_way_fact}
 use Rattle.abstraction.specs.Derived.{derived}
 use Rattle.abstraction.specs.Abstracts.{test_rows_of, abstract_parts, abstract_of}
 
@@ -45,50 +45,50 @@ abbrev not_alone : ℕ → ℕ → Term
 not_alone i j = product (test (prim i)) (test (complement (prim j)))
 
 -- x and x + 1 are not both 0; the rows are named in order, and only once
-differ_by_one : fact_one (2 ^ 64) (0, Zero x) (1, Zero x_and_one) ≡ because (F1 0 1) (not_both 0 1) ∷ []
+differ_by_one : apart_fact (2 ^ 64) (0, Zero x) (1, Zero x_and_one) ≡ because (F1 0 1) (not_both 0 1) ∷ []
 differ_by_one = refl
 
-rows_in_order : fact_one (2 ^ 64) (1, Zero x_and_one) (0, Zero x) ≡ []
+rows_in_order : apart_fact (2 ^ 64) (1, Zero x_and_one) (0, Zero x) ≡ []
 rows_in_order = refl
 
 -- x - 3 and -x add up to -3
-add_up : fact_one 256 (2, Zero (var_term 0 1 (constant 253))) (5, Zero (var_term 0 255 (constant 0))) ≡ because (F1 2 5) (not_both 2 5) ∷ []
+add_up : apart_fact 256 (2, Zero (var_term 0 1 (constant 253))) (5, Zero (var_term 0 255 (constant 0))) ≡ because (F1 2 5) (not_both 2 5) ∷ []
 add_up = refl
 
-both_orders : fact_two (0, Less x y) (1, Less y x) ≡ because (F2 0 1) (not_both 0 1) ∷ []
+both_orders : order_fact (0, Less x y) (1, Less y x) ≡ because (F2 0 1) (not_both 0 1) ∷ []
 both_orders = refl
 
-less_and_equal : fact_three (2 ^ 64) (0, Less x y) (1, Zero x_less_y) ≡ because (F3 0 1) (not_both 0 1) ∷ []
+less_and_equal : equality_fact (2 ^ 64) (0, Less x y) (1, Zero x_less_y) ≡ because (F3 0 1) (not_both 0 1) ∷ []
 less_and_equal = refl
 
 -- the same for y < x, whose difference has the same canonical form; here the second row has the smaller number
-greater_and_equal : fact_three (2 ^ 64) (1, Less y x) (0, Zero x_less_y) ≡ because (F3 1 0) (not_both 1 0) ∷ []
+greater_and_equal : equality_fact (2 ^ 64) (1, Less y x) (0, Zero x_less_y) ≡ because (F3 1 0) (not_both 1 0) ∷ []
 greater_and_equal = refl
 
 -- x < 3 implies x < 5
-three_below_five : fact_four (0, Less x (constant 3)) (1, Less x (constant 5)) ≡ because (F4 0 1) (not_alone 0 1) ∷ []
+three_below_five : bound_fact (0, Less x (constant 3)) (1, Less x (constant 5)) ≡ because (F4 0 1) (not_alone 0 1) ∷ []
 three_below_five = refl
 
-five_above_three : fact_four (0, Less x (constant 5)) (1, Less x (constant 3)) ≡ []
+five_above_three : bound_fact (0, Less x (constant 5)) (1, Less x (constant 3)) ≡ []
 five_above_three = refl
 
 -- x = 3 implies x < 5, and excludes x < 2
-three_is_below : fact_five (2 ^ 64) (0, Zero x_less_three) (1, Less x (constant 5)) ≡ because (F5 0 1) (not_alone 0 1) ∷ []
+three_is_below : constant_fact (2 ^ 64) (0, Zero x_less_three) (1, Less x (constant 5)) ≡ because (F5 0 1) (not_alone 0 1) ∷ []
 three_is_below = refl
 
-three_is_above : fact_five (2 ^ 64) (0, Zero x_less_three) (1, Less x (constant 2)) ≡ because (F5 0 1) (not_both 0 1) ∷ []
+three_is_above : constant_fact (2 ^ 64) (0, Zero x_less_three) (1, Less x (constant 2)) ≡ because (F5 0 1) (not_both 0 1) ∷ []
 three_is_above = refl
 
 -- the sum of -x and x - 3 is a constant, the number that represents -3
-sum_is_constant : fact_five 256 (0, Zero (var_term 0 1 (constant 253))) (1, Less (var_term 0 255 (constant 0)) (constant 5)) ≡ because (F5 0 1) (not_both 0 1) ∷ []
+sum_is_constant : constant_fact 256 (0, Zero (var_term 0 1 (constant 253))) (1, Less (var_term 0 255 (constant 0)) (constant 5)) ≡ because (F5 0 1) (not_both 0 1) ∷ []
 sum_is_constant = refl
 
 -- if 128 x = 0 modulo 256, the form 128 x + 3 is 3 by the difference and by the sum
-by_both : fact_five 256 (0, Zero (var_term 0 128 (constant 0))) (1, Less (var_term 0 128 (constant 3)) (constant 5))
+by_both : constant_fact 256 (0, Zero (var_term 0 128 (constant 0))) (1, Less (var_term 0 128 (constant 3)) (constant 5))
     ≡ because (F5 0 1) (not_alone 0 1) ∷ because (F5 0 1) (not_alone 0 1) ∷ []
 by_both = refl
 
-one_of_three : fact_six (2 ^ 64) (0, Less x y) (1, Less y x) (2, Zero x_less_y)
+one_of_three : three_way_fact (2 ^ 64) (0, Less x y) (1, Less y x) (2, Zero x_less_y)
     ≡ because (F6 0 1 2) (product (test (complement (prim 0))) (product (test (complement (prim 1))) (test (complement (prim 2))))) ∷ []
 one_of_three = refl
 

@@ -14,7 +14,7 @@ use Rattle.linear_forms.specs.declared.comparison.Atomic.TheVariants.{Zero, Less
 use Rattle.abstraction.specs.declared.rule.Rule.{Rule}
 use Rattle.abstraction.specs.declared.rule.Rule.TheVariants.{F1, F2, F3, F4, F5, F6}
 use Rattle.linear_forms.specs.Sameness.{is_same_form}
-use Rattle.abstraction.specs.Facts.{Hypothesis, TestRowOf, excludes, implies, one_holds, fact_if, is_nonzero, are_less, decided_by, fact_one, fact_two, fact_three, fact_four, fact_five, fact_six}
+use Rattle.abstraction.specs.Facts.{Hypothesis, TestRowOf, excludes, implies, one_holds, fact_if, is_nonzero, are_less, decided_by, apart_fact, order_fact, equality_fact, bound_fact, constant_fact, three_way_fact}
 use Rattle.linear_forms.proofs.Sameness.{is_same_form-true}
 use Rattle.abstraction.proofs.TestRows.{IsTestRow, holds_at, fails_at}
 use Rattle.kat_model.proofs.RelatesNothing.{RelatesNone, two_tests, three_tests}
@@ -44,42 +44,42 @@ module _ (m : ℕ) (h : 1 < m) (frame : Frame Store) where
   never_first_alone : (i j : ℕ) (a b : Atomic) → IsRow (i, a) → IsRow (j, b) → ((s : Store) → atomic_holds m s a ≡ true → atomic_holds m s b ≡ false → ⊥) → RelatesNone frame (implies i j)
   never_first_alone i j a b p q never = two_tests frame (prim i) (complement (prim j)) (λ s t u. never s (holds_at m frame.atom i a p s t) (fails_at m frame.atom j b q s u))
 
-  pub fact_one_holds : (a b : TestRowOf) → IsRow a → IsRow b → All Holds (fact_one m a b)
-  fact_one_holds (i, Zero f) (j, Zero g) p q =
+  pub apart_fact_holds : (a b : TestRowOf) → IsRow a → IsRow b → All Holds (apart_fact m a b)
+  apart_fact_holds (i, Zero f) (j, Zero g) p q =
       where_true _ (F1 i j) (excludes i j)
       (λ e. never_both i j (Zero f) (Zero g) p q (λ s x y. not_both_zero m s h f g x y (and_parts (nat_lt i j) (is_nonzero (form_difference m f g) || is_nonzero (form_sum m f g)) e).1))
-  fact_one_holds (i, Zero f) (j, Less g d) p q = none
-  fact_one_holds (i, Less f g) b p q = none
+  apart_fact_holds (i, Zero f) (j, Less g d) p q = none
+  apart_fact_holds (i, Less f g) b p q = none
 
-  pub fact_two_holds : (a b : TestRowOf) → IsRow a → IsRow b → All Holds (fact_two a b)
-  fact_two_holds (i, Less f g) (j, Less d e) p q = where_true _ (F2 i j) (excludes i j) never
+  pub order_fact_holds : (a b : TestRowOf) → IsRow a → IsRow b → All Holds (order_fact a b)
+  order_fact_holds (i, Less f g) (j, Less d e) p q = where_true _ (F2 i j) (excludes i j) never
     where
       never : (nat_lt i j && (is_same_form f e && is_same_form g d)) ≡ true → RelatesNone frame (excludes i j)
       never c =
           let same = and_parts (is_same_form f e) (is_same_form g d) (and_parts (nat_lt i j) (is_same_form f e && is_same_form g d) c).1 in
           never_both i j (Less f g) (Less d e) p q
           (λ s x y. not_both_less m s h f g x (ap₂ (λ a b. nat_lt (form_value m s a) (form_value m s b)) (is_same_form-true g d same.1) (is_same_form-true f e same.0) ∙ y))
-  fact_two_holds (i, Less f g) (j, Zero z) p q = none
-  fact_two_holds (i, Zero z) b p q = none
+  order_fact_holds (i, Less f g) (j, Zero z) p q = none
+  order_fact_holds (i, Zero z) b p q = none
 
-  pub fact_three_holds : (a b : TestRowOf) → IsRow a → IsRow b → All Holds (fact_three m a b)
-  fact_three_holds (i, Less f g) (j, Zero z) p q =
+  pub equality_fact_holds : (a b : TestRowOf) → IsRow a → IsRow b → All Holds (equality_fact m a b)
+  equality_fact_holds (i, Less f g) (j, Zero z) p q =
       where_true _ (F3 i j) (excludes i j)
       (λ e. never_both i j (Less f g) (Zero z) p q
       (λ s x y. not_less_and_equal m s h f g x (ap (λ a. nat_eq (form_value m s a) 0) (sym (is_same_form-true z _ e)) ∙ y)))
-  fact_three_holds (i, Less f g) (j, Less d e) p q = none
-  fact_three_holds (i, Zero z) b p q = none
+  equality_fact_holds (i, Less f g) (j, Less d e) p q = none
+  equality_fact_holds (i, Zero z) b p q = none
 
-  pub fact_four_holds : (a b : TestRowOf) → IsRow a → IsRow b → All Holds (fact_four a b)
-  fact_four_holds (i, Less f c) (j, Less g d) p q = where_true _ (F4 i j) (implies i j) never
+  pub bound_fact_holds : (a b : TestRowOf) → IsRow a → IsRow b → All Holds (bound_fact a b)
+  bound_fact_holds (i, Less f c) (j, Less g d) p q = where_true _ (F4 i j) (implies i j) never
     where
       never : (is_same_form f g && are_less c d) ≡ true → RelatesNone frame (implies i j)
       never e =
           let both = and_parts (is_same_form f g) (are_less c d) e in
           never_first_alone i j (Less f c) (Less g d) p q
           (λ s x y. less_than_greater m s h f c d p.form.1 q.form.1 both.1 x (ap (λ a. nat_lt (form_value m s a) (form_value m s d)) (is_same_form-true f g both.0) ∙ y))
-  fact_four_holds (i, Less f c) (j, Zero z) p q = none
-  fact_four_holds (i, Zero z) b p q = none
+  bound_fact_holds (i, Less f c) (j, Zero z) p q = none
+  bound_fact_holds (i, Zero z) b p q = none
 
   -- if z = 0 implies f = c, then z = 0 decides whether f < d
   module _ (i j : ℕ) (z f : FormTree) where
@@ -100,16 +100,16 @@ module _ (m : ℕ) (h : 1 < m) (frame : Frame Store) where
     decided_by_holds (var_term k t rest) d p q value = none
     decided_by_holds (product_term g g' t rest) d p q value = none
 
-  pub fact_five_holds : (a b : TestRowOf) → IsRow a → IsRow b → All Holds (fact_five m a b)
-  fact_five_holds (i, Zero z) (j, Less f d) p q =
+  pub constant_fact_holds : (a b : TestRowOf) → IsRow a → IsRow b → All Holds (constant_fact m a b)
+  constant_fact_holds (i, Zero z) (j, Less f d) p q =
       All-append Holds (decided_by i j (form_difference m f z) d) (decided_by i j (form_sum m f z) d)
       (decided_by_holds i j z f (form_difference m f z) d p q (λ s. value_by_difference m s h f z))
       (decided_by_holds i j z f (form_sum m f z) d p q (λ s. value_by_sum m s h f z))
-  fact_five_holds (i, Zero z) (j, Zero y) p q = none
-  fact_five_holds (i, Less f g) b p q = none
+  constant_fact_holds (i, Zero z) (j, Zero y) p q = none
+  constant_fact_holds (i, Less f g) b p q = none
 
-  pub fact_six_holds : (a b c : TestRowOf) → IsRow a → IsRow b → IsRow c → All Holds (fact_six m a b c)
-  fact_six_holds (i, Less f g) (j, Less d e) (k, Zero z) p q r = where_true _ (F6 i j k) (one_holds i j k) never
+  pub three_way_fact_holds : (a b c : TestRowOf) → IsRow a → IsRow b → IsRow c → All Holds (three_way_fact m a b c)
+  three_way_fact_holds (i, Less f g) (j, Less d e) (k, Zero z) p q r = where_true _ (F6 i j k) (one_holds i j k) never
     where
       never : ((nat_lt i j && (is_same_form f e && is_same_form g d)) && is_same_form z (canonical m (form_difference m f g))) ≡ true → RelatesNone frame (one_holds i j k)
       never c =
@@ -120,6 +120,6 @@ module _ (m : ℕ) (h : 1 < m) (frame : Frame Store) where
           one_of_three m s h f g (fails_at m frame.atom i (Less f g) p s t)
           (ap₂ (λ a b. nat_lt (form_value m s a) (form_value m s b)) (is_same_form-true g d same.1) (is_same_form-true f e same.0) ∙ fails_at m frame.atom j (Less d e) q s u)
           (ap (λ a. nat_eq (form_value m s a) 0) (sym (is_same_form-true z _ all.1)) ∙ fails_at m frame.atom k (Zero z) r s v))
-  fact_six_holds (i, Less f g) (j, Less d e) (k, Less x y) p q r = none
-  fact_six_holds (i, Less f g) (j, Zero y) c p q r = none
-  fact_six_holds (i, Zero z) b c p q r = none
+  three_way_fact_holds (i, Less f g) (j, Less d e) (k, Less x y) p q r = none
+  three_way_fact_holds (i, Less f g) (j, Zero y) c p q r = none
+  three_way_fact_holds (i, Zero z) b c p q r = none

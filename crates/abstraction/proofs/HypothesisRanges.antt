@@ -11,7 +11,7 @@ use Rattle.linear_forms.specs.declared.comparison.Atomic.TheVariants.{Zero, Less
 use Rattle.abstraction.specs.declared.rule.Rule.{Rule}
 use Rattle.abstraction.specs.Tables.{Tables}
 use Rattle.abstraction.specs.Tests.{form_test}
-use Rattle.abstraction.specs.Facts.{Hypothesis, TestRowOf, fact_if, fact_one, fact_two, fact_three, fact_four, decided_by, fact_five, fact_six, excludes, implies}
+use Rattle.abstraction.specs.Facts.{Hypothesis, TestRowOf, fact_if, apart_fact, order_fact, equality_fact, bound_fact, decided_by, constant_fact, three_way_fact, excludes, implies}
 use Rattle.abstraction.specs.Derived.{ActionRowOf, stated_from, keeps_before, assignment_facts, test_rows, action_rows, of_pairs, derived, hypotheses}
 use Rattle.abstraction.proofs.TestRanges.{OptionInRange, all_tests, all_actions, form_test_in}
 use Rattle.while_lang.proofs.RangesGrow.{IsInRange-more}
@@ -50,25 +50,25 @@ module _ (t a : ℕ) where
   fact_if_in true r e h = (h, tt)
   fact_if_in false r e h = tt
 
-  fact_one_in : (m : ℕ) (x y : TestRowOf) → TestBelow x → TestBelow y → AreHypsInRange (fact_one m x y)
-  fact_one_in m (i, Zero f) (j, Zero g) p q = fact_if_in _ _ (excludes i j) (p, q)
-  fact_one_in m (i, Zero f) (j, Less g d) p q = tt
-  fact_one_in m (i, Less f g) (j, b) p q = tt
+  apart_fact_in : (m : ℕ) (x y : TestRowOf) → TestBelow x → TestBelow y → AreHypsInRange (apart_fact m x y)
+  apart_fact_in m (i, Zero f) (j, Zero g) p q = fact_if_in _ _ (excludes i j) (p, q)
+  apart_fact_in m (i, Zero f) (j, Less g d) p q = tt
+  apart_fact_in m (i, Less f g) (j, b) p q = tt
 
-  fact_two_in : (x y : TestRowOf) → TestBelow x → TestBelow y → AreHypsInRange (fact_two x y)
-  fact_two_in (i, Less f g) (j, Less d e) p q = fact_if_in _ _ (excludes i j) (p, q)
-  fact_two_in (i, Less f g) (j, Zero z) p q = tt
-  fact_two_in (i, Zero f) (j, b) p q = tt
+  order_fact_in : (x y : TestRowOf) → TestBelow x → TestBelow y → AreHypsInRange (order_fact x y)
+  order_fact_in (i, Less f g) (j, Less d e) p q = fact_if_in _ _ (excludes i j) (p, q)
+  order_fact_in (i, Less f g) (j, Zero z) p q = tt
+  order_fact_in (i, Zero f) (j, b) p q = tt
 
-  fact_three_in : (m : ℕ) (x y : TestRowOf) → TestBelow x → TestBelow y → AreHypsInRange (fact_three m x y)
-  fact_three_in m (i, Less f g) (j, Zero z) p q = fact_if_in _ _ (excludes i j) (p, q)
-  fact_three_in m (i, Less f g) (j, Less d e) p q = tt
-  fact_three_in m (i, Zero f) (j, b) p q = tt
+  equality_fact_in : (m : ℕ) (x y : TestRowOf) → TestBelow x → TestBelow y → AreHypsInRange (equality_fact m x y)
+  equality_fact_in m (i, Less f g) (j, Zero z) p q = fact_if_in _ _ (excludes i j) (p, q)
+  equality_fact_in m (i, Less f g) (j, Less d e) p q = tt
+  equality_fact_in m (i, Zero f) (j, b) p q = tt
 
-  fact_four_in : (x y : TestRowOf) → TestBelow x → TestBelow y → AreHypsInRange (fact_four x y)
-  fact_four_in (i, Less f c) (j, Less g d) p q = fact_if_in _ _ (implies i j) (p, q)
-  fact_four_in (i, Less f c) (j, Zero z) p q = tt
-  fact_four_in (i, Zero f) (j, b) p q = tt
+  bound_fact_in : (x y : TestRowOf) → TestBelow x → TestBelow y → AreHypsInRange (bound_fact x y)
+  bound_fact_in (i, Less f c) (j, Less g d) p q = fact_if_in _ _ (implies i j) (p, q)
+  bound_fact_in (i, Less f c) (j, Zero z) p q = tt
+  bound_fact_in (i, Zero f) (j, b) p q = tt
 
   either_in : (i j : ℕ) (b : Bool) → i < t → j < t → IsInRange t a (cond b (implies i j) (excludes i j))
   either_in i j true p q = (p, q)
@@ -81,17 +81,17 @@ module _ (t a : ℕ) where
   decided_in i j (var_term k n r) g p q = tt
   decided_in i j (product_term e f n r) g p q = tt
 
-  fact_five_in : (m : ℕ) (x y : TestRowOf) → TestBelow x → TestBelow y → AreHypsInRange (fact_five m x y)
-  fact_five_in m (i, Zero z) (j, Less f d) p q =
+  constant_fact_in : (m : ℕ) (x y : TestRowOf) → TestBelow x → TestBelow y → AreHypsInRange (constant_fact m x y)
+  constant_fact_in m (i, Zero z) (j, Less f d) p q =
       append_in (decided_by i j (form_difference m f z) d) (decided_by i j (form_sum m f z) d) (decided_in i j (form_difference m f z) d p q) (decided_in i j (form_sum m f z) d p q)
-  fact_five_in m (i, Zero z) (j, Zero f) p q = tt
-  fact_five_in m (i, Less f g) (j, b) p q = tt
+  constant_fact_in m (i, Zero z) (j, Zero f) p q = tt
+  constant_fact_in m (i, Less f g) (j, b) p q = tt
 
-  fact_six_in : (m : ℕ) (x y z : TestRowOf) → TestBelow x → TestBelow y → TestBelow z → AreHypsInRange (fact_six m x y z)
-  fact_six_in m (i, Less f g) (j, Less d e) (k, Zero z) p q r = fact_if_in _ _ _ (p, (q, r))
-  fact_six_in m (i, Less f g) (j, Less d e) (k, Less z y) p q r = tt
-  fact_six_in m (i, Less f g) (j, Zero d) (k, z) p q r = tt
-  fact_six_in m (i, Zero f) (j, b) (k, z) p q r = tt
+  three_way_fact_in : (m : ℕ) (x y z : TestRowOf) → TestBelow x → TestBelow y → TestBelow z → AreHypsInRange (three_way_fact m x y z)
+  three_way_fact_in m (i, Less f g) (j, Less d e) (k, Zero z) p q r = fact_if_in _ _ _ (p, (q, r))
+  three_way_fact_in m (i, Less f g) (j, Less d e) (k, Less z y) p q r = tt
+  three_way_fact_in m (i, Less f g) (j, Zero d) (k, z) p q r = tt
+  three_way_fact_in m (i, Zero f) (j, b) (k, z) p q r = tt
 
   keeps_before_in : (i j : ℕ) (o : Option TestTree) → i < a → j < t → OptionInRange t o → AreHypsInRange (keeps_before i j o)
   keeps_before_in i j None p q h = tt
@@ -126,12 +126,12 @@ module _ (t : Tables) where
       let tests : AllOf TB rows = numbers_below t.tests n t.comparisons (omega arith) in
       let actions : AllOf AB (action_rows t) = numbers_below t.actions k t.assignments (omega arith) in
       let none = pairs_in n k AB TB (assignment_facts t) assignment_facts_in (action_rows t) rows actions tests in
-      let one = pairs_in n k TB TB (fact_one m) (fact_one_in n k m) rows rows tests tests in
-      let two = pairs_in n k TB TB fact_two (fact_two_in n k) rows rows tests tests in
-      let three = pairs_in n k TB TB (fact_three m) (fact_three_in n k m) rows rows tests tests in
-      let four = pairs_in n k TB TB fact_four (fact_four_in n k) rows rows tests tests in
-      let five = pairs_in n k TB TB (fact_five m) (fact_five_in n k m) rows rows tests tests in
-      let six = flat_map_in n k TB (λ x. of_pairs (fact_six m x) rows rows) (λ x p. pairs_in n k TB TB (fact_six m x) (λ y z q r. fact_six_in n k m x y z p q r) rows rows tests tests) rows tests in
+      let one = pairs_in n k TB TB (apart_fact m) (apart_fact_in n k m) rows rows tests tests in
+      let two = pairs_in n k TB TB order_fact (order_fact_in n k) rows rows tests tests in
+      let three = pairs_in n k TB TB (equality_fact m) (equality_fact_in n k m) rows rows tests tests in
+      let four = pairs_in n k TB TB bound_fact (bound_fact_in n k) rows rows tests tests in
+      let five = pairs_in n k TB TB (constant_fact m) (constant_fact_in n k m) rows rows tests tests in
+      let six = flat_map_in n k TB (λ x. of_pairs (three_way_fact m x) rows rows) (λ x p. pairs_in n k TB TB (three_way_fact m x) (λ y z q r. three_way_fact_in n k m x y z p q r) rows rows tests tests) rows tests in
       append_in n k _ _ (append_in n k _ _ (append_in n k _ _ (append_in n k _ _ (append_in n k _ _ (append_in n k _ _ none one) two) three) four) five) six
 
   pub hypotheses_in : (hyps : List Term) → AreInRange t.tests t.actions hyps → AreInRange (all_tests t) (all_actions t) (map (λ h. h.term) (hypotheses t hyps))

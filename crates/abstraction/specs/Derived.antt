@@ -8,7 +8,7 @@ use Rattle.abstraction.specs.declared.rule.Rule.TheVariants.{Stated, Assign}
 use Rattle.abstraction.specs.Comparisons.{Assignment}
 use Rattle.abstraction.specs.Tables.{Tables}
 use Rattle.abstraction.specs.Tests.{form_test}
-use Rattle.abstraction.specs.Facts.{Hypothesis, TestRowOf, fact_one, fact_two, fact_three, fact_four, fact_five, fact_six}
+use Rattle.abstraction.specs.Facts.{Hypothesis, TestRowOf, apart_fact, order_fact, equality_fact, bound_fact, constant_fact, three_way_fact}
 
 -- the hypotheses that a file states, numbered from k
 abbrev pub stated_from : ℕ → List Term → List Hypothesis
@@ -45,12 +45,12 @@ of_pairs make xs ys = flat_map (λ x. flat_map (make x) ys) xs
 abbrev pub derived : Tables → List Hypothesis
 derived t =
     of_pairs (assignment_facts t) (action_rows t) (test_rows t)
-    ++ of_pairs (fact_one (modulus t.width)) (test_rows t) (test_rows t)
-    ++ of_pairs fact_two (test_rows t) (test_rows t)
-    ++ of_pairs (fact_three (modulus t.width)) (test_rows t) (test_rows t)
-    ++ of_pairs fact_four (test_rows t) (test_rows t)
-    ++ of_pairs (fact_five (modulus t.width)) (test_rows t) (test_rows t)
-    ++ flat_map (λ a. of_pairs (fact_six (modulus t.width) a) (test_rows t) (test_rows t)) (test_rows t)
+    ++ of_pairs (apart_fact (modulus t.width)) (test_rows t) (test_rows t)
+    ++ of_pairs order_fact (test_rows t) (test_rows t)
+    ++ of_pairs (equality_fact (modulus t.width)) (test_rows t) (test_rows t)
+    ++ of_pairs bound_fact (test_rows t) (test_rows t)
+    ++ of_pairs (constant_fact (modulus t.width)) (test_rows t) (test_rows t)
+    ++ flat_map (λ a. of_pairs (three_way_fact (modulus t.width) a) (test_rows t) (test_rows t)) (test_rows t)
 
 -- the stated hypotheses, then the derived ones
 abbrev pub hypotheses : Tables → List Term → List Hypothesis

@@ -41,25 +41,25 @@ are_less (constant c) (constant d) = nat_lt c d
 are_less f g = false
 
 -- F1: f and g, whose difference or sum is a constant other than 0, are not both 0
-abbrev pub fact_one : ℕ → TestRowOf → TestRowOf → List Hypothesis
-fact_one m (i, Zero f) (j, Zero g) =
+abbrev pub apart_fact : ℕ → TestRowOf → TestRowOf → List Hypothesis
+apart_fact m (i, Zero f) (j, Zero g) =
     fact_if (nat_lt i j && (is_nonzero (form_difference m f g) || is_nonzero (form_sum m f g))) (F1 i j) (excludes i j)
-fact_one m a b = []
+apart_fact m a b = []
 
 -- F2: f < g and g < f do not both hold
-abbrev pub fact_two : TestRowOf → TestRowOf → List Hypothesis
-fact_two (i, Less f g) (j, Less d e) = fact_if (nat_lt i j && (is_same_form f e && is_same_form g d)) (F2 i j) (excludes i j)
-fact_two a b = []
+abbrev pub order_fact : TestRowOf → TestRowOf → List Hypothesis
+order_fact (i, Less f g) (j, Less d e) = fact_if (nat_lt i j && (is_same_form f e && is_same_form g d)) (F2 i j) (excludes i j)
+order_fact a b = []
 
 -- F3: f < g and f = g do not both hold
-abbrev pub fact_three : ℕ → TestRowOf → TestRowOf → List Hypothesis
-fact_three m (i, Less f g) (j, Zero z) = fact_if (is_same_form z (canonical m (form_difference m f g))) (F3 i j) (excludes i j)
-fact_three m a b = []
+abbrev pub equality_fact : ℕ → TestRowOf → TestRowOf → List Hypothesis
+equality_fact m (i, Less f g) (j, Zero z) = fact_if (is_same_form z (canonical m (form_difference m f g))) (F3 i j) (excludes i j)
+equality_fact m a b = []
 
 -- F4: f < c implies f < d if c < d
-abbrev pub fact_four : TestRowOf → TestRowOf → List Hypothesis
-fact_four (i, Less f c) (j, Less g d) = fact_if (is_same_form f g && are_less c d) (F4 i j) (implies i j)
-fact_four a b = []
+abbrev pub bound_fact : TestRowOf → TestRowOf → List Hypothesis
+bound_fact (i, Less f c) (j, Less g d) = fact_if (is_same_form f g && are_less c d) (F4 i j) (implies i j)
+bound_fact a b = []
 
 -- F5: if z = 0 makes f the constant c, it decides whether f < d
 abbrev pub decided_by : ℕ → ℕ → FormTree → FormTree → List Hypothesis
@@ -67,15 +67,15 @@ decided_by i j (constant c) (constant d) = fact_if true (F5 i j) (if nat_lt c d 
 decided_by i j f g = []
 
 -- if z = 0, f equals the difference f - z and the sum f + z
-abbrev pub fact_five : ℕ → TestRowOf → TestRowOf → List Hypothesis
-fact_five m (i, Zero z) (j, Less f d) = decided_by i j (form_difference m f z) d ++ decided_by i j (form_sum m f z) d
-fact_five m a b = []
+abbrev pub constant_fact : ℕ → TestRowOf → TestRowOf → List Hypothesis
+constant_fact m (i, Zero z) (j, Less f d) = decided_by i j (form_difference m f z) d ++ decided_by i j (form_sum m f z) d
+constant_fact m a b = []
 
 -- F6: one of f < g, g < f and f = g holds
 abbrev pub one_holds : ℕ → ℕ → ℕ → Term
 one_holds i j k = product (test (complement (prim i))) (product (test (complement (prim j))) (test (complement (prim k))))
 
-abbrev pub fact_six : ℕ → TestRowOf → TestRowOf → TestRowOf → List Hypothesis
-fact_six m (i, Less f g) (j, Less d e) (k, Zero z) =
+abbrev pub three_way_fact : ℕ → TestRowOf → TestRowOf → TestRowOf → List Hypothesis
+three_way_fact m (i, Less f g) (j, Less d e) (k, Zero z) =
     fact_if ((nat_lt i j && (is_same_form f e && is_same_form g d)) && is_same_form z (canonical m (form_difference m f g))) (F6 i j k) (one_holds i j k)
-fact_six m a b c = []
+three_way_fact m a b c = []

@@ -5,7 +5,7 @@ ghost use Rattle.kat_model.specs.Trees.{prim, complement, test, product, kat_tre
 ghost use Rattle.linear_forms.specs.Arithmetic.{form_sum, form_difference};
 ghost use Rattle.linear_forms.specs.Comparisons.{canonical};
 ghost use Rattle.linear_forms.specs.Sameness.{is_same_form};
-ghost use Rattle.abstraction.specs.Facts.{excludes, implies, one_holds, is_nonzero, are_less, fact_one, fact_two, fact_three, fact_four, decided_by, fact_five, fact_six};
+ghost use Rattle.abstraction.specs.Facts.{excludes, implies, one_holds, is_nonzero, are_less, apart_fact, order_fact, equality_fact, bound_fact, decided_by, constant_fact, three_way_fact};
 ghost use Rattle.abstraction.specs.Working.ConstantForms.{constant_value};
 ghost use Rattle.abstraction.specs.Working.PairTests.{are_opposite, are_strict_and_equal};
 
@@ -208,7 +208,7 @@ fn add_implication(
 }
 
 // Whether test i comes before test j, and their forms are not both 0.
-fn is_fact_one(
+fn is_apart_fact(
     alloc: Global,
     width: Width,
     i: usize,
@@ -225,21 +225,21 @@ fn is_fact_one(
 }
 
 /// F1: two forms are not both 0.
-pub(crate) fn add_fact_one(
+pub(crate) fn add_apart_fact(
     alloc: Global,
     width: Width,
     first: &NumberedTest<'_>,
     second: &NumberedTest<'_>,
     hyps: &mut Vec<RuledTerm>,
 ) -> Result<(), NoMemory>
-    ensures { OnOk result (hyps.new.items ≡ hyps.old.items ++ fact_one (modulus width) first.now second.now) }
+    ensures { OnOk result (hyps.new.items ≡ hyps.old.items ++ apart_fact (modulus width) first.now second.now) }
 {
     let (Atomic::Zero(f), Atomic::Zero(g)) = (first.atomic, second.atomic) else {
         return Ok(());
     };
     let i = first.number;
     let j = second.number;
-    if !is_fact_one(alloc, width, i, j, f, g)? {
+    if !is_apart_fact(alloc, width, i, j, f, g)? {
         return Ok(());
     }
     add_exclusion(alloc, Rule::F1(i, j), i, j, hyps)
@@ -273,14 +273,14 @@ fn are_strict_and_equal(
 }
 
 /// F2: `f < g` and `g < f` exclude one another.
-#[tactic(auto, using(crate::proofs::SharedTests::two_by_test))]
-pub(crate) fn add_fact_two(
+#[tactic(auto, using(crate::proofs::SharedTests::order_by_test))]
+pub(crate) fn add_order_fact(
     alloc: Global,
     first: &NumberedTest<'_>,
     second: &NumberedTest<'_>,
     hyps: &mut Vec<RuledTerm>,
 ) -> Result<(), NoMemory>
-    ensures { OnOk result (hyps.new.items ≡ hyps.old.items ++ fact_two first.now second.now) }
+    ensures { OnOk result (hyps.new.items ≡ hyps.old.items ++ order_fact first.now second.now) }
 {
     if !are_opposite(first, second) {
         return Ok(());
@@ -291,15 +291,15 @@ pub(crate) fn add_fact_two(
 }
 
 /// F3: `f < g` and `f == g` exclude one another.
-#[tactic(auto, using(crate::proofs::SharedTests::three_by_test))]
-pub(crate) fn add_fact_three(
+#[tactic(auto, using(crate::proofs::SharedTests::equality_by_test))]
+pub(crate) fn add_equality_fact(
     alloc: Global,
     width: Width,
     first: &NumberedTest<'_>,
     second: &NumberedTest<'_>,
     hyps: &mut Vec<RuledTerm>,
 ) -> Result<(), NoMemory>
-    ensures { OnOk result (hyps.new.items ≡ hyps.old.items ++ fact_three (modulus width) first.now second.now) }
+    ensures { OnOk result (hyps.new.items ≡ hyps.old.items ++ equality_fact (modulus width) first.now second.now) }
 {
     if !are_strict_and_equal(alloc, width, first, second)? {
         return Ok(());
@@ -310,13 +310,13 @@ pub(crate) fn add_fact_three(
 }
 
 /// F4: `f < c` implies `f < d` if c is less than d.
-pub(crate) fn add_fact_four(
+pub(crate) fn add_bound_fact(
     alloc: Global,
     first: &NumberedTest<'_>,
     second: &NumberedTest<'_>,
     hyps: &mut Vec<RuledTerm>,
 ) -> Result<(), NoMemory>
-    ensures { OnOk result (hyps.new.items ≡ hyps.old.items ++ fact_four first.now second.now) }
+    ensures { OnOk result (hyps.new.items ≡ hyps.old.items ++ bound_fact first.now second.now) }
 {
     let (Atomic::Less(f, c), Atomic::Less(g, d)) = (first.atomic, second.atomic) else {
         return Ok(());
@@ -354,14 +354,14 @@ fn add_decided(
 }
 
 /// F5: a test that makes a form a constant decides whether the form is below another constant.
-pub(crate) fn add_fact_five(
+pub(crate) fn add_constant_fact(
     alloc: Global,
     width: Width,
     first: &NumberedTest<'_>,
     second: &NumberedTest<'_>,
     hyps: &mut Vec<RuledTerm>,
 ) -> Result<(), NoMemory>
-    ensures { OnOk result (hyps.new.items ≡ hyps.old.items ++ fact_five (modulus width) first.now second.now) }
+    ensures { OnOk result (hyps.new.items ≡ hyps.old.items ++ constant_fact (modulus width) first.now second.now) }
 {
     let (Atomic::Zero(z), Atomic::Less(f, d)) = (first.atomic, second.atomic) else {
         return Ok(());
@@ -388,8 +388,8 @@ fn add_choice(
 }
 
 /// F6: one of `f < g`, `g < f` and `f == g` holds.
-#[tactic(auto, using(crate::proofs::SharedTests::six_by_tests))]
-pub(crate) fn add_fact_six(
+#[tactic(auto, using(crate::proofs::SharedTests::three_way_by_tests))]
+pub(crate) fn add_three_way_fact(
     alloc: Global,
     width: Width,
     first: &NumberedTest<'_>,
@@ -397,7 +397,7 @@ pub(crate) fn add_fact_six(
     third: &NumberedTest<'_>,
     hyps: &mut Vec<RuledTerm>,
 ) -> Result<(), NoMemory>
-    ensures { OnOk result (hyps.new.items ≡ hyps.old.items ++ fact_six (modulus width) first.now second.now third.now) }
+    ensures { OnOk result (hyps.new.items ≡ hyps.old.items ++ three_way_fact (modulus width) first.now second.now third.now) }
 {
     if !are_opposite(first, second) {
         return Ok(());

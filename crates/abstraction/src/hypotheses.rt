@@ -4,14 +4,14 @@ ghost use Rattle.kat_model.specs.Stores.{modulus};
 ghost use Rattle.kat_model.specs.Trees.{kat_tree, test_tree, prim, complement, test, act, product};
 ghost use Rattle.linear_forms.specs.Comparisons.{substituted};
 ghost use Rattle.abstraction.specs.Tests.{form_test};
-ghost use Rattle.abstraction.specs.Facts.{fact_six};
+ghost use Rattle.abstraction.specs.Facts.{three_way_fact};
 ghost use Rattle.abstraction.specs.Derived.{stated_from, keeps_before, assignment_facts, test_rows, action_rows, of_pairs, derived, hypotheses};
 ghost use Rattle.abstraction.specs.Working.PairFacts.{pair_fact, facts_of};
 
 use crate::conditions::form_test;
 use crate::facts::{
-    NumberedTest, RuledTerm, add_fact_five, add_fact_four, add_fact_one, add_fact_six,
-    add_fact_three, add_fact_two, push_hyp,
+    NumberedTest, RuledTerm, add_apart_fact, add_bound_fact, add_constant_fact, add_equality_fact,
+    add_order_fact, add_three_way_fact, push_hyp,
 };
 use crate::rule::Rule;
 use crate::tables::{AssignedForm, RowTables};
@@ -42,11 +42,11 @@ impl<'a> Model for NumberedAssignment<'a> {
 // A kind of fact about two comparisons.
 #[derive(Clone, Copy)]
 enum PairFact {
-    One,
-    Two,
-    Three,
-    Four,
-    Five,
+    Apart,
+    Order,
+    Equality,
+    Bound,
+    Constant,
 }
 
 // Returns the stated terms as hypotheses.
@@ -179,11 +179,11 @@ fn add_pair_fact(
     ensures { OnOk result (hyps.new.items ≡ hyps.old.items ++ pair_fact fact (modulus width) first.now second.now) }
 {
     match fact {
-        PairFact::One => add_fact_one(alloc, width, first, second, hyps),
-        PairFact::Two => add_fact_two(alloc, first, second, hyps),
-        PairFact::Three => add_fact_three(alloc, width, first, second, hyps),
-        PairFact::Four => add_fact_four(alloc, first, second, hyps),
-        PairFact::Five => add_fact_five(alloc, width, first, second, hyps),
+        PairFact::Apart => add_apart_fact(alloc, width, first, second, hyps),
+        PairFact::Order => add_order_fact(alloc, first, second, hyps),
+        PairFact::Equality => add_equality_fact(alloc, width, first, second, hyps),
+        PairFact::Bound => add_bound_fact(alloc, first, second, hyps),
+        PairFact::Constant => add_constant_fact(alloc, width, first, second, hyps),
     }
 }
 
@@ -219,7 +219,7 @@ fn add_pair_facts(
     Ok(())
 }
 
-fn add_facts_six_of_pair(
+fn add_three_way_facts_of_pair(
     alloc: Global,
     width: Width,
     first: &NumberedTest<'_>,
@@ -227,39 +227,39 @@ fn add_facts_six_of_pair(
     rows: &[NumberedTest<'_>],
     hyps: &mut Vec<RuledTerm>,
 ) -> Result<(), NoMemory>
-    ensures { OnOk result (hyps.new.items ≡ hyps.old.items ++ flat_map (fact_six (modulus width) first.now second.now) rows.now) }
+    ensures { OnOk result (hyps.new.items ≡ hyps.old.items ++ flat_map (three_way_fact (modulus width) first.now second.now) rows.now) }
 {
     for third in rows {
-        add_fact_six(alloc, width, first, second, third, hyps)?;
+        add_three_way_fact(alloc, width, first, second, third, hyps)?;
     }
     Ok(())
 }
 
-fn add_facts_six_of(
+fn add_three_way_facts_of(
     alloc: Global,
     width: Width,
     first: &NumberedTest<'_>,
     rows: &[NumberedTest<'_>],
     hyps: &mut Vec<RuledTerm>,
 ) -> Result<(), NoMemory>
-    ensures { OnOk result (hyps.new.items ≡ hyps.old.items ++ of_pairs (fact_six (modulus width) first.now) rows.now rows.now) }
+    ensures { OnOk result (hyps.new.items ≡ hyps.old.items ++ of_pairs (three_way_fact (modulus width) first.now) rows.now rows.now) }
 {
     for second in rows {
-        add_facts_six_of_pair(alloc, width, first, second, rows, hyps)?;
+        add_three_way_facts_of_pair(alloc, width, first, second, rows, hyps)?;
     }
     Ok(())
 }
 
-fn add_facts_six(
+fn add_three_way_facts(
     alloc: Global,
     width: Width,
     rows: &[NumberedTest<'_>],
     hyps: &mut Vec<RuledTerm>,
 ) -> Result<(), NoMemory>
-    ensures { OnOk result (hyps.new.items ≡ hyps.old.items ++ flat_map (λ a. of_pairs (fact_six (modulus width) a) rows.now rows.now) rows.now) }
+    ensures { OnOk result (hyps.new.items ≡ hyps.old.items ++ flat_map (λ a. of_pairs (three_way_fact (modulus width) a) rows.now rows.now) rows.now) }
 {
     for first in rows {
-        add_facts_six_of(alloc, width, first, rows, hyps)?;
+        add_three_way_facts_of(alloc, width, first, rows, hyps)?;
     }
     Ok(())
 }
@@ -301,12 +301,12 @@ fn add_facts(
 {
     let width = tables.width;
     add_facts_of_assignments(alloc, tables, actions, rows, hyps)?;
-    add_pair_facts(alloc, width, PairFact::One, rows, hyps)?;
-    add_pair_facts(alloc, width, PairFact::Two, rows, hyps)?;
-    add_pair_facts(alloc, width, PairFact::Three, rows, hyps)?;
-    add_pair_facts(alloc, width, PairFact::Four, rows, hyps)?;
-    add_pair_facts(alloc, width, PairFact::Five, rows, hyps)?;
-    add_facts_six(alloc, width, rows, hyps)
+    add_pair_facts(alloc, width, PairFact::Apart, rows, hyps)?;
+    add_pair_facts(alloc, width, PairFact::Order, rows, hyps)?;
+    add_pair_facts(alloc, width, PairFact::Equality, rows, hyps)?;
+    add_pair_facts(alloc, width, PairFact::Bound, rows, hyps)?;
+    add_pair_facts(alloc, width, PairFact::Constant, rows, hyps)?;
+    add_three_way_facts(alloc, width, rows, hyps)
 }
 
 // Appends the hypotheses that hold in every store of the width.

@@ -1,9 +1,0 @@
-use Rattle.std.proofs.Common.{◌≡◌, ◌++◌, take}
-use Rattle.std.specs.List.{flat_map}
-use Rattle.kat_model.specs.Stores.{modulus}
-use Rattle.abstraction.specs.Facts.{fact_six}
-use Rattle.abstraction.proofs.hypotheses.add_facts_six_of_pair.Given as goal
-
--- the facts of the comparisons so far
-abbrev pub invariant-loop-third : goal.invariant-loop-third
-invariant-loop-third l = l.hyps.items ≡ l.initial.hyps.items ++ flat_map (fact_six (modulus l.width) l.first l.second) (take l.third-index l.rows)
