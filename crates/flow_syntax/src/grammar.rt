@@ -5,578 +5,140 @@ ghost use Rattle.flow_syntax.specs.Productions.{rules, weights};
 ghost use Rattle.flow_syntax.specs.Working.Rows.{row_parts};
 
 use crate::phrase::*;
+use crate::rule::Part::{Closing, Opening, Phrase, Token};
+use crate::rule::Start::{Group, Open, Otherwise, Take};
 use crate::rule::{CLOSE_ROUND, Grammar, NUMBER, OPEN_ROUND, Part, Rule, Start, push_rule};
 use crate::terminal::*;
 use kat_model::NoMemory;
 use std::alloc::Global;
 
 /// A rule: the phrase that it makes, how it begins, and the parts that follow.
-struct RuleRow {
-    phrase: usize,
-    start: Start,
-    parts: &'static [Part],
-}
+struct RuleRow(usize, Start, &'static [Part]);
 
 /// An expression in parentheses, after the word of a conversion.
 const IN_PARENTHESES: &[Part] = &[
-    Part::Opening(OPEN_ROUND),
-    Part::Phrase(EXPRESSION),
-    Part::Token(CLOSE_ROUND),
-    Part::Closing,
+    Opening(OPEN_ROUND),
+    Phrase(EXPRESSION),
+    Token(CLOSE_ROUND),
+    Closing,
 ];
 
 /// Two expressions in parentheses, after the word of a signed comparison.
 const TWO_IN_PARENTHESES: &[Part] = &[
-    Part::Opening(OPEN_ROUND),
-    Part::Phrase(EXPRESSION),
-    Part::Token(COMMA),
-    Part::Phrase(EXPRESSION),
-    Part::Token(CLOSE_ROUND),
-    Part::Closing,
+    Opening(OPEN_ROUND),
+    Phrase(EXPRESSION),
+    Token(COMMA),
+    Phrase(EXPRESSION),
+    Token(CLOSE_ROUND),
+    Closing,
 ];
 
 /// The rules of each phrase, in the order in which they are tried.
+#[rattlefmt::skip]
 const ROWS: &[RuleRow] = &[
-    RuleRow {
-        phrase: FILE,
-        start: Start::Take(SORT),
-        parts: &[
-            Part::Phrase(NAMES),
-            Part::Token(SEMICOLON),
-            Part::Phrase(FILE),
-        ],
-    },
-    RuleRow {
-        phrase: FILE,
-        start: Start::Take(FUN),
-        parts: &[
-            Part::Phrase(SORT_NAME),
-            Part::Token(NAME),
-            Part::Opening(OPEN_ROUND),
-            Part::Phrase(PARAMETERS),
-            Part::Closing,
-            Part::Token(SEMICOLON),
-            Part::Phrase(FILE),
-        ],
-    },
-    RuleRow {
-        phrase: FILE,
-        start: Start::Take(VAR),
-        parts: &[
-            Part::Phrase(SORT_NAME),
-            Part::Phrase(NAMES),
-            Part::Token(SEMICOLON),
-            Part::Phrase(FILE),
-        ],
-    },
-    RuleRow {
-        phrase: FILE,
-        start: Start::Take(GRAPH),
-        parts: &[
-            Part::Token(NAME),
-            Part::Opening(CURLY_OPEN),
-            Part::Phrase(FIRST_BLOCK),
-            Part::Phrase(MORE_BLOCKS),
-            Part::Token(CURLY_CLOSE),
-            Part::Closing,
-            Part::Phrase(FILE),
-        ],
-    },
-    RuleRow {
-        phrase: FILE,
-        start: Start::Take(ROUNDS),
-        parts: &[
-            Part::Token(NUMBER),
-            Part::Token(SEMICOLON),
-            Part::Phrase(FILE),
-        ],
-    },
-    RuleRow {
-        phrase: FILE,
-        start: Start::Take(SPLIT),
-        parts: &[Part::Token(SEMICOLON), Part::Phrase(FILE)],
-    },
-    RuleRow {
-        phrase: FILE,
-        start: Start::Take(EQUAL),
-        parts: &[
-            Part::Token(NAME),
-            Part::Token(COMMA),
-            Part::Token(NAME),
-            Part::Token(SEMICOLON),
-            Part::Phrase(FILE),
-        ],
-    },
-    RuleRow {
-        phrase: FILE,
-        start: Start::Otherwise,
-        parts: &[],
-    },
-    RuleRow {
-        phrase: NAMES,
-        start: Start::Take(NAME),
-        parts: &[Part::Phrase(MORE_NAMES)],
-    },
-    RuleRow {
-        phrase: MORE_NAMES,
-        start: Start::Take(COMMA),
-        parts: &[Part::Token(NAME), Part::Phrase(MORE_NAMES)],
-    },
-    RuleRow {
-        phrase: MORE_NAMES,
-        start: Start::Otherwise,
-        parts: &[],
-    },
-    RuleRow {
-        phrase: SORT_NAME,
-        start: Start::Take(U8),
-        parts: &[],
-    },
-    RuleRow {
-        phrase: SORT_NAME,
-        start: Start::Take(U16),
-        parts: &[],
-    },
-    RuleRow {
-        phrase: SORT_NAME,
-        start: Start::Take(U32),
-        parts: &[],
-    },
-    RuleRow {
-        phrase: SORT_NAME,
-        start: Start::Take(U64),
-        parts: &[],
-    },
-    RuleRow {
-        phrase: SORT_NAME,
-        start: Start::Take(NAME),
-        parts: &[],
-    },
-    RuleRow {
-        phrase: PARAMETERS,
-        start: Start::Take(CLOSE_ROUND),
-        parts: &[],
-    },
-    RuleRow {
-        phrase: PARAMETERS,
-        start: Start::Otherwise,
-        parts: &[
-            Part::Phrase(SORT_NAME),
-            Part::Phrase(MORE_SORTS),
-            Part::Token(CLOSE_ROUND),
-        ],
-    },
-    RuleRow {
-        phrase: MORE_SORTS,
-        start: Start::Take(COMMA),
-        parts: &[Part::Phrase(SORT_NAME), Part::Phrase(MORE_SORTS)],
-    },
-    RuleRow {
-        phrase: MORE_SORTS,
-        start: Start::Otherwise,
-        parts: &[],
-    },
-    RuleRow {
-        phrase: FIRST_BLOCK,
-        start: Start::Take(CUT),
-        parts: &[
-            Part::Token(BLOCK),
-            Part::Token(NAME),
-            Part::Opening(CURLY_OPEN),
-            Part::Phrase(BODY),
-            Part::Token(CURLY_CLOSE),
-            Part::Closing,
-        ],
-    },
-    RuleRow {
-        phrase: FIRST_BLOCK,
-        start: Start::Take(BLOCK),
-        parts: &[
-            Part::Token(NAME),
-            Part::Opening(CURLY_OPEN),
-            Part::Phrase(BODY),
-            Part::Token(CURLY_CLOSE),
-            Part::Closing,
-        ],
-    },
-    RuleRow {
-        phrase: MORE_BLOCKS,
-        start: Start::Take(CUT),
-        parts: &[
-            Part::Token(BLOCK),
-            Part::Token(NAME),
-            Part::Opening(CURLY_OPEN),
-            Part::Phrase(BODY),
-            Part::Token(CURLY_CLOSE),
-            Part::Closing,
-            Part::Phrase(MORE_BLOCKS),
-        ],
-    },
-    RuleRow {
-        phrase: MORE_BLOCKS,
-        start: Start::Take(BLOCK),
-        parts: &[
-            Part::Token(NAME),
-            Part::Opening(CURLY_OPEN),
-            Part::Phrase(BODY),
-            Part::Token(CURLY_CLOSE),
-            Part::Closing,
-            Part::Phrase(MORE_BLOCKS),
-        ],
-    },
-    RuleRow {
-        phrase: MORE_BLOCKS,
-        start: Start::Otherwise,
-        parts: &[],
-    },
-    RuleRow {
-        phrase: BODY,
-        start: Start::Take(NAME),
-        parts: &[
-            Part::Phrase(MORE_NAMES),
-            Part::Token(BECOMES),
-            Part::Phrase(EXPRESSION),
-            Part::Phrase(MORE_EXPRESSIONS),
-            Part::Token(SEMICOLON),
-            Part::Phrase(BODY),
-        ],
-    },
-    RuleRow {
-        phrase: BODY,
-        start: Start::Take(ASSERT),
-        parts: &[
-            Part::Phrase(CONDITION),
-            Part::Token(SEMICOLON),
-            Part::Phrase(BODY),
-        ],
-    },
-    RuleRow {
-        phrase: BODY,
-        start: Start::Take(GOTO),
-        parts: &[Part::Token(NAME), Part::Token(SEMICOLON)],
-    },
-    RuleRow {
-        phrase: BODY,
-        start: Start::Take(IF),
-        parts: &[
-            Part::Phrase(CONDITION),
-            Part::Token(GOTO),
-            Part::Token(NAME),
-            Part::Token(ELSE),
-            Part::Token(NAME),
-            Part::Token(SEMICOLON),
-        ],
-    },
-    RuleRow {
-        phrase: BODY,
-        start: Start::Take(RETURN),
-        parts: &[Part::Phrase(RESULTS)],
-    },
-    RuleRow {
-        phrase: BODY,
-        start: Start::Take(ABORT),
-        parts: &[Part::Token(SEMICOLON)],
-    },
-    RuleRow {
-        phrase: RESULTS,
-        start: Start::Take(SEMICOLON),
-        parts: &[],
-    },
-    RuleRow {
-        phrase: RESULTS,
-        start: Start::Otherwise,
-        parts: &[
-            Part::Phrase(EXPRESSION),
-            Part::Phrase(MORE_EXPRESSIONS),
-            Part::Token(SEMICOLON),
-        ],
-    },
-    RuleRow {
-        phrase: CONDITION,
-        start: Start::Otherwise,
-        parts: &[Part::Phrase(CONJUNCTION), Part::Phrase(MORE_CONJUNCTIONS)],
-    },
-    RuleRow {
-        phrase: MORE_CONJUNCTIONS,
-        start: Start::Take(OR),
-        parts: &[Part::Phrase(CONJUNCTION), Part::Phrase(MORE_CONJUNCTIONS)],
-    },
-    RuleRow {
-        phrase: MORE_CONJUNCTIONS,
-        start: Start::Otherwise,
-        parts: &[],
-    },
-    RuleRow {
-        phrase: CONJUNCTION,
-        start: Start::Otherwise,
-        parts: &[Part::Phrase(LITERAL), Part::Phrase(MORE_LITERALS)],
-    },
-    RuleRow {
-        phrase: MORE_LITERALS,
-        start: Start::Take(AND),
-        parts: &[Part::Phrase(LITERAL), Part::Phrase(MORE_LITERALS)],
-    },
-    RuleRow {
-        phrase: MORE_LITERALS,
-        start: Start::Otherwise,
-        parts: &[],
-    },
-    RuleRow {
-        phrase: LITERAL,
-        start: Start::Open(BANG),
-        parts: &[Part::Phrase(LITERAL), Part::Closing],
-    },
-    RuleRow {
-        phrase: LITERAL,
-        start: Start::Take(TRUE),
-        parts: &[],
-    },
-    RuleRow {
-        phrase: LITERAL,
-        start: Start::Take(FALSE),
-        parts: &[],
-    },
-    RuleRow {
-        phrase: LITERAL,
-        start: Start::Group(CONTINUES),
-        parts: &[
-            Part::Phrase(CONDITION),
-            Part::Token(CLOSE_ROUND),
-            Part::Closing,
-        ],
-    },
-    RuleRow {
-        phrase: LITERAL,
-        start: Start::Take(SLT),
-        parts: TWO_IN_PARENTHESES,
-    },
-    RuleRow {
-        phrase: LITERAL,
-        start: Start::Take(SLE),
-        parts: TWO_IN_PARENTHESES,
-    },
-    RuleRow {
-        phrase: LITERAL,
-        start: Start::Take(SGT),
-        parts: TWO_IN_PARENTHESES,
-    },
-    RuleRow {
-        phrase: LITERAL,
-        start: Start::Take(SGE),
-        parts: TWO_IN_PARENTHESES,
-    },
-    RuleRow {
-        phrase: LITERAL,
-        start: Start::Otherwise,
-        parts: &[
-            Part::Phrase(EXPRESSION),
-            Part::Phrase(RELATION),
-            Part::Phrase(EXPRESSION),
-        ],
-    },
-    RuleRow {
-        phrase: RELATION,
-        start: Start::Take(EQ),
-        parts: &[],
-    },
-    RuleRow {
-        phrase: RELATION,
-        start: Start::Take(NE),
-        parts: &[],
-    },
-    RuleRow {
-        phrase: RELATION,
-        start: Start::Take(LT),
-        parts: &[],
-    },
-    RuleRow {
-        phrase: RELATION,
-        start: Start::Take(LE),
-        parts: &[],
-    },
-    RuleRow {
-        phrase: RELATION,
-        start: Start::Take(GT),
-        parts: &[],
-    },
-    RuleRow {
-        phrase: RELATION,
-        start: Start::Take(GE),
-        parts: &[],
-    },
-    RuleRow {
-        phrase: CONTINUES,
-        start: Start::Take(PLUS),
-        parts: &[],
-    },
-    RuleRow {
-        phrase: CONTINUES,
-        start: Start::Take(MINUS),
-        parts: &[],
-    },
-    RuleRow {
-        phrase: CONTINUES,
-        start: Start::Take(STAR),
-        parts: &[],
-    },
-    RuleRow {
-        phrase: CONTINUES,
-        start: Start::Take(EQ),
-        parts: &[],
-    },
-    RuleRow {
-        phrase: CONTINUES,
-        start: Start::Take(NE),
-        parts: &[],
-    },
-    RuleRow {
-        phrase: CONTINUES,
-        start: Start::Take(LT),
-        parts: &[],
-    },
-    RuleRow {
-        phrase: CONTINUES,
-        start: Start::Take(LE),
-        parts: &[],
-    },
-    RuleRow {
-        phrase: CONTINUES,
-        start: Start::Take(GT),
-        parts: &[],
-    },
-    RuleRow {
-        phrase: CONTINUES,
-        start: Start::Take(GE),
-        parts: &[],
-    },
-    RuleRow {
-        phrase: EXPRESSION,
-        start: Start::Otherwise,
-        parts: &[Part::Phrase(PRODUCT), Part::Phrase(MORE_SUMMANDS)],
-    },
-    RuleRow {
-        phrase: MORE_SUMMANDS,
-        start: Start::Take(PLUS),
-        parts: &[Part::Phrase(PRODUCT), Part::Phrase(MORE_SUMMANDS)],
-    },
-    RuleRow {
-        phrase: MORE_SUMMANDS,
-        start: Start::Take(MINUS),
-        parts: &[Part::Phrase(PRODUCT), Part::Phrase(MORE_SUMMANDS)],
-    },
-    RuleRow {
-        phrase: MORE_SUMMANDS,
-        start: Start::Otherwise,
-        parts: &[],
-    },
-    RuleRow {
-        phrase: PRODUCT,
-        start: Start::Otherwise,
-        parts: &[Part::Phrase(FACTOR), Part::Phrase(MORE_FACTORS)],
-    },
-    RuleRow {
-        phrase: MORE_FACTORS,
-        start: Start::Take(STAR),
-        parts: &[Part::Phrase(FACTOR), Part::Phrase(MORE_FACTORS)],
-    },
-    RuleRow {
-        phrase: MORE_FACTORS,
-        start: Start::Otherwise,
-        parts: &[],
-    },
-    RuleRow {
-        phrase: FACTOR,
-        start: Start::Take(NUMBER),
-        parts: &[],
-    },
-    RuleRow {
-        phrase: FACTOR,
-        start: Start::Take(NAME),
-        parts: &[Part::Phrase(CALL)],
-    },
-    RuleRow {
-        phrase: FACTOR,
-        start: Start::Take(U8),
-        parts: IN_PARENTHESES,
-    },
-    RuleRow {
-        phrase: FACTOR,
-        start: Start::Take(U16),
-        parts: IN_PARENTHESES,
-    },
-    RuleRow {
-        phrase: FACTOR,
-        start: Start::Take(U32),
-        parts: IN_PARENTHESES,
-    },
-    RuleRow {
-        phrase: FACTOR,
-        start: Start::Take(U64),
-        parts: IN_PARENTHESES,
-    },
-    RuleRow {
-        phrase: FACTOR,
-        start: Start::Take(S8),
-        parts: IN_PARENTHESES,
-    },
-    RuleRow {
-        phrase: FACTOR,
-        start: Start::Take(S16),
-        parts: IN_PARENTHESES,
-    },
-    RuleRow {
-        phrase: FACTOR,
-        start: Start::Take(S32),
-        parts: IN_PARENTHESES,
-    },
-    RuleRow {
-        phrase: FACTOR,
-        start: Start::Take(S64),
-        parts: IN_PARENTHESES,
-    },
-    RuleRow {
-        phrase: FACTOR,
-        start: Start::Open(OPEN_ROUND),
-        parts: &[
-            Part::Phrase(EXPRESSION),
-            Part::Token(CLOSE_ROUND),
-            Part::Closing,
-        ],
-    },
-    RuleRow {
-        phrase: CALL,
-        start: Start::Open(OPEN_ROUND),
-        parts: &[Part::Phrase(ARGUMENTS), Part::Closing],
-    },
-    RuleRow {
-        phrase: CALL,
-        start: Start::Otherwise,
-        parts: &[],
-    },
-    RuleRow {
-        phrase: ARGUMENTS,
-        start: Start::Take(CLOSE_ROUND),
-        parts: &[],
-    },
-    RuleRow {
-        phrase: ARGUMENTS,
-        start: Start::Otherwise,
-        parts: &[
-            Part::Phrase(EXPRESSION),
-            Part::Phrase(MORE_EXPRESSIONS),
-            Part::Token(CLOSE_ROUND),
-        ],
-    },
-    RuleRow {
-        phrase: MORE_EXPRESSIONS,
-        start: Start::Take(COMMA),
-        parts: &[Part::Phrase(EXPRESSION), Part::Phrase(MORE_EXPRESSIONS)],
-    },
-    RuleRow {
-        phrase: MORE_EXPRESSIONS,
-        start: Start::Otherwise,
-        parts: &[],
-    },
+    RuleRow(FILE, Take(SORT), &[Phrase(NAMES), Token(SEMICOLON), Phrase(FILE)]),
+    RuleRow(FILE, Take(FUN),
+        &[Phrase(SORT_NAME), Token(NAME), Opening(OPEN_ROUND), Phrase(PARAMETERS), Closing,
+            Token(SEMICOLON), Phrase(FILE)]),
+    RuleRow(FILE, Take(VAR), &[Phrase(SORT_NAME), Phrase(NAMES), Token(SEMICOLON), Phrase(FILE)]),
+    RuleRow(FILE, Take(GRAPH),
+        &[Token(NAME), Opening(CURLY_OPEN), Phrase(FIRST_BLOCK), Phrase(MORE_BLOCKS),
+            Token(CURLY_CLOSE), Closing, Phrase(FILE)]),
+    RuleRow(FILE, Take(ROUNDS), &[Token(NUMBER), Token(SEMICOLON), Phrase(FILE)]),
+    RuleRow(FILE, Take(SPLIT), &[Token(SEMICOLON), Phrase(FILE)]),
+    RuleRow(FILE, Take(EQUAL),
+        &[Token(NAME), Token(COMMA), Token(NAME), Token(SEMICOLON), Phrase(FILE)]),
+    RuleRow(FILE, Otherwise, &[]),
+    RuleRow(NAMES, Take(NAME), &[Phrase(MORE_NAMES)]),
+    RuleRow(MORE_NAMES, Take(COMMA), &[Token(NAME), Phrase(MORE_NAMES)]),
+    RuleRow(MORE_NAMES, Otherwise, &[]),
+    RuleRow(SORT_NAME, Take(U8), &[]),
+    RuleRow(SORT_NAME, Take(U16), &[]),
+    RuleRow(SORT_NAME, Take(U32), &[]),
+    RuleRow(SORT_NAME, Take(U64), &[]),
+    RuleRow(SORT_NAME, Take(NAME), &[]),
+    RuleRow(PARAMETERS, Take(CLOSE_ROUND), &[]),
+    RuleRow(PARAMETERS, Otherwise, &[Phrase(SORT_NAME), Phrase(MORE_SORTS), Token(CLOSE_ROUND)]),
+    RuleRow(MORE_SORTS, Take(COMMA), &[Phrase(SORT_NAME), Phrase(MORE_SORTS)]),
+    RuleRow(MORE_SORTS, Otherwise, &[]),
+    RuleRow(FIRST_BLOCK, Take(CUT),
+        &[Token(BLOCK), Token(NAME), Opening(CURLY_OPEN), Phrase(BODY), Token(CURLY_CLOSE),
+            Closing]),
+    RuleRow(FIRST_BLOCK, Take(BLOCK),
+        &[Token(NAME), Opening(CURLY_OPEN), Phrase(BODY), Token(CURLY_CLOSE), Closing]),
+    RuleRow(MORE_BLOCKS, Take(CUT),
+        &[Token(BLOCK), Token(NAME), Opening(CURLY_OPEN), Phrase(BODY), Token(CURLY_CLOSE),
+            Closing, Phrase(MORE_BLOCKS)]),
+    RuleRow(MORE_BLOCKS, Take(BLOCK),
+        &[Token(NAME), Opening(CURLY_OPEN), Phrase(BODY), Token(CURLY_CLOSE), Closing,
+            Phrase(MORE_BLOCKS)]),
+    RuleRow(MORE_BLOCKS, Otherwise, &[]),
+    RuleRow(BODY, Take(NAME),
+        &[Phrase(MORE_NAMES), Token(BECOMES), Phrase(EXPRESSION), Phrase(MORE_EXPRESSIONS),
+            Token(SEMICOLON), Phrase(BODY)]),
+    RuleRow(BODY, Take(ASSERT), &[Phrase(CONDITION), Token(SEMICOLON), Phrase(BODY)]),
+    RuleRow(BODY, Take(GOTO), &[Token(NAME), Token(SEMICOLON)]),
+    RuleRow(BODY, Take(IF),
+        &[Phrase(CONDITION), Token(GOTO), Token(NAME), Token(ELSE), Token(NAME), Token(SEMICOLON)]),
+    RuleRow(BODY, Take(RETURN), &[Phrase(RESULTS)]),
+    RuleRow(BODY, Take(ABORT), &[Token(SEMICOLON)]),
+    RuleRow(RESULTS, Take(SEMICOLON), &[]),
+    RuleRow(RESULTS, Otherwise, &[Phrase(EXPRESSION), Phrase(MORE_EXPRESSIONS), Token(SEMICOLON)]),
+    RuleRow(CONDITION, Otherwise, &[Phrase(CONJUNCTION), Phrase(MORE_CONJUNCTIONS)]),
+    RuleRow(MORE_CONJUNCTIONS, Take(OR), &[Phrase(CONJUNCTION), Phrase(MORE_CONJUNCTIONS)]),
+    RuleRow(MORE_CONJUNCTIONS, Otherwise, &[]),
+    RuleRow(CONJUNCTION, Otherwise, &[Phrase(LITERAL), Phrase(MORE_LITERALS)]),
+    RuleRow(MORE_LITERALS, Take(AND), &[Phrase(LITERAL), Phrase(MORE_LITERALS)]),
+    RuleRow(MORE_LITERALS, Otherwise, &[]),
+    RuleRow(LITERAL, Open(BANG), &[Phrase(LITERAL), Closing]),
+    RuleRow(LITERAL, Take(TRUE), &[]),
+    RuleRow(LITERAL, Take(FALSE), &[]),
+    RuleRow(LITERAL, Group(CONTINUES), &[Phrase(CONDITION), Token(CLOSE_ROUND), Closing]),
+    RuleRow(LITERAL, Take(SLT), TWO_IN_PARENTHESES),
+    RuleRow(LITERAL, Take(SLE), TWO_IN_PARENTHESES),
+    RuleRow(LITERAL, Take(SGT), TWO_IN_PARENTHESES),
+    RuleRow(LITERAL, Take(SGE), TWO_IN_PARENTHESES),
+    RuleRow(LITERAL, Otherwise, &[Phrase(EXPRESSION), Phrase(RELATION), Phrase(EXPRESSION)]),
+    RuleRow(RELATION, Take(EQ), &[]),
+    RuleRow(RELATION, Take(NE), &[]),
+    RuleRow(RELATION, Take(LT), &[]),
+    RuleRow(RELATION, Take(LE), &[]),
+    RuleRow(RELATION, Take(GT), &[]),
+    RuleRow(RELATION, Take(GE), &[]),
+    RuleRow(CONTINUES, Take(PLUS), &[]),
+    RuleRow(CONTINUES, Take(MINUS), &[]),
+    RuleRow(CONTINUES, Take(STAR), &[]),
+    RuleRow(CONTINUES, Take(EQ), &[]),
+    RuleRow(CONTINUES, Take(NE), &[]),
+    RuleRow(CONTINUES, Take(LT), &[]),
+    RuleRow(CONTINUES, Take(LE), &[]),
+    RuleRow(CONTINUES, Take(GT), &[]),
+    RuleRow(CONTINUES, Take(GE), &[]),
+    RuleRow(EXPRESSION, Otherwise, &[Phrase(PRODUCT), Phrase(MORE_SUMMANDS)]),
+    RuleRow(MORE_SUMMANDS, Take(PLUS), &[Phrase(PRODUCT), Phrase(MORE_SUMMANDS)]),
+    RuleRow(MORE_SUMMANDS, Take(MINUS), &[Phrase(PRODUCT), Phrase(MORE_SUMMANDS)]),
+    RuleRow(MORE_SUMMANDS, Otherwise, &[]),
+    RuleRow(PRODUCT, Otherwise, &[Phrase(FACTOR), Phrase(MORE_FACTORS)]),
+    RuleRow(MORE_FACTORS, Take(STAR), &[Phrase(FACTOR), Phrase(MORE_FACTORS)]),
+    RuleRow(MORE_FACTORS, Otherwise, &[]),
+    RuleRow(FACTOR, Take(NUMBER), &[]),
+    RuleRow(FACTOR, Take(NAME), &[Phrase(CALL)]),
+    RuleRow(FACTOR, Take(U8), IN_PARENTHESES),
+    RuleRow(FACTOR, Take(U16), IN_PARENTHESES),
+    RuleRow(FACTOR, Take(U32), IN_PARENTHESES),
+    RuleRow(FACTOR, Take(U64), IN_PARENTHESES),
+    RuleRow(FACTOR, Take(S8), IN_PARENTHESES),
+    RuleRow(FACTOR, Take(S16), IN_PARENTHESES),
+    RuleRow(FACTOR, Take(S32), IN_PARENTHESES),
+    RuleRow(FACTOR, Take(S64), IN_PARENTHESES),
+    RuleRow(FACTOR, Open(OPEN_ROUND), &[Phrase(EXPRESSION), Token(CLOSE_ROUND), Closing]),
+    RuleRow(CALL, Open(OPEN_ROUND), &[Phrase(ARGUMENTS), Closing]),
+    RuleRow(CALL, Otherwise, &[]),
+    RuleRow(ARGUMENTS, Take(CLOSE_ROUND), &[]),
+    RuleRow(ARGUMENTS, Otherwise,
+        &[Phrase(EXPRESSION), Phrase(MORE_EXPRESSIONS), Token(CLOSE_ROUND)]),
+    RuleRow(MORE_EXPRESSIONS, Take(COMMA), &[Phrase(EXPRESSION), Phrase(MORE_EXPRESSIONS)]),
+    RuleRow(MORE_EXPRESSIONS, Otherwise, &[]),
 ];
 
 fn rules_of_rows(alloc: Global, rows: &[RuleRow]) -> Result<Vec<Rule>, NoMemory>
@@ -584,7 +146,7 @@ fn rules_of_rows(alloc: Global, rows: &[RuleRow]) -> Result<Vec<Rule>, NoMemory>
 {
     let mut list = Vec::new(alloc);
     for row in rows {
-        push_rule(alloc, &mut list, row.phrase, row.start, row.parts)?;
+        push_rule(alloc, &mut list, row.0, row.1, row.2)?;
     }
     Ok(list)
 }

@@ -4,4 +4,4 @@ use Rattle.flow_syntax.specs.declared.grammar.RuleRow.{RuleRow}
 
 -- the rule of a row
 abbrev pub row_parts : RuleRow → RuleParts
-row_parts r = rule_parts r.phrase r.start r.parts.now
+row_parts r = rule_parts r.0 r.1 r.2.now
