@@ -214,7 +214,7 @@ pub(crate) fn steps(
     ensures grows { TablesGrow tables.old tables.new }
 {
     // The proof needs the rules of the tables.
-    let _count = tables.term_count();
+    let _known = tables.term_count();
     let mut list = Vec::new(tables.alloc());
     for is_needed in needed {
         if *is_needed {

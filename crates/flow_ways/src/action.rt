@@ -123,7 +123,7 @@ pub fn action_of(
 ) -> Result<Vec<Option<FlowForm>>, NoMemory>
     ensures { IfOk result (λ list. map set_tree list.items ≡ action_for (λ x. slice_index_or live.now x false) sorts.now (map form_tree forms.now)) }
 {
-    let _count = sorts.len();
+    let _known = sorts.len();
     let mut list = Vec::new(alloc);
     push_action(alloc, live, sorts, 0, forms, &mut list)?;
     Ok(list)

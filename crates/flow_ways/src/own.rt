@@ -58,7 +58,7 @@ fn push_own_from(
 pub fn own_forms(alloc: Global, sorts: &[Sort]) -> Result<Vec<FlowForm>, NoMemory>
     ensures { IfOk result (λ list. map form_tree list.items ≡ own_forms_from 0 sorts.now) }
 {
-    let _count = sorts.len();
+    let _known = sorts.len();
     let mut list = Vec::new(alloc);
     push_own(alloc, sorts, 0, &mut list)?;
     Ok(list)
