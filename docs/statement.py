@@ -56,7 +56,7 @@ PARTS = [
          "question are one. The text of flow graphs and the problem that is printed are in part 12, what a problem file asks is in "
          "part 6: what an answer says about the graphs does not need them.",
          clauses=[("tool_flow/src/flow.rt", "flow_bytes", ["headline"])],
-         later=("Asks", "IsFlowText", "FirstFault", "IsFaultOf", "HasFlowProblem", "HasNoFlowProblem", "problem_text", "variable_names",
+         later=("Poses", "IsFlowText", "FirstFault", "IsFaultOf", "HasFlowProblem", "HasNoFlowProblem", "problem_text", "variable_names",
                 "function_names", "ItemSyntax")),
     Part("Every text", "What any text asks, by the grammar of problem files, what its goal says of stores, and what `check` "
          "and `explain` answer.",

@@ -11,7 +11,7 @@ use Rattle.kat_model.specs.Relations.{RelatesIn, Same}
 use Rattle.kat_model.proofs.Places.{place_of_member}
 use Rattle.linear_forms.specs.declared.comparison.Atomic.{Atomic}
 use Rattle.while_lang.specs.Files.{FileParts, GoalTree, equal, triple, prog_side}
-use Rattle.while_lang.specs.Concrete.{AsksOfProgs, IsStoreOf, EndAlike, MeetsTriple, GoalAgrees}
+use Rattle.while_lang.specs.Concrete.{PosesProgs, IsStoreOf, EndAlike, MeetsTriple, GoalAgrees}
 use Rattle.while_lang.specs.Ranges.{IsProgInRange, IsGoalInRange}
 use Rattle.while_lang.specs.Programs.{ProgTree}
 use Rattle.abstraction.specs.Abstracts.{AbstractParts, test_rows_of, action_rows_of, file_problem, abstract_parts, abstract_of, HasNumbersInRange}
@@ -64,11 +64,11 @@ module _ (f : FileParts) (cs : List Atomic) (xs : List Assignment) where
       let post = fails_read f.width (tables_with f cs xs) (frame_with f cs xs) c t (cond_read f cs xs c range.2 seen.2) st in
       ⊎_elim (λ e. e) (λ e. absurd ((same s t ss st).0 (s, ss, (refl, pre), (t, st, run.0 g, (refl, post e))))) (cases_Bool (holds f.width t c))
 
-  goal_agrees : (g : GoalTree) → AsksOfProgs g → IsGoalInRange f.tests f.actions f.vars g → IsSubset (goal_comparisons (modulus f.width) g) cs →
+  goal_agrees : (g : GoalTree) → PosesProgs g → IsGoalInRange f.tests f.actions f.vars g → IsSubset (goal_comparisons (modulus f.width) g) cs →
       IsSubset (goal_assignments (modulus f.width) g) xs → SameSides g → GoalAgrees f g
-  goal_agrees (equal (prog_side p) (prog_side q)) asks range tests acts same = end_alike p q range.0 range.1 tests acts same
-  goal_agrees (triple b (prog_side p) c) asks range tests acts same = meets_triple b p c range tests acts same
-  goal_agrees _ asks range tests acts same = absurd asks
+  goal_agrees (equal (prog_side p) (prog_side q)) poses range tests acts same = end_alike p q range.0 range.1 tests acts same
+  goal_agrees (triple b (prog_side p) c) poses range tests acts same = meets_triple b p c range tests acts same
+  goal_agrees _ poses range tests acts same = absurd poses
 
 -- ---- files
 
@@ -105,4 +105,4 @@ same_agrees f a range e derived concrete same =
     let made = abstract_parts_of f a e in
     let fits = stores_fit f concrete.hyps (subst (DerivedHold f) (sym made) derived) in
     let sides = same_in_frame (frame_with f (file_comparisons f) (file_assignments f)) (file_problem f) fits (subst (λ x. Same x.problem) (sym made) same) in
-    goal_agrees f (file_comparisons f) (file_assignments f) f.goal concrete.asks range.goal (goal_comparisons_within f) (goal_assignments_within f) sides
+    goal_agrees f (file_comparisons f) (file_assignments f) f.goal concrete.poses range.goal (goal_comparisons_within f) (goal_assignments_within f) sides

@@ -48,23 +48,23 @@ slice_get-append_add (x ∷ xs) ys k =
     let next : length (x ∷ xs) + k ≡ suc (length xs + k) = omega arith in
     ap (slice_get (x ∷ xs ++ ys)) next ∙ slice_get-append_add xs ys k
 
-module _ {X Y : Type 0} (declared : ℕ → Y) (stands : X → Y) (n : ℕ) (xs : List X) where
-  declared_row : (k : ℕ) → k < n → slice_get (map declared (range_with_len 0 n) ++ map stands xs) k ≡ Some (declared k)
+module _ {X Y : Type 0} (declared : ℕ → Y) (represents : X → Y) (n : ℕ) (xs : List X) where
+  declared_row : (k : ℕ) → k < n → slice_get (map declared (range_with_len 0 n) ++ map represents xs) k ≡ Some (declared k)
   declared_row k lt =
-      slice_get-append_left (map declared (range_with_len 0 n)) (map stands xs) k (rw (length-map-range_with_len declared 0 n) lt)
+      slice_get-append_left (map declared (range_with_len 0 n)) (map represents xs) k (rw (length-map-range_with_len declared 0 n) lt)
       ∙ slice_get-map declared (range_with_len 0 n) k
       ∙ ap (option_map declared) (slice_get-get_or (range_with_len 0 n) k 0 (rw (length-range_with_len 0 n) lt))
       ∙ ap (λ i. Some (declared i)) (get_or-range_with_len 0 n k 0 lt ∙ omega arith)
 
-  later_row : (k : ℕ) (x : X) → slice_get xs k ≡ Some x → slice_get (map declared (range_with_len 0 n) ++ map stands xs) (n + k) ≡ Some (stands x)
+  later_row : (k : ℕ) (x : X) → slice_get xs k ≡ Some x → slice_get (map declared (range_with_len 0 n) ++ map represents xs) (n + k) ≡ Some (represents x)
   later_row k x e =
-      ap (λ i. slice_get (map declared (range_with_len 0 n) ++ map stands xs) (i + k)) (sym (length-map-range_with_len declared 0 n))
-      ∙ slice_get-append_add (map declared (range_with_len 0 n)) (map stands xs) k
-      ∙ slice_get-map stands xs k
-      ∙ ap (option_map stands) e
+      ap (λ i. slice_get (map declared (range_with_len 0 n) ++ map represents xs) (i + k)) (sym (length-map-range_with_len declared 0 n))
+      ∙ slice_get-append_add (map declared (range_with_len 0 n)) (map represents xs) k
+      ∙ slice_get-map represents xs k
+      ∙ ap (option_map represents) e
 
-  pub length-rows : length (map declared (range_with_len 0 n) ++ map stands xs) ≡ n + length xs
-  length-rows = length-append (map declared (range_with_len 0 n)) (map stands xs) ∙ rw (length-map-range_with_len declared 0 n, length-map xs stands) refl
+  pub length-rows : length (map declared (range_with_len 0 n) ++ map represents xs) ≡ n + length xs
+  length-rows = length-append (map declared (range_with_len 0 n)) (map represents xs) ∙ rw (length-map-range_with_len declared 0 n, length-map xs represents) refl
 
 -- ---- stores as a frame, by tables
 

@@ -1,6 +1,7 @@
-//! The abstraction of a problem file: programs over variables become terms over tests and actions, with the known
-//! hypotheses about assignments and comparisons. The tests and actions of a goal have tables, over whose rows its
-//! conditions and programs are terms; each hypothesis over these tables has the rule by which it holds.
+//! Programs over variables as terms over tests and actions, with hypotheses.
+//!
+//! The tests and actions of a goal have tables, over whose rows its conditions and programs are terms; each hypothesis
+//! over these tables has the rule by which it holds.
 #![tactic(auto)]
 
 mod assignments;

@@ -1,6 +1,7 @@
-//! Generated problems: random programs, each compared with itself after its loops are unrolled. Unrolling a loop does
-//! not change the meaning of a program, so the sides of every second problem are equal; the other problems have an
-//! additional action on the right.
+//! Generated problems: random programs against themselves with their loops unrolled.
+//!
+//! Unrolling a loop does not change the meaning of a program, so the sides of every second problem are equal; the other
+//! problems have an additional action on the right.
 #![tactic(auto)]
 
 mod blocks;

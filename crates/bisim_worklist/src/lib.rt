@@ -1,4 +1,4 @@
-//! The prover: decides whether the two sides of a problem are the same, and returns evidence.
+//! The prover: decides whether two sides are the same, with evidence.
 //!
 //! The prover walks over pairs of sets of terms up to congruence (`walk_up_to`). If some hypothesis is short and that
 //! walk needs too many pairs or too many steps, it walks over pairs under tests (`walk_under`).

@@ -6,7 +6,7 @@ use Rattle.kat_model.specs.Members.{SameMembers}
 use Rattle.kat_model.specs.Steps.{Atom, dot}
 use Rattle.kat_model.proofs.Lists.{same_members_trans}
 use Rattle.cert_checker.specs.NodeTables.{TableParts, TablesGrow, TestsGrow, IsTest, IsTerm, term_at, holds_at}
-use Rattle.cert_checker.specs.Targets.{chosen, AreEntries, StandFor}
+use Rattle.cert_checker.specs.Targets.{chosen, AreEntries, Represent}
 use Rattle.cert_checker.proofs.GrowingTables.{grows_trans, tests_trans}
 use Rattle.cert_checker.proofs.TargetSets.{holds_kept, chosen_kept}
 use Rattle.cert_checker.proofs.StepSets.{append_same}
@@ -36,11 +36,11 @@ pub record IsAdding (first now : TableParts) (before after rest all : List (ℕ 
 module _ (first now mid last : TableParts) (before after new rest all : List (ℕ × ℕ)) (guard both : ℕ) (e : ℕ × ℕ) where
   -- the conjunction of both guards is the guard of the added target
   pub adding_more : IsAdding first now before after (e ∷ rest) all guard → TestsGrow now mid → ((atom : Atom) → holds_at mid both atom ≡ (holds_at now guard atom && holds_at now e.1 atom))
-      → TestsGrow mid last → StandFor last new (λ atom. chosen mid after atom ++ cond (holds_at mid both atom) (term_at mid e.0 ∷ []) []) → IsAdding first last before new rest all guard
-  adding_more a to_mid value to_last stands = record {
+      → TestsGrow mid last → Represent last new (λ atom. chosen mid after atom ++ cond (holds_at mid both atom) (term_at mid e.0 ∷ []) []) → IsAdding first last before new rest all guard
+  adding_more a to_mid value to_last represents = record {
     grows = tests_trans first mid last (tests_trans first now mid a.grows to_mid) to_last;
     test = a.test;
-    entries = stands.entries;
+    entries = represents.entries;
     others = λ d h. a.others d (inr h);
     same = λ atom. same_members_trans (chosen last new atom ++ cond (holds_at first guard atom) (chosen first rest atom) []) (chosen now after atom ++ cond (holds_at first guard atom) (chosen first (e ∷ rest) atom) []) _
         (adding_step (holds_at first guard atom) (holds_at first e.1 atom) (term_at first e.0) (chosen now after atom) (chosen last new atom) (chosen first rest atom) (step atom)) (a.same atom);
@@ -60,7 +60,7 @@ module _ (first now mid last : TableParts) (before after new rest all : List (�
 
       step : (atom : Atom) → SameMembers (chosen last new atom) (chosen now after atom ++ cond (holds_at first guard atom && holds_at first e.1 atom) (term_at first e.0 ∷ []) [])
       step atom =
-          same_members_trans (chosen last new atom) _ (chosen now after atom ++ cond (holds_at first guard atom && holds_at first e.1 atom) (term_at first e.0 ∷ []) []) (stands.same atom)
+          same_members_trans (chosen last new atom) _ (chosen now after atom ++ cond (holds_at first guard atom && holds_at first e.1 atom) (term_at first e.0 ∷ []) []) (represents.same atom)
           (same_from _ _ (ap₂ (λ (xs ys : List Term). xs ++ ys) (chosen_kept now mid grown.sound to_mid.grows after atom a.entries) (ap₂ (λ (b : Bool) (x : Term). cond b (x ∷ []) []) (guards atom) name)))
 
 nothing_more : (b : Bool) (l : List Term) → l ++ cond b [] [] ≡ l
@@ -68,7 +68,7 @@ nothing_more true l = append-nil l
 nothing_more false l = append-nil l
 
 pub adding_ends : (first now : TableParts) (before after all : List (ℕ × ℕ)) (guard : ℕ) → IsAdding first now before after [] all guard
-    → StandFor now after (λ atom. chosen first before atom ++ cond (holds_at first guard atom) (chosen first all atom) [])
+    → Represent now after (λ atom. chosen first before atom ++ cond (holds_at first guard atom) (chosen first all atom) [])
 adding_ends first now before after all guard a = record {
   entries = a.entries;
   same = λ atom.
@@ -93,11 +93,11 @@ pub record IsFollowing (first now : TableParts) (after : ℕ) (targets rest all 
 
 module _ (first now mid last : TableParts) (after product : ℕ) (targets new rest all : List (ℕ × ℕ)) (e : ℕ × ℕ) where
   pub following_more : IsFollowing first now after targets (e ∷ rest) all → TablesGrow now mid → term_at mid product ≡ dot (term_at now e.0) (term_at now after)
-      → TablesGrow mid last → StandFor last new (λ atom. chosen mid targets atom ++ cond (holds_at mid e.1 atom) (term_at mid product ∷ []) []) → IsFollowing first last after new rest all
-  following_more a to_mid made to_last stands = record {
+      → TablesGrow mid last → Represent last new (λ atom. chosen mid targets atom ++ cond (holds_at mid e.1 atom) (term_at mid product ∷ []) []) → IsFollowing first last after new rest all
+  following_more a to_mid made to_last represents = record {
     grows = grows_trans first mid last (grows_trans first now mid a.grows to_mid) to_last;
     term = a.term;
-    entries = stands.entries;
+    entries = represents.entries;
     others = λ d h. a.others d (inr h);
     same = λ atom. same_members_trans (chosen last new atom ++ map (λ x. dot x (term_at first after)) (chosen first rest atom)) (chosen now targets atom ++ map (λ x. dot x (term_at first after)) (chosen first (e ∷ rest) atom)) _
         (follow_step (λ x. dot x (term_at first after)) (holds_at first e.1 atom) (term_at first e.0) (chosen now targets atom) (chosen last new atom) (chosen first rest atom) (step atom)) (a.same atom);
@@ -114,10 +114,10 @@ module _ (first now mid last : TableParts) (after product : ℕ) (targets new re
 
       step : (atom : Atom) → SameMembers (chosen last new atom) (chosen now targets atom ++ cond (holds_at first e.1 atom) (dot (term_at first e.0) (term_at first after) ∷ []) [])
       step atom =
-          same_members_trans (chosen last new atom) _ (chosen now targets atom ++ cond (holds_at first e.1 atom) (dot (term_at first e.0) (term_at first after) ∷ []) []) (stands.same atom)
+          same_members_trans (chosen last new atom) _ (chosen now targets atom ++ cond (holds_at first e.1 atom) (dot (term_at first e.0) (term_at first after) ∷ []) []) (represents.same atom)
           (same_from _ _ (ap₂ (λ (xs ys : List Term). xs ++ ys) (chosen_kept now mid a.grows.sound to_mid targets atom a.entries) (ap₂ (λ (b : Bool) (x : Term). cond b (x ∷ []) []) (guards atom) name)))
 
-pub following_ends : (first now : TableParts) (after : ℕ) (targets all : List (ℕ × ℕ)) → IsFollowing first now after targets [] all → StandFor now targets (λ atom. map (λ x. dot x (term_at first after)) (chosen first all atom))
+pub following_ends : (first now : TableParts) (after : ℕ) (targets all : List (ℕ × ℕ)) → IsFollowing first now after targets [] all → Represent now targets (λ atom. map (λ x. dot x (term_at first after)) (chosen first all atom))
 following_ends first now after targets all a = record {
   entries = a.entries;
   same = λ atom. subst (λ l. SameMembers l (map (λ x. dot x (term_at first after)) (chosen first all atom))) (append-nil (chosen now targets atom)) (a.same atom);
@@ -126,10 +126,10 @@ following_ends first now after targets all a = record {
 -- ---- targets added unconditionally
 
 -- the added targets are those of older tables
-pub gathered : (first now last : TableParts) (es new more : List (ℕ × ℕ)) (always : ℕ) → TablesGrow first now → AreEntries first more → ((atom : Atom) → holds_at now always atom ≡ true) → StandFor last new (λ atom. chosen now es atom ++ cond (holds_at now always atom) (chosen now more atom) []) → StandFor last new (λ atom. chosen now es atom ++ chosen first more atom)
-gathered first now last es new more always grows own holds_all stands = record {
-  entries = stands.entries;
-  same = λ atom. same_members_trans (chosen last new atom) (chosen now es atom ++ cond (holds_at now always atom) (chosen now more atom) []) (chosen now es atom ++ chosen first more atom) (stands.same atom)
+pub gathered : (first now last : TableParts) (es new more : List (ℕ × ℕ)) (always : ℕ) → TablesGrow first now → AreEntries first more → ((atom : Atom) → holds_at now always atom ≡ true) → Represent last new (λ atom. chosen now es atom ++ cond (holds_at now always atom) (chosen now more atom) []) → Represent last new (λ atom. chosen now es atom ++ chosen first more atom)
+gathered first now last es new more always grows own holds_all represents = record {
+  entries = represents.entries;
+  same = λ atom. same_members_trans (chosen last new atom) (chosen now es atom ++ cond (holds_at now always atom) (chosen now more atom) []) (chosen now es atom ++ chosen first more atom) (represents.same atom)
       (same_from (chosen now es atom ++ cond (holds_at now always atom) (chosen now more atom) []) (chosen now es atom ++ chosen first more atom)
       (ap (λ l. chosen now es atom ++ l) (ap₂ (λ (b : Bool) (l : List Term). cond b l []) (holds_all atom) (chosen_kept first now grows.was grows more atom own))));
 }

@@ -44,13 +44,13 @@ module _ (ps : List NumberPair) where
         go (Some u) is h = none u is
 
     pub both_first : (u : ℕ) (a : Bool) → universal ≡ Some u → (a ≡ true) ↔ AreReached ps ks (u ∷ []) → a ≡ false → (false ≡ true) ↔ IsReachedByBoth ps universal ks ls
-    both_first u a is told off = (
+    both_first u a is given off = (
       (λ e. absurd (false≢true e)),
-      (λ h. absurd (false≢true (sym off ∙ told.1 (reached_one ks u (subst (λ (o : Option ℕ). IsReachedByBoth ps o ks ls) is h).0)))),
+      (λ h. absurd (false≢true (sym off ∙ given.1 (reached_one ks u (subst (λ (o : Option ℕ). IsReachedByBoth ps o ks ls) is h).0)))),
     )
 
     pub both_second : (u : ℕ) (a b : Bool) → universal ≡ Some u → (a ≡ true) ↔ AreReached ps ks (u ∷ []) → a ≡ true → (b ≡ true) ↔ AreReached ps ls (u ∷ []) → (b ≡ true) ↔ IsReachedByBoth ps universal ks ls
-    both_second u a b is told on told_too = (
-      (λ e. subst (λ (o : Option ℕ). IsReachedByBoth ps o ks ls) (sym is) (one_reached ks u (told.0 on), one_reached ls u (told_too.0 e))),
-      (λ h. told_too.1 (reached_one ls u (subst (λ (o : Option ℕ). IsReachedByBoth ps o ks ls) is h).1)),
+    both_second u a b is given on given_too = (
+      (λ e. subst (λ (o : Option ℕ). IsReachedByBoth ps o ks ls) (sym is) (one_reached ks u (given.0 on), one_reached ls u (given_too.0 e))),
+      (λ h. given_too.1 (reached_one ls u (subst (λ (o : Option ℕ). IsReachedByBoth ps o ks ls) is h).1)),
     )

@@ -24,48 +24,48 @@ use Rattle.certificate.specs.PairParts.{PairParts, only_sets}
 use Rattle.certificate.specs.Certs.{CertParts, IsPairOf, HasItsTest, nodes_of}
 use Rattle.certificate.specs.Accepted.{set_pairs, test_of, tested_pair_of, tested_pairs}
 use Rattle.cert_checker.specs.NodeTables.{TableParts, AreTables, TablesGrow, IsTest, IsTerm, HasValues, term_at, holds_at, nodes_in}
-use Rattle.cert_checker.specs.Targets.{AreEntries, StandFor, chosen}
+use Rattle.cert_checker.specs.Targets.{AreEntries, Represent, chosen}
 use Rattle.cert_checker.proofs.GrowingTables.{grows_trans}
-use Rattle.cert_checker.proofs.StepSets.{stand_kept, stand_same}
+use Rattle.cert_checker.proofs.StepSets.{represent_kept, represent_same}
 use Rattle.cert_checker.proofs.TargetSets.{holds_kept}
 use Rattle.cert_checker.specs.Answers.{Begins}
 use Rattle.cert_checker.specs.Cases.{Extends, undecided}
 use Rattle.cert_checker.specs.LeastFailures.{IsFirstFailure}
 use Rattle.cert_checker.specs.Roots.{compared, counted_short}
-use Rattle.cert_checker.specs.Questions.{ActionPassParts, QuestionParts, IsPosed, IsAskedOf, AreNamed, Counts, AreMatchedIn, AreMatchedBy, MatchAt}
+use Rattle.cert_checker.specs.Questions.{ActionPassParts, QuestionParts, IsPosed, IsQueriedOf, AreNamed, Counts, AreMatchedIn, AreMatchedBy, MatchAt}
 use Rattle.cert_checker.specs.Passes.{PassParts, IsPass, PassGrows, IsActionPass, IsAllowed}
 use Rattle.cert_checker.proofs.Passes.{pass_with, turn_with}
 use Rattle.cert_checker.proofs.PairPlaces.{undecided_extends, undecided_length}
 use Rattle.cert_checker.proofs.CertPairs.{set_kept, test_kept, test_there}
-use Rattle.cert_checker.proofs.PairTurns.{outputs_told, both_trans, by_path, matched_in_turn}
+use Rattle.cert_checker.proofs.PairTurns.{outputs_given, both_trans, by_path, matched_in_turn}
 use Rattle.cert_checker.proofs.PosedQuestions.{question_of, question_posed}
 
 -- ---- a test that is true at each allowed atom
 
 -- the empty product under an equivalent condition
-condition_stands : (t : TableParts) (es : List (ℕ × ℕ)) (f g : Atom → Bool) → ((atom : Atom) → f atom ≡ g atom) → StandFor t es (λ atom. cond (f atom) (one ∷ []) []) → StandFor t es (λ atom. cond (g atom) (one ∷ []) [])
-condition_stands t es f g same s =
-    stand_same t es (λ atom. cond (f atom) (one ∷ []) []) (λ atom. cond (g atom) (one ∷ []) []) s
+condition_represents : (t : TableParts) (es : List (ℕ × ℕ)) (f g : Atom → Bool) → ((atom : Atom) → f atom ≡ g atom) → Represent t es (λ atom. cond (f atom) (one ∷ []) []) → Represent t es (λ atom. cond (g atom) (one ∷ []) [])
+condition_represents t es f g same s =
+    represent_same t es (λ atom. cond (f atom) (one ∷ []) []) (λ atom. cond (g atom) (one ∷ []) []) s
     (λ atom. subst (λ b. SameMembers (cond (f atom) (one ∷ []) []) (cond b (one ∷ []) [])) (same atom) (λ x. ((λ h. h), (λ h. h))))
 
 -- The question is whether the sets under two conditions are the same at each allowed atom, and the second condition is
 -- always true. It has no failure if and only if the first condition is true at each allowed atom.
-module _ (p : PassParts) (pass : IsPass p) (action_pass : ActionPassParts) (is : IsActionPass p action_pass) (none : action_pass.action ≡ None) (left right : List (ℕ × ℕ)) (asked : List ℕ) (f g : Atom → Bool)
-    (own : StandFor p.tables left (λ atom. cond (f atom) (one ∷ []) [])) (other : StandFor p.tables right (λ atom. cond (g atom) (one ∷ []) [])) (sure : (atom : Atom) → g atom ≡ true) where
+module _ (p : PassParts) (pass : IsPass p) (action_pass : ActionPassParts) (is : IsActionPass p action_pass) (none : action_pass.action ≡ None) (left right : List (ℕ × ℕ)) (queried : List ℕ) (f g : Atom → Bool)
+    (own : Represent p.tables left (λ atom. cond (f atom) (one ∷ []) [])) (other : Represent p.tables right (λ atom. cond (g atom) (one ∷ []) [])) (sure : (atom : Atom) → g atom ≡ true) where
   abbrev HoldsAllowedly : Type 0
   HoldsAllowedly = (atom : Atom) → length atom ≡ p.tables.width → IsAllowedAtom (counted_short p.cert.style p.problem) atom → IsTrue (f atom)
 
   abbrev the_question : QuestionParts
-  the_question = question_of p.tables action_pass None left right asked
+  the_question = question_of p.tables action_pass None left right queried
 
   mean : (atom to : Atom) → ((h : ℕ × ℕ) → Has action_pass.forbidden h → (holds_at p.tables h.0 atom && holds_at p.tables h.1 to) ≡ false) ↔ IsAllowed (counted_short p.cert.style p.problem) None atom to
   mean = subst (λ o. (atom to : Atom) → ((h : ℕ × ℕ) → Has action_pass.forbidden h → (holds_at p.tables h.0 atom && holds_at p.tables h.1 to) ≡ false) ↔ IsAllowed (counted_short p.cert.style p.problem) o atom to) none is.forbidden.mean
 
-  told : (atom to : Atom) → AreMatchedBy p.tables the_question (chosen p.tables left atom) (chosen p.tables right atom) to ↔ (f atom ≡ g atom)
-  told atom to =
+  given : (atom to : Atom) → AreMatchedBy p.tables the_question (chosen p.tables left atom) (chosen p.tables right atom) to ↔ (f atom ≡ g atom)
+  given atom to =
       both_trans (by_path (matched_in_turn p pass action_pass is (chosen p.tables left atom) (chosen p.tables right atom) to))
       (subst (λ o. AreMatchedIn (nodes_in p.tables) (option_map_or (λ a. p.cert.style) o UpTo) (option_map (term_at p.tables) (option_map_or (λ a. p.universal) o None)) (option_map_or (λ a. p.cert.pairs) o []) (chosen p.tables left atom) (chosen p.tables right atom) to ↔ (f atom ≡ g atom)) (sym none)
-      (outputs_told p.tables left right f g own other atom to))
+      (outputs_given p.tables left right f g own other atom to))
 
   found : (o : Option Atom) → IsFirstFailure (MatchAt p.tables the_question) (undecided (p.tables.width + p.tables.width)) o → (o ≡ None) ↔ HoldsAllowedly
   found None h = (
@@ -74,7 +74,7 @@ module _ (p : PassParts) (pass : IsPass p) (action_pass : ActionPassParts) (is :
         let counts : Counts p.tables the_question (take p.tables.width (atom ++ atom)) (drop p.tables.width (atom ++ atom)) =
         record { pair_test = refl; free = (mean (take p.tables.width (atom ++ atom)) (drop p.tables.width (atom ++ atom))).1 (subst (IsAllowedAtom (counted_short p.cert.style p.problem)) (sym front) allowed) } in
         let there : Extends (undecided (p.tables.width + p.tables.width)) (atom ++ atom) = undecided_extends (p.tables.width + p.tables.width) (atom ++ atom) (omega (arith, l, length-append atom atom)) in
-        ap f (sym front) ∙ (told (take p.tables.width (atom ++ atom)) (drop p.tables.width (atom ++ atom))).0 (h (atom ++ atom) there counts) ∙ sure (take p.tables.width (atom ++ atom))),
+        ap f (sym front) ∙ (given (take p.tables.width (atom ++ atom)) (drop p.tables.width (atom ++ atom))).0 (h (atom ++ atom) there counts) ∙ sure (take p.tables.width (atom ++ atom))),
     (λ all. refl),
   )
   found (Some x) h = (
@@ -82,7 +82,7 @@ module _ (p : PassParts) (pass : IsPass p) (action_pass : ActionPassParts) (is :
     (λ all.
         let wide : length x ≡ p.tables.width + p.tables.width = undecided_length (p.tables.width + p.tables.width) x h.within in
         let long : length (take p.tables.width x) ≡ p.tables.width = length-take-le p.tables.width x (omega (arith, wide)) in
-        absurd (h.fails (λ counts. (told (take p.tables.width x) (drop p.tables.width x)).1 (all (take p.tables.width x) long ((mean (take p.tables.width x) (drop p.tables.width x)).0 counts.free) ∙ sym (sure (take p.tables.width x)))))),
+        absurd (h.fails (λ counts. (given (take p.tables.width x) (drop p.tables.width x)).1 (all (take p.tables.width x) long ((mean (take p.tables.width x) (drop p.tables.width x)).0 counts.free) ∙ sym (sure (take p.tables.width x)))))),
   )
 
   throughout : {X : Type 0} (v : X → Atom) (o : Option X) (b : Bool) → is_some o ≡ not b → IsFirstFailure (MatchAt p.tables the_question) (undecided (p.tables.width + p.tables.width)) (option_map v o) → IsTrue b ↔ HoldsAllowedly
@@ -94,7 +94,7 @@ module _ (p : PassParts) (pass : IsPass p) (action_pass : ActionPassParts) (is :
 -- an action's pass and the two sets add nodes to the tables
 module _ (old p : PassParts) (grows : PassGrows old p) (begun : IsPass p) (second third last : TableParts) (to_second : TablesGrow p.tables second) (to_third : TablesGrow second third) (to_last : TablesGrow third last) (action_pass : ActionPassParts) (is : IsActionPass p action_pass)
     (none : action_pass.action ≡ None) (test always : ℕ) (there : IsTest old.tables test) (sure : HasValues second (λ atom. true) always) (left right : List (ℕ × ℕ))
-    (own : StandFor third left (λ atom. cond (holds_at second test atom) (one ∷ []) [])) (other : StandFor last right (λ atom. cond (holds_at third always atom) (one ∷ []) [])) where
+    (own : Represent third left (λ atom. cond (holds_at second test atom) (one ∷ []) [])) (other : Represent last right (λ atom. cond (holds_at third always atom) (one ∷ []) [])) where
   to_end : TablesGrow p.tables last
   to_end = grows_trans p.tables second last to_second (grows_trans second third last to_third to_last)
 
@@ -104,23 +104,23 @@ module _ (old p : PassParts) (grows : PassGrows old p) (begun : IsPass p) (secon
   turns : IsActionPass (record p { tables = last }) action_pass
   turns = turn_with p last to_end action_pass begun is
 
-  lefts : StandFor last left (λ atom. cond (holds_at old.tables test atom) (one ∷ []) [])
+  lefts : Represent last left (λ atom. cond (holds_at old.tables test atom) (one ∷ []) [])
   lefts =
-      condition_stands last left (holds_at second test) (holds_at old.tables test) (λ atom. holds_kept old.tables second grows.tables.was (grows_trans old.tables p.tables second grows.tables to_second) test atom there)
-      (stand_kept third last to_last.was to_last left (λ atom. cond (holds_at second test atom) (one ∷ []) []) own)
+      condition_represents last left (holds_at second test) (holds_at old.tables test) (λ atom. holds_kept old.tables second grows.tables.was (grows_trans old.tables p.tables second grows.tables to_second) test atom there)
+      (represent_kept third last to_last.was to_last left (λ atom. cond (holds_at second test atom) (one ∷ []) []) own)
 
   pub throughout_entries : AreEntries last left
   throughout_entries = lefts.entries
 
-  pub throughout_posed : (q : QuestionParts) → IsAskedOf last action_pass None left right q → AreNamed last q q.asked → IsPosed q
+  pub throughout_posed : (q : QuestionParts) → IsQueriedOf last action_pass None left right q → AreNamed last q q.queried → IsPosed q
   throughout_posed q e named = question_posed (record p { tables = last }) ended action_pass turns q None left right e named (λ k s. absurd cc) lefts.entries other.entries
 
-  pub throughout_told : (q : QuestionParts) → IsAskedOf last action_pass None left right q → {X : Type 0} (v : X → Atom) (o : Option X) (b : Bool) → is_some o ≡ not b → IsFirstFailure (MatchAt q.tables q) (undecided (last.width + last.width)) (option_map v o)
+  pub throughout_given : (q : QuestionParts) → IsQueriedOf last action_pass None left right q → {X : Type 0} (v : X → Atom) (o : Option X) (b : Bool) → is_some o ≡ not b → IsFirstFailure (MatchAt q.tables q) (undecided (last.width + last.width)) (option_map v o)
       → IsTrue b ↔ ((atom : Atom) → length atom ≡ old.problem.tests → IsAllowedAtom (counted_short old.cert.style old.problem) atom → IsTrue (holds_at old.tables test atom))
-  throughout_told q e v o b same found =
+  throughout_given q e v o b same found =
       subst (λ (z : PassParts). IsTrue b ↔ ((atom : Atom) → length atom ≡ z.problem.tests → IsAllowedAtom (counted_short z.cert.style z.problem) atom → IsTrue (holds_at old.tables test atom))) grows.same
       (subst (λ n. IsTrue b ↔ ((atom : Atom) → length atom ≡ n → IsAllowedAtom (counted_short p.cert.style p.problem) atom → IsTrue (holds_at old.tables test atom))) ended.nodes.width
-      (throughout (record p { tables = last }) ended action_pass turns none left right q.asked (holds_at old.tables test) (holds_at third always) lefts other (λ atom. holds_kept second third to_third.was to_third always atom sure.0 ∙ sure.1 atom) v o b same
+      (throughout (record p { tables = last }) ended action_pass turns none left right q.queried (holds_at old.tables test) (holds_at third always) lefts other (λ atom. holds_kept second third to_third.was to_third always atom sure.0 ∙ sure.1 atom) v o b same
       (subst (λ (z : QuestionParts). IsFirstFailure (MatchAt z.tables z) (undecided (last.width + last.width)) (option_map v o)) e found)))
 
 -- ---- sets of one term
@@ -130,12 +130,12 @@ pub sets_differ : (ks ls : List ℕ) (r : Bool) → r ≡ not (pointwise nat_eq 
 sets_differ ks ls r e = go (pointwise nat_eq ks ls) (slice_eq-Decides Decides-eqb ks ls (pointwise nat_eq ks ls) refl) e
   where
     go : (d : Bool) → Decides d (ks ≡ ls) → r ≡ not d → (r ≡ true → ks ≡ ls → ⊥) × (r ≡ false → ks ≡ ls)
-    go true tells is = ((λ yes same. let bad : false ≡ true = sym is ∙ yes in absurd cc), (λ no. tells.0 refl))
-    go false tells is = ((λ yes same. let bad : false ≡ true = tells.1 same in absurd cc), (λ no. let bad : true ≡ false = sym is ∙ no in absurd cc))
+    go true gives is = ((λ yes same. let bad : false ≡ true = sym is ∙ yes in absurd cc), (λ no. gives.0 refl))
+    go false gives is = ((λ yes same. let bad : false ≡ true = gives.1 same in absurd cc), (λ no. let bad : true ≡ false = sym is ∙ no in absurd cc))
 
 -- a set consists of one term if and only if it contains only the number of this term
-pub single_told : (t : TableParts) → AreTables t → (ks : List ℕ) → are_below (length t.terms) ks ≡ true → (k : ℕ) → IsTerm t k → (e : Term) → term_at t k ≡ e → (ks ≡ k ∷ []) ↔ (terms_of (nodes_in t) ks ≡ e ∷ [])
-single_told t are ks low k there e tree = ((λ s. ap (terms_of (nodes_in t)) s ∙ ap (λ (x : Term). x ∷ []) tree), back ks low)
+pub single_given : (t : TableParts) → AreTables t → (ks : List ℕ) → are_below (length t.terms) ks ≡ true → (k : ℕ) → IsTerm t k → (e : Term) → term_at t k ≡ e → (ks ≡ k ∷ []) ↔ (terms_of (nodes_in t) ks ≡ e ∷ [])
+single_given t are ks low k there e tree = ((λ s. ap (terms_of (nodes_in t)) s ∙ ap (λ (x : Term). x ∷ []) tree), back ks low)
   where
     back : (ls : List ℕ) → are_below (length t.terms) ls ≡ true → terms_of (nodes_in t) ls ≡ e ∷ [] → ls ≡ k ∷ []
     back [] b s = absurd cc
@@ -215,32 +215,32 @@ module _ (p : PassParts) (pass : IsPass p) (r : PairParts) (first : slice_get p.
   pair : IsPairOf p.cert r
   pair = pass.cert.pairs r (has_at p.cert.pairs 0 r first)
 
-  set_told : (ks : List ℕ) → IsNumberSet (length p.cert.term_nodes) ks → (k : ℕ) → IsTerm p.tables k → (e : Term) → term_at p.tables k ≡ e → (ks ≡ k ∷ []) ↔ (terms_of (nodes_of p.cert) ks ≡ e ∷ [])
-  set_told ks s k there e tree =
+  set_given : (ks : List ℕ) → IsNumberSet (length p.cert.term_nodes) ks → (k : ℕ) → IsTerm p.tables k → (e : Term) → term_at p.tables k ≡ e → (ks ≡ k ∷ []) ↔ (terms_of (nodes_of p.cert) ks ≡ e ∷ [])
+  set_given ks s k there e tree =
       let low : are_below (length p.tables.terms) ks ≡ true = below_more (length p.cert.term_nodes) (length p.tables.terms) ks (omega (arith, pass.count, pass.there)) s.there in
-      subst (λ (ts : List Term). (ks ≡ k ∷ []) ↔ (ts ≡ e ∷ [])) (set_kept p.problem p.cert pass.cert p.tables pass.nodes ks s.there) (single_told p.tables pass.nodes.sound ks low k there e tree)
+      subst (λ (ts : List Term). (ks ≡ k ∷ []) ↔ (ts ≡ e ∷ [])) (set_kept p.problem p.cert pass.cert p.tables pass.nodes ks s.there) (single_given p.tables pass.nodes.sound ks low k there e tree)
 
-  left_told : (r.left ≡ p.left ∷ []) ↔ (terms_of (nodes_of p.cert) r.left ≡ (compared p.cert.style p.problem).left ∷ [])
-  left_told = set_told r.left pair.left p.left pass.roots.sides.left_there (compared p.cert.style p.problem).left pass.roots.sides.left
+  left_given : (r.left ≡ p.left ∷ []) ↔ (terms_of (nodes_of p.cert) r.left ≡ (compared p.cert.style p.problem).left ∷ [])
+  left_given = set_given r.left pair.left p.left pass.roots.sides.left_there (compared p.cert.style p.problem).left pass.roots.sides.left
 
-  right_told : (r.right ≡ p.right ∷ []) ↔ (terms_of (nodes_of p.cert) r.right ≡ (compared p.cert.style p.problem).right ∷ [])
-  right_told = set_told r.right pair.right p.right pass.roots.sides.right_there (compared p.cert.style p.problem).right pass.roots.sides.right
+  right_given : (r.right ≡ p.right ∷ []) ↔ (terms_of (nodes_of p.cert) r.right ≡ (compared p.cert.style p.problem).right ∷ [])
+  right_given = set_given r.right pair.right p.right pass.roots.sides.right_there (compared p.cert.style p.problem).right pass.roots.sides.right
 
   pub other_left : (r.left ≡ p.left ∷ [] → ⊥) → Begins p.cert.style p.problem p.cert → ⊥
-  other_left never b = never (left_told.1 (begins_sides p.problem p.cert r first p.cert.style b).0)
+  other_left never b = never (left_given.1 (begins_sides p.problem p.cert r first p.cert.style b).0)
 
   pub other_right : (r.right ≡ p.right ∷ [] → ⊥) → Begins p.cert.style p.problem p.cert → ⊥
-  other_right never b = never (right_told.1 (begins_sides p.problem p.cert r first p.cert.style b).1)
+  other_right never b = never (right_given.1 (begins_sides p.problem p.cert r first p.cert.style b).1)
 
   module _ (left : r.left ≡ p.left ∷ []) (right : r.right ≡ p.right ∷ []) where
     pub begins_untested : r.test ≡ None → Begins p.cert.style p.problem p.cert
     begins_untested e =
-        begins_from p.problem p.cert r first p.cert.style (left_told.0 left) (right_told.0 right)
+        begins_from p.problem p.cert r first p.cert.style (left_given.0 left) (right_given.0 right)
         (λ u. absurd (never_under p.cert.style (length p.cert.test_nodes) (subst (HasItsTest p.cert.style (length p.cert.test_nodes)) e pair.test) u))
 
     pub begins_tested : (test : ℕ) → r.test ≡ Some test → ((atom : Atom) → length atom ≡ p.problem.tests → IsAllowedAtom (counted_short p.cert.style p.problem) atom → IsTrue (holds_at p.tables test atom)) ↔ Begins p.cert.style p.problem p.cert
     begins_tested test e = (
-      (λ h. begins_from p.problem p.cert r first p.cert.style (left_told.0 left) (right_told.0 right) (λ u atom l allowed. sym (same atom) ∙ h atom l allowed)),
+      (λ h. begins_from p.problem p.cert r first p.cert.style (left_given.0 left) (right_given.0 right) (λ u atom l allowed. sym (same atom) ∙ h atom l allowed)),
       (λ b atom l allowed. same atom ∙ begins_holds p.problem p.cert r first p.cert.style (under_only p.cert.style (length p.cert.test_nodes) test (subst (HasItsTest p.cert.style (length p.cert.test_nodes)) e pair.test)) b atom l allowed),
     )
       where

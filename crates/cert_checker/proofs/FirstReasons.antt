@@ -139,6 +139,6 @@ module _ (q : ProblemParts) (c : CertParts) where
 
         -- the certificate is accepted if there is no first place; otherwise the reason of that place is its first
         -- reason
-        pub pairs_told : (o : Option Place) → IsFirstOf q c (λ n. n < q.actions + 1) (option_map (place_reason c.style) o) → MatchOption (option_map (place_reason c.style) o) (IsAccepted q c) (λ r. FailsFirstBy q c r)
-        pairs_told None f = all_accepted f
-        pairs_told (Some x) f = first_place_fails (place_reason c.style x) f
+        pub pairs_given : (o : Option Place) → IsFirstOf q c (λ n. n < q.actions + 1) (option_map (place_reason c.style) o) → MatchOption (option_map (place_reason c.style) o) (IsAccepted q c) (λ r. FailsFirstBy q c r)
+        pairs_given None f = all_accepted f
+        pairs_given (Some x) f = first_place_fails (place_reason c.style x) f

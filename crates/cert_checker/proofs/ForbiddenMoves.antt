@@ -12,7 +12,7 @@ use Rattle.kat_model.proofs.Lists.{has_any, any_has, has_map, map_has, has_flat_
 use Rattle.kat_model.specs.Problems.{ProblemParts}
 use Rattle.certificate.specs.Certs.{CertParts}
 use Rattle.cert_checker.specs.NodeTables.{TableParts, IsTest, HasValues, term_at, holds_at}
-use Rattle.cert_checker.specs.Targets.{AreEntries, StandFor, AreAcceptances, set_leads_to}
+use Rattle.cert_checker.specs.Targets.{AreEntries, Represent, AreAcceptances, set_leads_to}
 use Rattle.cert_checker.specs.Roots.{counted_short}
 use Rattle.cert_checker.specs.Passes.{AreForbidden, AddsMoves, IsAllowed, forbidden_of}
 use Rattle.cert_checker.proofs.ChosenTargets.{chosen_has, has_chosen}
@@ -35,12 +35,12 @@ module _ (t : TableParts) (es : List Term) (forbidden_atoms always : ℕ) (bans 
     (λ allowed f h. ⊎_elim (λ s. subst (λ (z : ℕ × ℕ). (holds_at t z.0 atom && holds_at t z.1 to) ≡ false) s (ap (λ b. b && holds_at t always to) (bans atom ∙ allowed))) absurd h),
   )
 
-  module _ (a : ℕ) (entries : List (ℕ × ℕ)) (stand : StandFor t entries (λ atom. set_next es atom a)) (outputs : List ℕ) (tell : AreAcceptances t outputs) (there : (e : ℕ × ℕ) → Has entries e → e.0 < length outputs) where
+  module _ (a : ℕ) (entries : List (ℕ × ℕ)) (represent : Represent t entries (λ atom. set_next es atom a)) (outputs : List ℕ) (tell : AreAcceptances t outputs) (there : (e : ℕ × ℕ) → Has entries e → e.0 < length outputs) where
     -- an entry stands for an accepted string of one move
     entry_accepts : (atom to : Atom) (e : ℕ × ℕ) → Has entries e → (holds_at t e.1 atom && holds_at t (get_or outputs e.0 0) to) ≡ true → set_accepts es atom (record { act = a; atom = to } ∷ []) ≡ true
     entry_accepts atom to e h both =
         let parts = and_parts (holds_at t e.1 atom) (holds_at t (get_or outputs e.0 0) to) both in
-        let target = (stand.same atom (term_at t e.0)).0 (chosen_has t entries atom e h parts.0) in
+        let target = (represent.same atom (term_at t e.0)).0 (chosen_has t entries atom e h parts.0) in
         let from = has_flat_map (λ x. next x atom a) es (term_at t e.0) target in
         any_has (λ x. accepts x atom (record { act = a; atom = to } ∷ [])) es from.0 from.1
         (any_has (λ x. accepts x to []) (next from.0 atom a) (term_at t e.0) from.2 (sym ((accept_at t outputs e.0 tell (there e h)).1 to) ∙ parts.1))
@@ -50,7 +50,7 @@ module _ (t : TableParts) (es : List Term) (forbidden_atoms always : ℕ) (bans 
     accepts_entry atom to s =
         let from = has_any (λ x. accepts x atom (record { act = a; atom = to } ∷ [])) es s in
         let left = has_any (λ x. accepts x to []) (next from.0 atom a) from.2 in
-        let target = has_chosen t entries atom left.0 ((stand.same atom left.0).1 (flat_map_has (λ x. next x atom a) es from.0 left.0 from.1 left.1)) in
+        let target = has_chosen t entries atom left.0 ((represent.same atom left.0).1 (flat_map_has (λ x. next x atom a) es from.0 left.0 from.1 left.1)) in
         (target.0, target.1, and_from (holds_at t target.0.1 atom) (holds_at t (get_or outputs target.0.0 0) to) target.2 ((accept_at t outputs target.0.0 tell (there target.0 target.1)).1 to ∙ ap (λ x. out x to) target.3 ∙ left.2))
 
     moves_free : (atom to : Atom) → IsFree t ((forbidden_atoms, always) ∷ (always, forbidden_atoms) ∷ map (forbidden_of outputs) entries) atom to ↔ IsAllowedMove es atom (record { act = a; atom = to })
@@ -97,11 +97,11 @@ module _ (t : TableParts) (c : CertParts) (q : ProblemParts) where
       mean = outputs_free t (counted_short c.style q) forbidden_atoms always bans.1 sure.1;
     }
 
-    moves_forbidden : (a : ℕ) (entries : List (ℕ × ℕ)) → StandFor t entries (λ atom. set_next (counted_short c.style q) atom a) → (outputs : List ℕ) → AreAcceptances t outputs → ((e : ℕ × ℕ) → Has entries e → e.0 < length outputs)
+    moves_forbidden : (a : ℕ) (entries : List (ℕ × ℕ)) → Represent t entries (λ atom. set_next (counted_short c.style q) atom a) → (outputs : List ℕ) → AreAcceptances t outputs → ((e : ℕ × ℕ) → Has entries e → e.0 < length outputs)
         → AreForbidden t c q (Some a) ((forbidden_atoms, always) ∷ (always, forbidden_atoms) ∷ map (forbidden_of outputs) entries)
-    moves_forbidden a entries stand outputs tell there = record {
-      tests = forbidden_tests t forbidden_atoms always bans.0 sure.0 entries stand.entries outputs tell there;
-      mean = moves_free t (counted_short c.style q) forbidden_atoms always bans.1 sure.1 a entries stand outputs tell there;
+    moves_forbidden a entries represent outputs tell there = record {
+      tests = forbidden_tests t forbidden_atoms always bans.0 sure.0 entries represent.entries outputs tell there;
+      mean = moves_free t (counted_short c.style q) forbidden_atoms always bans.1 sure.1 a entries represent outputs tell there;
     }
 
     -- by cases on whether there is an action
@@ -111,7 +111,7 @@ module _ (t : TableParts) (c : CertParts) (q : ProblemParts) where
 
     pub forbidden_by : (o : Option ℕ) → is_some o ≡ true → (fs : List (ℕ × ℕ)) → AddsMoves t (set_leads_to o (counted_short c.style q)) ((forbidden_atoms, always) ∷ (always, forbidden_atoms) ∷ []) fs → AreForbidden t c q o fs
     forbidden_by None e fs adds = absurd cc
-    forbidden_by (Some a) e fs adds = subst (AreForbidden t c q (Some a)) (sym adds.pairs) (moves_forbidden a adds.entries adds.stand adds.outputs adds.accept adds.there)
+    forbidden_by (Some a) e fs adds = subst (AreForbidden t c q (Some a)) (sym adds.pairs) (moves_forbidden a adds.entries adds.represent adds.outputs adds.accept adds.there)
 
   -- without short hypotheses all moves are allowed
   pub none_forbidden : counted_short c.style q ≡ [] → (o : Option ℕ) → AreForbidden t c q o []

@@ -68,6 +68,6 @@ module _ (ps : List PairParts) (also : Bool) (known : List Truth) (ks ls : List 
       let both = subst (λ (n : NumberPair). (pointwise nat_eq n.left ks && pointwise nat_eq n.right ls) ≡ true) (sym g.3) f.2 in
       let parts = and_parts (pointwise nat_eq g.0.left ks) (pointwise nat_eq g.0.right ls) both in
       let at = place_of_member ps g.0 g.1 in
-      let stands = indexed at.0 g.0 at.1 in
-      let there = within at.0 (subst (λ (l : List ℕ). Has (places_by x l) at.0) (same_pointwise g.0.left ks parts.0) stands.0) (subst (λ (l : List ℕ). Has (places_by x l) at.0) (same_pointwise g.0.right ls parts.1) stands.1) in
+      let represents = indexed at.0 g.0 at.1 in
+      let there = within at.0 (subst (λ (l : List ℕ). Has (places_by x l) at.0) (same_pointwise g.0.left ks parts.0) represents.0) (subst (λ (l : List ℕ). Has (places_by x l) at.0) (same_pointwise g.0.right ls parts.1) represents.1) in
       true≢false (sym (and_from (does_count also known g.0) (pointwise nat_eq g.0.left ks && pointwise nat_eq g.0.right ls) g.2 both) ∙ others at.0 there g.0 at.1))

@@ -65,11 +65,11 @@ kept_apart x y k is same = record {
 }
 
 -- a place under the last member of a set is found by the set
-pub stands_last : (x : IndexParts) (ks : List ℕ) (k place : ℕ) → Some k ≡ slice_get ks (length ks - 1) → Has (places_under x k) place → Has (places_by x ks) place
-stands_last x ks k place last h = subst (λ (o : Option ℕ). Has (option_map_or (places_under x) o x.apart) place) last h
+pub represents_last : (x : IndexParts) (ks : List ℕ) (k place : ℕ) → Some k ≡ slice_get ks (length ks - 1) → Has (places_under x k) place → Has (places_by x ks) place
+represents_last x ks k place last h = subst (λ (o : Option ℕ). Has (option_map_or (places_under x) o x.apart) place) last h
 
-pub stands_apart : (x : IndexParts) (ks : List ℕ) (place : ℕ) → None ≡ slice_get ks (length ks - 1) → Has x.apart place → Has (places_by x ks) place
-stands_apart x ks place last h = subst (λ (o : Option ℕ). Has (option_map_or (places_under x) o x.apart) place) last h
+pub represents_apart : (x : IndexParts) (ks : List ℕ) (place : ℕ) → None ≡ slice_get ks (length ks - 1) → Has x.apart place → Has (places_by x ks) place
+represents_apart x ks place last h = subst (λ (o : Option ℕ). Has (option_map_or (places_under x) o x.apart) place) last h
 
 stays : (x y : IndexParts) (ks : List ℕ) (place : ℕ) → KeepsPlaces x y → Has (places_by x ks) place → Has (places_by y ks) place
 stays x y ks place keeps h = go (slice_get ks (length ks - 1)) h

@@ -38,8 +38,8 @@ one_false (Undecided k) (Undecided l) e = absurd cc
 module _ (t : TableParts) (first : ℕ) (decided : List (Option Bool)) (known : List Truth) (atom : Atom) (extends : Extends decided atom) where
   -- the test of a pair has its known value
   pub test_value : (test : Option ℕ) → ((k : ℕ) → test ≡ Some k → IsKnown first decided (holds_at t k) (known_of known k)) → (b : Bool) → known_test known test ≡ Known b → test_holds t test atom ≡ b
-  test_value None told b e = cc
-  test_value (Some k) told b e = (subst (IsKnown first decided (holds_at t k)) e (told k refl)) atom extends
+  test_value None given b e = cc
+  test_value (Some k) given b e = (subst (IsKnown first decided (holds_at t k)) e (given k refl)) atom extends
 
   may_be_true : (x : Truth) → may_be false x ≡ true → x ≡ Known true
   may_be_true (Known true) e = refl
@@ -51,12 +51,12 @@ module _ (t : TableParts) (first : ℕ) (decided : List (Option Bool)) (known : 
   true_may_be also (Known false) h never = absurd (never refl)
   true_may_be also (Undecided k) h never = ⊎_elim (λ e. e) (λ s. absurd cc) h
 
-  module _ (ps : List PairParts) (told : (p : PairParts) → Has ps p → (k : ℕ) → p.test ≡ Some k → IsKnown first decided (holds_at t k) (known_of known k)) where
+  module _ (ps : List PairParts) (given : (p : PairParts) → Has ps p → (k : ℕ) → p.test ≡ Some k → IsKnown first decided (holds_at t k) (known_of known k)) where
     pub sure_are_at : IsSubset (set_pairs_of (nodes_in t) (counting false known ps)) (pairs_at (map (tested_pair_of (nodes_in t)) ps) atom)
     sure_are_at s h =
         let m = has_map (λ (p : NumberPair). record { left = terms_of (nodes_in t) p.left; right = terms_of (nodes_in t) p.right }) (counting false known ps) s h in
         let f = counting_has false known ps m.0 m.1 in
-        let holds : test_holds t f.0.test atom ≡ true = test_value f.0.test (told f.0 f.1) true (may_be_true (known_test known f.0.test) f.2) in
+        let holds : test_holds t f.0.test atom ≡ true = test_value f.0.test (given f.0 f.1) true (may_be_true (known_test known f.0.test) f.2) in
         let same : (tested_pair_of (nodes_in t) f.0).sets ≡ s = ap (λ (p : NumberPair). record { left = terms_of (nodes_in t) p.left; right = terms_of (nodes_in t) p.right }) f.3 ∙ m.2 in
         subst (Has (pairs_at (map (tested_pair_of (nodes_in t)) ps) atom)) same (pairs_at_has (map (tested_pair_of (nodes_in t)) ps) atom (tested_pair_of (nodes_in t) f.0) (map_has (tested_pair_of (nodes_in t)) ps f.0 f.1) holds)
 
@@ -65,7 +65,7 @@ module _ (t : TableParts) (first : ℕ) (decided : List (Option Bool)) (known : 
         let k = has_pairs_at (map (tested_pair_of (nodes_in t)) ps) atom s h in
         let m = has_map (tested_pair_of (nodes_in t)) ps k.0 k.1 in
         let holds : test_holds t m.0.test atom ≡ true = ap (λ (p : TestedPair). truth p.test atom) m.2 ∙ k.2 in
-        let counts = true_may_be also (known_test known m.0.test) (⊎_elim inl (λ z. inr (z m.0 m.1)) settled) (λ e. true≢false (sym holds ∙ test_value m.0.test (told m.0 m.1) false e)) in
+        let counts = true_may_be also (known_test known m.0.test) (⊎_elim inl (λ z. inr (z m.0 m.1)) settled) (λ e. true≢false (sym holds ∙ test_value m.0.test (given m.0 m.1) false e)) in
         let same : (tested_pair_of (nodes_in t) m.0).sets ≡ s = ap (λ (p : TestedPair). p.sets) m.2 ∙ k.3 in
         subst (Has (set_pairs_of (nodes_in t) (counting also known ps))) same
         (map_has (λ (p : NumberPair). record { left = terms_of (nodes_in t) p.left; right = terms_of (nodes_in t) p.right }) (counting also known ps) (only_sets m.0) (has_counting also known ps m.0 m.1 counts))

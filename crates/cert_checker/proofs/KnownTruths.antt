@@ -17,7 +17,7 @@ use Rattle.cert_checker.specs.NodeTables.{TableParts, AreTables, IsWithin, holds
 use Rattle.cert_checker.specs.declared.known.TestCase.{TestCase}
 use Rattle.cert_checker.specs.declared.known.Truth.{Truth}
 use Rattle.cert_checker.specs.declared.known.Truth.TheVariants.{Known, Undecided}
-use Rattle.cert_checker.specs.Cases.{Extends, IsKnown, AreAsked, AreKnown, known_of, known_not, known_and, known_or, known_at, known_node}
+use Rattle.cert_checker.specs.Cases.{Extends, IsKnown, AreQueried, AreKnown, known_of, known_not, known_and, known_or, known_at, known_node}
 use Rattle.cert_checker.specs.Questions.{QuestionParts, IsTestCase}
 
 -- ---- combined values
@@ -99,43 +99,43 @@ module _ (first : ℕ) (t : TableParts) (are : AreTables t) (decided : List (Opt
 -- ---- evaluating the listed tests in order
 
 -- the values of the first `i` tests are known
-pub record IsEvaluating (first : ℕ) (t : TableParts) (decided : List (Option Bool)) (asked : List ℕ) (i : ℕ) (old new : List Truth) : Type 0 where
-  pub done : AreKnown first t decided (take i asked) new
-  pub others : (k : ℕ) → (Has asked k → ⊥) → known_of new k ≡ known_of old k
+pub record IsEvaluating (first : ℕ) (t : TableParts) (decided : List (Option Bool)) (queried : List ℕ) (i : ℕ) (old new : List Truth) : Type 0 where
+  pub done : AreKnown first t decided (take i queried) new
+  pub others : (k : ℕ) → (Has queried k → ⊥) → known_of new k ≡ known_of old k
   pub room : length new ≡ length old
 
-pub evaluating_starts : (first : ℕ) (t : TableParts) (decided : List (Option Bool)) (asked : List ℕ) (known : List Truth) → IsEvaluating first t decided asked 0 known known
-evaluating_starts first t decided asked known = record { done = λ k h. absurd h; others = λ k h. refl; room = refl }
+pub evaluating_starts : (first : ℕ) (t : TableParts) (decided : List (Option Bool)) (queried : List ℕ) (known : List Truth) → IsEvaluating first t decided queried 0 known known
+evaluating_starts first t decided queried known = record { done = λ k h. absurd h; others = λ k h. refl; room = refl }
 
-module _ (first : ℕ) (t : TableParts) (decided : List (Option Bool)) (asked : List ℕ) (i k : ℕ) (is : slice_get asked i ≡ Some k) (old now : List Truth) (are : AreTables t) (closed : AreAsked t asked) (width : length decided ≡ t.width)
-    (node : TestNode ℕ) (at : slice_get t.tests k ≡ Some node) (e : IsEvaluating first t decided asked i old now) where
+module _ (first : ℕ) (t : TableParts) (decided : List (Option Bool)) (queried : List ℕ) (i k : ℕ) (is : slice_get queried i ≡ Some k) (old now : List Truth) (are : AreTables t) (closed : AreQueried t queried) (width : length decided ≡ t.width)
+    (node : TestNode ℕ) (at : slice_get t.tests k ≡ Some node) (e : IsEvaluating first t decided queried i old now) where
   -- the parts of the next test come before it
   part : (x : ℕ) → Has (test_parts node) x → IsKnown first decided (holds_at t x) (known_of now x)
   part x h = e.done x ((closed i k is).1 node at x h)
 
   -- the first `i + 1` tests are the first `i` and the next one
-  taken : take (i + 1) asked ≡ take i asked ++ k ∷ []
-  taken = take_more asked i k (slice_get_within asked i k is) ∙ ap (λ x. take i asked ++ x ∷ []) (get_or_from_slice_get asked i k k is)
+  taken : take (i + 1) queried ≡ take i queried ++ k ∷ []
+  taken = take_more queried i k (slice_get_within queried i k is) ∙ ap (λ x. take i queried ++ x ∷ []) (get_or_from_slice_get queried i k k is)
 
-  module _ (x : Truth) (told : x ≡ known_node first decided now node) (low : k < length now) where
-    abbrev Told : ℕ → Type 0
-    Told j = IsKnown first decided (holds_at t j) (known_of (set now k x) j)
+  module _ (x : Truth) (given : x ≡ known_node first decided now node) (low : k < length now) where
+    abbrev Reported : ℕ → Type 0
+    Reported j = IsKnown first decided (holds_at t j) (known_of (set now k x) j)
 
-    here : Told k
-    here = subst (IsKnown first decided (holds_at t k)) (sym (get_or-set_same now k x (Known false) low ∙ told)) (node_known first t are decided width now k node at part)
+    here : Reported k
+    here = subst (IsKnown first decided (holds_at t k)) (sym (get_or-set_same now k x (Known false) low ∙ given)) (node_known first t are decided width now k node at part)
 
-    kept : (j : ℕ) → IsKnown first decided (holds_at t j) (known_of now j) → Told j
-    kept j known = ⊎_elim (λ s. subst Told (sym s) here) (λ same. subst (IsKnown first decided (holds_at t j)) same known) (get_or-set_cases now k j x (known_of (set now k x) j) (Known false) refl)
+    kept : (j : ℕ) → IsKnown first decided (holds_at t j) (known_of now j) → Reported j
+    kept j known = ⊎_elim (λ s. subst Reported (sym s) here) (λ same. subst (IsKnown first decided (holds_at t j)) same known) (get_or-set_cases now k j x (known_of (set now k x) j) (Known false) refl)
 
-    pub evaluating_more : IsEvaluating first t decided asked (i + 1) old (set now k x)
+    pub evaluating_more : IsEvaluating first t decided queried (i + 1) old (set now k x)
     evaluating_more = record {
-      done = λ j h. ⊎_elim (λ r. kept j (e.done j r)) (λ s. ⊎_elim (λ same. subst Told same here) absurd s) (has_append (take i asked) (k ∷ []) j (subst (λ l. Has l j) taken h));
-      others = λ j h. ⊎_elim (λ s. absurd (h (subst (Has asked) (sym s) (has_at asked i k is)))) (λ same. sym same ∙ e.others j h) (get_or-set_cases now k j x (known_of (set now k x) j) (Known false) refl);
+      done = λ j h. ⊎_elim (λ r. kept j (e.done j r)) (λ s. ⊎_elim (λ same. subst Reported same here) absurd s) (has_append (take i queried) (k ∷ []) j (subst (λ l. Has l j) taken h));
+      others = λ j h. ⊎_elim (λ s. absurd (h (subst (Has queried) (sym s) (has_at queried i k is)))) (λ same. sym same ∙ e.others j h) (get_or-set_cases now k j x (known_of (set now k x) j) (Known false) refl);
       room = length-set now k x ∙ e.room;
     }
 
-pub evaluating_ends : (first : ℕ) (t : TableParts) (decided : List (Option Bool)) (asked : List ℕ) (i : ℕ) (old new : List Truth) → length asked ≤ i → IsEvaluating first t decided asked i old new → AreKnown first t decided asked new
-evaluating_ends first t decided asked i old new past e = subst (λ l. AreKnown first t decided l new) (take_all i asked past) e.done
+pub evaluating_ends : (first : ℕ) (t : TableParts) (decided : List (Option Bool)) (queried : List ℕ) (i : ℕ) (old new : List Truth) → length queried ≤ i → IsEvaluating first t decided queried i old new → AreKnown first t decided queried new
+evaluating_ends first t decided queried i old new past e = subst (λ l. AreKnown first t decided l new) (take_all i queried past) e.done
 
 -- ---- two lists of tests
 
@@ -144,22 +144,22 @@ has_or_not [] k = inr (λ h. h)
 has_or_not (j ∷ ks) k = ⊎_elim (λ e. inl (inl e)) (λ n. ⊎_elim (λ r. inl (inr r)) (λ m. inr (λ h. ⊎_elim n m h)) (has_or_not ks k)) (cases_eq j k)
 
 -- known values remain known when the values of more tests are added
-known_both : (first : ℕ) (t : TableParts) (decided : List (Option Bool)) (asked more : List ℕ) (old new : List Truth) → AreKnown first t decided asked old → AreKnown first t decided more new
-    → ((k : ℕ) → (Has more k → ⊥) → known_of new k ≡ known_of old k) → AreKnown first t decided asked new
-known_both first t decided asked more old new was told others k h = ⊎_elim (told k) (λ n. subst (IsKnown first decided (holds_at t k)) (sym (others k n)) (was k h)) (has_or_not more k)
+known_both : (first : ℕ) (t : TableParts) (decided : List (Option Bool)) (queried more : List ℕ) (old new : List Truth) → AreKnown first t decided queried old → AreKnown first t decided more new
+    → ((k : ℕ) → (Has more k → ⊥) → known_of new k ≡ known_of old k) → AreKnown first t decided queried new
+known_both first t decided queried more old new was given others k h = ⊎_elim (given k) (λ n. subst (IsKnown first decided (holds_at t k)) (sym (others k n)) (was k h)) (has_or_not more k)
 
 -- the same for equal arguments
-known_along : (first : ℕ) (t t2 : TableParts) (ds ds2 : List (Option Bool)) (asked asked2 : List ℕ) (known known2 : List Truth) → t ≡ t2 → ds ≡ ds2 → asked ≡ asked2 → known ≡ known2 → AreKnown first t ds asked known → AreKnown first t2 ds2 asked2 known2
-known_along first t t2 ds ds2 asked asked2 known known2 e f g h told =
-    subst (λ u. AreKnown first u ds2 asked2 known2) e (subst (λ l. AreKnown first t l asked2 known2) f (subst (λ ks. AreKnown first t ds ks known2) g (subst (AreKnown first t ds asked) h told)))
+known_along : (first : ℕ) (t t2 : TableParts) (ds ds2 : List (Option Bool)) (queried asked2 : List ℕ) (known known2 : List Truth) → t ≡ t2 → ds ≡ ds2 → queried ≡ asked2 → known ≡ known2 → AreKnown first t ds queried known → AreKnown first t2 ds2 asked2 known2
+known_along first t t2 ds ds2 queried asked2 known known2 e f g h given =
+    subst (λ u. AreKnown first u ds2 asked2 known2) e (subst (λ l. AreKnown first t l asked2 known2) f (subst (λ ks. AreKnown first t ds ks known2) g (subst (AreKnown first t ds queried) h given)))
 
 -- a case of a question is known after its tests are evaluated: first those that the targets and the pair name, then, in
 -- the same list, those that moves name
-pub case_told : (q : QuestionParts) (t : TableParts) (asked begin end : List ℕ) (ds first second : List (Option Bool)) (n : ℕ) (one two three : List Truth) (c : TestCase) → t ≡ q.tables → asked ≡ q.asked → begin ≡ q.action_pass.begin → end ≡ q.action_pass.end
-    → first ≡ take q.tables.width ds → second ≡ drop q.tables.width ds → n ≡ q.tables.width → AreKnown 0 t first asked one → AreKnown 0 t first begin two → ((k : ℕ) → (Has begin k → ⊥) → known_of two k ≡ known_of one k) → AreKnown n t second end three
-    → two ≡ c.begin.items → three ≡ c.end.items → IsTestCase q.tables q q.asked ds c
-case_told q t asked begin end ds first second n one two three c e ask at_begin at_end front back width targets moves others ends begun ended = record {
-  targets = known_along 0 t q.tables first (take q.tables.width ds) asked q.asked two c.begin.items e front ask begun (known_both 0 t first asked begin one two targets moves others);
+pub case_given : (q : QuestionParts) (t : TableParts) (queried begin end : List ℕ) (ds first second : List (Option Bool)) (n : ℕ) (one two three : List Truth) (c : TestCase) → t ≡ q.tables → queried ≡ q.queried → begin ≡ q.action_pass.begin → end ≡ q.action_pass.end
+    → first ≡ take q.tables.width ds → second ≡ drop q.tables.width ds → n ≡ q.tables.width → AreKnown 0 t first queried one → AreKnown 0 t first begin two → ((k : ℕ) → (Has begin k → ⊥) → known_of two k ≡ known_of one k) → AreKnown n t second end three
+    → two ≡ c.begin.items → three ≡ c.end.items → IsTestCase q.tables q q.queried ds c
+case_given q t queried begin end ds first second n one two three c e query at_begin at_end front back width targets moves others ends begun ended = record {
+  targets = known_along 0 t q.tables first (take q.tables.width ds) queried q.queried two c.begin.items e front query begun (known_both 0 t first queried begin one two targets moves others);
   begin = known_along 0 t q.tables first (take q.tables.width ds) begin q.action_pass.begin two c.begin.items e front at_begin begun moves;
   end = subst (λ m. AreKnown m q.tables (drop q.tables.width ds) q.action_pass.end c.end.items) width (known_along n t q.tables second (drop q.tables.width ds) end q.action_pass.end three c.end.items e back at_end ended ends);
 }

@@ -210,9 +210,9 @@ searched P items ds k bound low high undecided first second =
 
 pub second_half : (P : Atom → Type 0) {V : Type 0} (items : V → Atom) (ds first : List (Option Bool)) (k : ℕ) (bound own : Option Atom) (low high : Option V) → first ≡ slice_set ds k (Some false) → own ≡ option_or (option_map items low) bound
     → IsFirstFailure (Below P own) (slice_set first k (Some true)) (option_map items high) → IsFirstFailure (Below P (option_or (option_map items low) bound)) (slice_set ds k (Some true)) (option_map items high)
-second_half P items ds first k bound own low high e f told =
+second_half P items ds first k bound own low high e f given =
     subst (λ l. IsFirstFailure (Below P (option_or (option_map items low) bound)) l (option_map items high)) (ap (λ l. slice_set l k (Some true)) e ∙ set-set ds k (Some false) (Some true))
-    (subst (λ b. IsFirstFailure (Below P b) (slice_set first k (Some true)) (option_map items high)) f told)
+    (subst (λ b. IsFirstFailure (Below P b) (slice_set first k (Some true)) (option_map items high)) f given)
 
 -- ---- the bound of the second half: the result of the first, or the old bound
 

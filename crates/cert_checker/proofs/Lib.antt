@@ -6,7 +6,7 @@ pub mod TargetSets
 pub mod StepSets
 pub mod AddingTargets
 pub mod StepLists
-pub mod AskedTests
+pub mod QueriedTests
 pub mod ForbiddenMoves
 pub mod Indexed
 pub mod KnownTruths

@@ -16,12 +16,12 @@ module _ {N : Type 0} (make : ℕ → N) (n : ℕ) where
   IsIn x = (i : ℕ) → x ≡ make i → i < n
 
   -- if no node is out of range, all are in range; otherwise the result is the first node out of range
-  pub first_told : (nodes : List N) (r : Option ℕ) → MatchOption r (AllWithin IsIn nodes 0 (length nodes)) (λ k. (k < length nodes) × HoldsAt IsOut nodes k × AllWithin IsIn nodes 0 k) → MatchOption r ((i : ℕ) → Has nodes (make i) → i < n) (λ k. IsFirstOut make n nodes k)
-  first_told nodes None h = λ i m.
+  pub first_given : (nodes : List N) (r : Option ℕ) → MatchOption r (AllWithin IsIn nodes 0 (length nodes)) (λ k. (k < length nodes) × HoldsAt IsOut nodes k × AllWithin IsIn nodes 0 k) → MatchOption r ((i : ℕ) → Has nodes (make i) → i < n) (λ k. IsFirstOut make n nodes k)
+  first_given nodes None h = λ i m.
       let at = place_of_member nodes (make i) m in
       let low : at.0 < length nodes = slice_get_within nodes at.0 (make i) at.1 in
       h at.0 (make i) (omega arith) low i (get_or_from_slice_get nodes at.0 (make i) (make i) at.1)
-  first_told nodes (Some k) h =
+  first_given nodes (Some k) h =
       let out = h.1 (make 0) in
       record {
         number = out.0;

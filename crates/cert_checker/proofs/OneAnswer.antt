@@ -233,8 +233,8 @@ shown_so q (Equal c) h = by_style c.style h.pairs
 shown_so q (Different x) h = refuted_not_same q x h
 
 -- a string with a finding refutes the problem, or the finding has a reason
-pub string_told : (q : ProblemParts) (x : GuardedString) (f : Finding) → IsFinding q x f → MatchOption (finding_reason f) (Refutes q x) (λ r. IsFoundBy q (Different x) r)
-string_told q x (FoundRefutes b) is = refuted_by q x b is
-string_told q x (FoundShape k) is = (FoundShape k, is, refl)
-string_told q x (FoundHypBroken h i j) is = (FoundHypBroken h i j, is, refl)
-string_told q x (FoundEndsAgree b) is = (FoundEndsAgree b, is, refl)
+pub string_given : (q : ProblemParts) (x : GuardedString) (f : Finding) → IsFinding q x f → MatchOption (finding_reason f) (Refutes q x) (λ r. IsFoundBy q (Different x) r)
+string_given q x (FoundRefutes b) is = refuted_by q x b is
+string_given q x (FoundShape k) is = (FoundShape k, is, refl)
+string_given q x (FoundHypBroken h i j) is = (FoundHypBroken h i j, is, refl)
+string_given q x (FoundEndsAgree b) is = (FoundEndsAgree b, is, refl)

@@ -17,12 +17,12 @@ use Rattle.certificate.specs.PairParts.{PairParts, only_sets}
 use Rattle.certificate.specs.Certs.{HasItsTest, nodes_of}
 use Rattle.certificate.specs.Accepted.{set_pairs, test_of, tested_pair_of, tested_pairs}
 use Rattle.cert_checker.specs.NodeTables.{TableParts, TablesGrow, term_at, nodes_in}
-use Rattle.cert_checker.specs.Targets.{StandFor, chosen, set_leads_to}
-use Rattle.cert_checker.proofs.StepSets.{stand_kept}
+use Rattle.cert_checker.specs.Targets.{Represent, chosen, set_leads_to}
+use Rattle.cert_checker.proofs.StepSets.{represent_kept}
 use Rattle.cert_checker.specs.LeastFailures.{IsFirstFailure}
 use Rattle.cert_checker.specs.Cases.{undecided}
 use Rattle.cert_checker.specs.Roots.{compared, counted_short}
-use Rattle.cert_checker.specs.Questions.{ActionPassParts, QuestionParts, AreNamed, IsPosed, IsAskedOf, Counts, AreMatchedIn, MatchAt, test_holds}
+use Rattle.cert_checker.specs.Questions.{ActionPassParts, QuestionParts, AreNamed, IsPosed, IsQueriedOf, Counts, AreMatchedIn, MatchAt, test_holds}
 use Rattle.cert_checker.specs.Passes.{PassParts, IsPass, IsActionPass, IsAllowed}
 use Rattle.cert_checker.specs.Working.Places.{TurnHolds, PairHolds}
 use Rattle.cert_checker.proofs.PosedQuestions.{question_of, none_plain, question_posed, own_test}
@@ -50,9 +50,9 @@ same_condition true false s = absurd ((s one).0 (inl refl))
 same_condition false true s = absurd ((s one).1 (inl refl))
 
 -- with no pairs and no universal term, only sets with the same members are congruent
-pub outputs_told : (t : TableParts) (left right : List (ℕ × ℕ)) (f g : Atom → Bool) → StandFor t left (λ atom. cond (f atom) (one ∷ []) []) → StandFor t right (λ atom. cond (g atom) (one ∷ []) []) → (atom to : Atom)
+pub outputs_given : (t : TableParts) (left right : List (ℕ × ℕ)) (f g : Atom → Bool) → Represent t left (λ atom. cond (f atom) (one ∷ []) []) → Represent t right (λ atom. cond (g atom) (one ∷ []) []) → (atom to : Atom)
     → AreMatchedIn (nodes_in t) UpTo None [] (chosen t left atom) (chosen t right atom) to ↔ (f atom ≡ g atom)
-outputs_told t left right f g own other atom to = (forth, back)
+outputs_given t left right f g own other atom to = (forth, back)
   where
     forth : AreMatchedIn (nodes_in t) UpTo None [] (chosen t left atom) (chosen t right atom) to → f atom ≡ g atom
     forth m = ⊎_elim
@@ -88,15 +88,15 @@ by_path e = ((λ h. subst (λ (P : Type 0). P) e h), (λ h. subst (λ (P : Type 
 
 module _ (p : PassParts) (pass : IsPass p) where
   -- the condition on two sets at an atom and at the atom that an action leads to
-  abbrev IsAskedAt : Option ℕ → List Term → List Term → Atom → Atom → Type 0
-  IsAskedAt None es fs atom to = set_out es atom ≡ set_out fs atom
-  IsAskedAt (Some a) es fs atom to = AreMatchedIn (nodes_in p.tables) p.cert.style (option_map (term_at p.tables) p.universal) p.cert.pairs (set_next es atom a) (set_next fs atom a) to
+  abbrev IsQueriedAt : Option ℕ → List Term → List Term → Atom → Atom → Type 0
+  IsQueriedAt None es fs atom to = set_out es atom ≡ set_out fs atom
+  IsQueriedAt (Some a) es fs atom to = AreMatchedIn (nodes_in p.tables) p.cert.style (option_map (term_at p.tables) p.universal) p.cert.pairs (set_next es atom a) (set_next fs atom a) to
 
   -- the question about targets that stand for what the sets lead to is equivalent to the condition on the sets
-  matched_told : (o : Option ℕ) (left right : List (ℕ × ℕ)) (es fs : List Term) → StandFor p.tables left (set_leads_to o es) → StandFor p.tables right (set_leads_to o fs) → (atom to : Atom)
-      → AreMatchedIn (nodes_in p.tables) (option_map_or (λ a. p.cert.style) o UpTo) (option_map (term_at p.tables) (option_map_or (λ a. p.universal) o None)) (option_map_or (λ a. p.cert.pairs) o []) (chosen p.tables left atom) (chosen p.tables right atom) to ↔ IsAskedAt o es fs atom to
-  matched_told None left right es fs own other atom to = outputs_told p.tables left right (set_out es) (set_out fs) own other atom to
-  matched_told (Some a) left right es fs own other atom to = (
+  matched_given : (o : Option ℕ) (left right : List (ℕ × ℕ)) (es fs : List Term) → Represent p.tables left (set_leads_to o es) → Represent p.tables right (set_leads_to o fs) → (atom to : Atom)
+      → AreMatchedIn (nodes_in p.tables) (option_map_or (λ a. p.cert.style) o UpTo) (option_map (term_at p.tables) (option_map_or (λ a. p.universal) o None)) (option_map_or (λ a. p.cert.pairs) o []) (chosen p.tables left atom) (chosen p.tables right atom) to ↔ IsQueriedAt o es fs atom to
+  matched_given None left right es fs own other atom to = outputs_given p.tables left right (set_out es) (set_out fs) own other atom to
+  matched_given (Some a) left right es fs own other atom to = (
     (λ m. matched_same (nodes_in p.tables) p.cert.style (option_map (term_at p.tables) p.universal) p.cert.pairs (chosen p.tables left atom) (chosen p.tables right atom) (set_next es atom a) (set_next fs atom a) to (own.same atom) (other.same atom) m),
     (λ m. matched_same (nodes_in p.tables) p.cert.style (option_map (term_at p.tables) p.universal) p.cert.pairs (set_next es atom a) (set_next fs atom a) (chosen p.tables left atom) (chosen p.tables right atom) to
         (same_members_sym (chosen p.tables left atom) (set_next es atom a) (own.same atom)) (same_members_sym (chosen p.tables right atom) (set_next fs atom a) (other.same atom)) m),
@@ -133,26 +133,26 @@ module _ (p : PassParts) (pass : IsPass p) where
     true_without e atom = ap (λ o. truth (test_of (nodes_of p.cert) o) atom) e
 
     -- the condition of a style on the sets of the pair
-    asked_told : (s : Style) → p.cert.style ≡ s → (o : Option ℕ) (atom to : Atom)
-        → (IsTrue (truth (test_of (nodes_of p.cert) r.test) atom) × IsAllowed (counted_short s p.problem) o atom to → IsAskedAt o (terms_of (nodes_of p.cert) r.left) (terms_of (nodes_of p.cert) r.right) atom to)
+    queried_given : (s : Style) → p.cert.style ≡ s → (o : Option ℕ) (atom to : Atom)
+        → (IsTrue (truth (test_of (nodes_of p.cert) r.test) atom) × IsAllowed (counted_short s p.problem) o atom to → IsQueriedAt o (terms_of (nodes_of p.cert) r.left) (terms_of (nodes_of p.cert) r.right) atom to)
         ↔ TurnHolds s p.problem p.cert (tested_pair_of (nodes_of p.cert) r) o atom to
-    asked_told Plain e None atom to = ((λ h. h (true_without (none_plain p pass e r listed) atom, refl)), (λ h _. h))
-    asked_told UpTo e None atom to = ((λ h. h (true_without (none_up_to e r listed) atom, refl)), (λ h _. h))
-    asked_told Under e None atom to = ((λ h allowed test. h (test, allowed)), (λ h both. h both.1 both.0))
-    asked_told Plain e (Some a) atom to =
+    queried_given Plain e None atom to = ((λ h. h (true_without (none_plain p pass e r listed) atom, refl)), (λ h _. h))
+    queried_given UpTo e None atom to = ((λ h. h (true_without (none_up_to e r listed) atom, refl)), (λ h _. h))
+    queried_given Under e None atom to = ((λ h allowed test. h (test, allowed)), (λ h both. h both.1 both.0))
+    queried_given Plain e (Some a) atom to =
         let same = by_path (matched_plain (set_next (terms_of (nodes_of p.cert) r.left) atom a) (set_next (terms_of (nodes_of p.cert) r.right) atom a) to e) in
         ((λ h. same.0 (h (true_without (none_plain p pass e r listed) atom, record { from = refl; to = refl; move = refl }))), (λ h _. same.1 h))
-    asked_told UpTo e (Some a) atom to =
+    queried_given UpTo e (Some a) atom to =
         let same = by_path (matched_up_to (set_next (terms_of (nodes_of p.cert) r.left) atom a) (set_next (terms_of (nodes_of p.cert) r.right) atom a) to e) in
         ((λ h. same.0 (h (true_without (none_up_to e r listed) atom, record { from = refl; to = refl; move = refl }))), (λ h _. same.1 h))
-    asked_told Under e (Some a) atom to =
+    queried_given Under e (Some a) atom to =
         let same = by_path (matched_under (set_next (terms_of (nodes_of p.cert) r.left) atom a) (set_next (terms_of (nodes_of p.cert) r.right) atom a) to e) in
         ((λ h test allowed. same.0 (h (test, allowed))), (λ h both. same.1 (h both.0 both.1)))
 
-    module _ (action_pass : ActionPassParts) (is : IsActionPass p action_pass) (left right : List (ℕ × ℕ)) (asked : List ℕ) where
+    module _ (action_pass : ActionPassParts) (is : IsActionPass p action_pass) (left right : List (ℕ × ℕ)) (queried : List ℕ) where
       -- the question about the pair counts if and only if the pair's test is true and the move is allowed
-      counts_told : (atom to : Atom) → Counts p.tables (question_of p.tables action_pass r.test left right asked) atom to ↔ (IsTrue (truth (test_of (nodes_of p.cert) r.test) atom) × IsAllowed (counted_short p.cert.style p.problem) action_pass.action atom to)
-      counts_told atom to = (
+      counts_given : (atom to : Atom) → Counts p.tables (question_of p.tables action_pass r.test left right queried) atom to ↔ (IsTrue (truth (test_of (nodes_of p.cert) r.test) atom) × IsAllowed (counted_short p.cert.style p.problem) action_pass.action atom to)
+      counts_given atom to = (
         (λ h. (sym (same atom) ∙ h.pair_test, (is.forbidden.mean atom to).0 h.free)),
         (λ h. record { pair_test = same atom ∙ h.0; free = (is.forbidden.mean atom to).1 h.1 }),
       )
@@ -161,19 +161,19 @@ module _ (p : PassParts) (pass : IsPass p) where
           same atom = ap (λ b. truth b atom) (test_kept p.problem p.cert pass.cert p.tables pass.nodes r.test (test_there p.problem p.cert pass.cert p.tables pass.nodes p.cert.style (length p.cert.test_nodes) r.test (pass.cert.pairs r listed).test))
 
       -- the question holds if and only if the pair does
-      pub turn_told : StandFor p.tables left (set_leads_to action_pass.action (terms_of (nodes_of p.cert) r.left)) → StandFor p.tables right (set_leads_to action_pass.action (terms_of (nodes_of p.cert) r.right)) → (x : Atom)
-          → MatchAt p.tables (question_of p.tables action_pass r.test left right asked) x ↔ TurnHolds p.cert.style p.problem p.cert (tested_pair_of (nodes_of p.cert) r) action_pass.action (take p.tables.width x) (drop p.tables.width x)
-      turn_told own other x =
+      pub turn_given : Represent p.tables left (set_leads_to action_pass.action (terms_of (nodes_of p.cert) r.left)) → Represent p.tables right (set_leads_to action_pass.action (terms_of (nodes_of p.cert) r.right)) → (x : Atom)
+          → MatchAt p.tables (question_of p.tables action_pass r.test left right queried) x ↔ TurnHolds p.cert.style p.problem p.cert (tested_pair_of (nodes_of p.cert) r) action_pass.action (take p.tables.width x) (drop p.tables.width x)
+      turn_given own other x =
           both_trans
-          (both_or (counts_told (take p.tables.width x) (drop p.tables.width x))
+          (both_or (counts_given (take p.tables.width x) (drop p.tables.width x))
           (both_trans (by_path (matched_in_turn action_pass is (chosen p.tables left (take p.tables.width x)) (chosen p.tables right (take p.tables.width x)) (drop p.tables.width x)))
-          (matched_told action_pass.action left right (terms_of (nodes_of p.cert) r.left) (terms_of (nodes_of p.cert) r.right) own other (take p.tables.width x) (drop p.tables.width x))))
-          (asked_told p.cert.style refl action_pass.action (take p.tables.width x) (drop p.tables.width x))
+          (matched_given action_pass.action left right (terms_of (nodes_of p.cert) r.left) (terms_of (nodes_of p.cert) r.right) own other (take p.tables.width x) (drop p.tables.width x))))
+          (queried_given p.cert.style refl action_pass.action (take p.tables.width x) (drop p.tables.width x))
 
 -- ---- the pair that the loop visits
 
 module _ (p : PassParts) (mid last : TableParts) (begun : IsPass p) (to_mid : TablesGrow p.tables mid) (to_last : TablesGrow mid last) (action_pass : ActionPassParts) (is : IsActionPass p action_pass) (r : PairParts) (listed : Has p.cert.pairs r)
-    (left right : List (ℕ × ℕ)) (own : StandFor mid left (set_leads_to action_pass.action (terms_of (nodes_in p.tables) r.left))) (other : StandFor last right (set_leads_to action_pass.action (terms_of (nodes_in mid) r.right))) where
+    (left right : List (ℕ × ℕ)) (own : Represent mid left (set_leads_to action_pass.action (terms_of (nodes_in p.tables) r.left))) (other : Represent last right (set_leads_to action_pass.action (terms_of (nodes_in mid) r.right))) where
   half : IsPass (record p { tables = mid })
   half = pass_with p mid to_mid begun
 
@@ -183,25 +183,25 @@ module _ (p : PassParts) (mid last : TableParts) (begun : IsPass p) (to_mid : Ta
   turns : IsActionPass (record p { tables = last }) action_pass
   turns = turn_with (record p { tables = mid }) last to_last action_pass half (turn_with p mid to_mid action_pass begun is)
 
-  lefts : StandFor last left (set_leads_to action_pass.action (terms_of (nodes_of p.cert) r.left))
+  lefts : Represent last left (set_leads_to action_pass.action (terms_of (nodes_of p.cert) r.left))
   lefts =
-      stand_kept mid last to_last.was to_last left (set_leads_to action_pass.action (terms_of (nodes_of p.cert) r.left))
-      (subst (λ es. StandFor mid left (set_leads_to action_pass.action es)) (set_kept p.problem p.cert begun.cert p.tables begun.nodes r.left (begun.cert.pairs r listed).left.there) own)
+      represent_kept mid last to_last.was to_last left (set_leads_to action_pass.action (terms_of (nodes_of p.cert) r.left))
+      (subst (λ es. Represent mid left (set_leads_to action_pass.action es)) (set_kept p.problem p.cert begun.cert p.tables begun.nodes r.left (begun.cert.pairs r listed).left.there) own)
 
-  rights : StandFor last right (set_leads_to action_pass.action (terms_of (nodes_of p.cert) r.right))
-  rights = subst (λ es. StandFor last right (set_leads_to action_pass.action es)) (set_kept p.problem p.cert begun.cert mid half.nodes r.right (begun.cert.pairs r listed).right.there) other
+  rights : Represent last right (set_leads_to action_pass.action (terms_of (nodes_of p.cert) r.right))
+  rights = subst (λ es. Represent last right (set_leads_to action_pass.action es)) (set_kept p.problem p.cert begun.cert mid half.nodes r.right (begun.cert.pairs r listed).right.there) other
 
-  pub pair_posed : (q : QuestionParts) → IsAskedOf last action_pass r.test left right q → AreNamed last q q.asked → IsPosed q
+  pub pair_posed : (q : QuestionParts) → IsQueriedOf last action_pass r.test left right q → AreNamed last q q.queried → IsPosed q
   pair_posed q e named = question_posed (record p { tables = last }) whole action_pass turns q r.test left right e named (own_test p begun r listed mid last to_mid to_last) lefts.entries rights.entries
 
   -- the least values at which the question about the pair fails are the least at which the pair fails
-  pub pair_told : (q : QuestionParts) (o : Option Atom) → IsAskedOf last action_pass r.test left right q → IsFirstFailure (MatchAt q.tables q) (undecided (p.tables.width + p.tables.width)) o → IsFirstFailure (PairHolds p.problem p.cert action_pass.action r) (undecided (p.problem.tests + p.problem.tests)) o
-  pair_told q o e f =
+  pub pair_given : (q : QuestionParts) (o : Option Atom) → IsQueriedOf last action_pass r.test left right q → IsFirstFailure (MatchAt q.tables q) (undecided (p.tables.width + p.tables.width)) o → IsFirstFailure (PairHolds p.problem p.cert action_pass.action r) (undecided (p.problem.tests + p.problem.tests)) o
+  pair_given q o e f =
       subst (λ n. IsFirstFailure (PairHolds p.problem p.cert action_pass.action r) (undecided (n + n)) o) begun.nodes.width
       (same_failure (MatchAt q.tables q) (PairHolds p.problem p.cert action_pass.action r) (undecided (p.tables.width + p.tables.width)) o same f)
     where
       same : (x : Atom) → MatchAt q.tables q x ↔ PairHolds p.problem p.cert action_pass.action r x
       same x =
           subst (λ (z : QuestionParts). MatchAt z.tables z x ↔ PairHolds p.problem p.cert action_pass.action r x) (sym e)
-          (subst (λ n. MatchAt last (question_of last action_pass r.test left right q.asked) x ↔ TurnHolds p.cert.style p.problem p.cert (tested_pair_of (nodes_of p.cert) r) action_pass.action (take n x) (drop n x)) whole.nodes.width
-          (turn_told (record p { tables = last }) whole r listed action_pass turns left right q.asked lefts rights x))
+          (subst (λ n. MatchAt last (question_of last action_pass r.test left right q.queried) x ↔ TurnHolds p.cert.style p.problem p.cert (tested_pair_of (nodes_of p.cert) r) action_pass.action (take n x) (drop n x)) whole.nodes.width
+          (turn_given (record p { tables = last }) whole r listed action_pass turns left right q.queried lefts rights x))

@@ -16,7 +16,7 @@ use Rattle.cert_checker.proofs.ClosingMarks.{closed_kept}
 use Rattle.cert_checker.proofs.GrowingTables.{grows_trans, grows_itself}
 use Rattle.cert_checker.proofs.StepLists.{all_accept, all_step, grows_longer}
 use Rattle.cert_checker.proofs.TargetSets.{test_within, holds_kept}
-use Rattle.cert_checker.specs.Cases.{AreAsked}
+use Rattle.cert_checker.specs.Cases.{AreQueried}
 use Rattle.cert_checker.specs.Indices.{AreIndexed}
 use Rattle.cert_checker.specs.Roots.{AreRoots, counted_short}
 use Rattle.cert_checker.specs.Questions.{ActionPassParts}
@@ -42,8 +42,8 @@ module _ (t new : TableParts) (grows : TablesGrow t new) where
       same : (atom to : Atom) (f : ℕ × ℕ) → Has forbidden f → (holds_at new f.0 atom && holds_at new f.1 to) ≡ (holds_at t f.0 atom && holds_at t f.1 to)
       same atom to f h = ap₂ (λ x y. x && y) (holds_kept t new grows.was grows f.0 atom (tell.tests f h).0) (holds_kept t new grows.was grows f.1 to (tell.tests f h).1)
 
-  pub asked_stay : (asked : List ℕ) → AreAsked t asked → AreAsked new asked
-  asked_stay asked are i k h = (test_within t new grows.was grows k (are i k h).0, λ node at. (are i k h).1 node (was node at))
+  pub queried_stay : (queried : List ℕ) → AreQueried t queried → AreQueried new queried
+  queried_stay queried are i k h = (test_within t new grows.was grows k (are i k h).0, λ node at. (are i k h).1 node (was node at))
     where
       was : (node : TestNode ℕ) → slice_get new.tests k ≡ Some node → slice_get t.tests k ≡ Some node
       was node at = sym (slice_get-append_left t.tests grows.nodes.tests.0 k (are i k h).0) ∙ ap (λ l. slice_get l k) (sym grows.nodes.tests.1) ∙ at
@@ -86,8 +86,8 @@ module _ (p : PassParts) (new : TableParts) (grows : TablesGrow p.tables new) wh
     index = is.index;
     universal = is.universal;
     forbidden = forbidden_stays p.tables new grows p.problem p.cert action_pass.action action_pass.forbidden is.forbidden;
-    begin = asked_stay p.tables new grows action_pass.begin is.begin;
-    end = asked_stay p.tables new grows action_pass.end is.end;
+    begin = queried_stay p.tables new grows action_pass.begin is.begin;
+    end = queried_stay p.tables new grows action_pass.end is.end;
     by_moves = is.by_moves;
     by_pairs = is.by_pairs;
   }

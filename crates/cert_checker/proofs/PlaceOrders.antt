@@ -90,8 +90,8 @@ less_equal e = cc
 less_greater : Less ≡ Greater → ⊥
 less_greater e = cc
 
-pub least_told : (x y r : Place) → r ≡ ord_min ghosts.cmp x y → IsLeastOf (Some x) (Some y) (Some r)
-least_told x y r e = go (ghosts.cmp y x) refl
+pub least_given : (x y r : Place) → r ≡ ord_min ghosts.cmp x y → IsLeastOf (Some x) (Some y) (Some r)
+least_given x y r e = go (ghosts.cmp y x) refl
   where
     go : (o : Ordering) → ghosts.cmp y x ≡ o → IsLeastOf (Some x) (Some y) (Some r)
     go Less f = inr (ap Some (e ∙ ap (λ z. cond (is_lt z) y x) f), λ h. less_greater (sym (place_less x y h) ∙ total-law.antisymm x y ∙ ap ordering_reverse f))

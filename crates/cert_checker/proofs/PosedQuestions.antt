@@ -12,14 +12,14 @@ use Rattle.cert_checker.specs.NodeTables.{TableParts, TablesGrow, IsTest}
 use Rattle.cert_checker.specs.Targets.{AreEntries, AreSteps}
 use Rattle.cert_checker.proofs.GrowingTables.{grows_trans}
 use Rattle.cert_checker.specs.Indices.{IndexParts, AreIndexed}
-use Rattle.cert_checker.specs.Questions.{ActionPassParts, QuestionParts, IsQuestion, AreNamed, IsPosed, IsAskedOf}
+use Rattle.cert_checker.specs.Questions.{ActionPassParts, QuestionParts, IsQuestion, AreNamed, IsPosed, IsQueriedOf}
 use Rattle.cert_checker.specs.Passes.{PassParts, IsPass, IsActionPass}
 use Rattle.cert_checker.proofs.CertPairs.{test_in_tables, listed_in}
 use Rattle.cert_checker.proofs.Passes.{pass_with, turn_with}
 
 -- the question of an action's pass about the targets of two sets
 abbrev pub question_of : TableParts → ActionPassParts → Option ℕ → List (ℕ × ℕ) → List (ℕ × ℕ) → List ℕ → QuestionParts
-question_of t action_pass own left right asked = record { tables = t; action_pass = action_pass; pair_test = own; left = left; right = right; asked = asked }
+question_of t action_pass own left right queried = record { tables = t; action_pass = action_pass; pair_test = own; left = left; right = right; queried = queried }
 
 module _ (p : PassParts) (pass : IsPass p) where
   -- in a style without tests no pair has a test
@@ -47,8 +47,8 @@ module _ (p : PassParts) (pass : IsPass p) where
     of_turn : (r : PairParts) → Has action_pass.pairs r → Has (option_map_or (λ a. p.cert.pairs) action_pass.action []) r
     of_turn r h = subst (λ (ps : List PairParts). Has ps r) is.pairs h
 
-    question_asked : (own : Option ℕ) (left right : List (ℕ × ℕ)) (asked : List ℕ) → ((k : ℕ) → own ≡ Some k → IsTest p.tables k) → AreEntries p.tables left → AreEntries p.tables right → IsQuestion p.tables (question_of p.tables action_pass own left right asked)
-    question_asked own left right asked test first second = record {
+    question_queried : (own : Option ℕ) (left right : List (ℕ × ℕ)) (queried : List ℕ) → ((k : ℕ) → own ≡ Some k → IsTest p.tables k) → AreEntries p.tables left → AreEntries p.tables right → IsQuestion p.tables (question_of p.tables action_pass own left right queried)
+    question_queried own left right queried test first second = record {
       pairs = λ r h. let of = pass.cert.pairs r (listed_in p pass action_pass.action r (of_turn r h)) in (set_in_tables r.left of.left, set_in_tables r.right of.right);
       untested = λ e r h. untested_in action_pass.action (sym is.style ∙ e) r (of_turn r h);
       indexed = subst (λ (x : IndexParts). AreIndexed x action_pass.pairs) (sym is.index) (subst (AreIndexed p.index) (sym is.pairs) (indexed_in action_pass.action));
@@ -62,11 +62,11 @@ module _ (p : PassParts) (pass : IsPass p) where
       at_end = λ g n. ⊎_elim (λ m. subst (Has action_pass.end) m.2 (is.by_moves m.0 m.1).1) (λ m. is.by_pairs m.0 g m.1 m.2) n;
     }
 
-    pub question_posed : (q : QuestionParts) (own : Option ℕ) (left right : List (ℕ × ℕ)) → IsAskedOf p.tables action_pass own left right q → AreNamed p.tables q q.asked → ((k : ℕ) → own ≡ Some k → IsTest p.tables k) → AreEntries p.tables left → AreEntries p.tables right → IsPosed q
+    pub question_posed : (q : QuestionParts) (own : Option ℕ) (left right : List (ℕ × ℕ)) → IsQueriedOf p.tables action_pass own left right q → AreNamed p.tables q q.queried → ((k : ℕ) → own ≡ Some k → IsTest p.tables k) → AreEntries p.tables left → AreEntries p.tables right → IsPosed q
     question_posed q own left right e named test first second = subst IsPosed (sym e) (record {
       tables = pass.nodes.sound;
-      question = question_asked own left right q.asked test first second;
-      named = subst (λ (z : QuestionParts). AreNamed p.tables z z.asked) e named;
+      question = question_queried own left right q.queried test first second;
+      named = subst (λ (z : QuestionParts). AreNamed p.tables z z.queried) e named;
     })
 
   -- the number of tests is within the limit

@@ -120,8 +120,8 @@ universal_stays t new grows None e low same = ((λ u s. absurd cc), same)
 universal_stays t new grows (Some k) e low same = ((λ u s. IsPrefix-within t.terms new.terms u grows.nodes.terms (low u s)), ap (λ (x : Term). Some x) (grows.nodes.trees k (low k refl)) ∙ same)
 
 -- the number of the universal term, if there is one
-pub universal_told : (t : TableParts) (k : ℕ) (e : Term) → IsTerm t k → term_at t k ≡ e → ((u : ℕ) → Some k ≡ Some u → IsTerm t u) × (option_map (term_at t) (Some k) ≡ Some e)
-universal_told t k e there tree = ((λ u s. let same : k ≡ u = cc in subst (IsTerm t) same there), ap Some tree)
+pub universal_given : (t : TableParts) (k : ℕ) (e : Term) → IsTerm t k → term_at t k ≡ e → ((u : ℕ) → Some k ≡ Some u → IsTerm t u) × (option_map (term_at t) (Some k) ≡ Some e)
+universal_given t k e there tree = ((λ u s. let same : k ≡ u = cc in subst (IsTerm t) same there), ap Some tree)
 
 -- the closed sides keep their numbers
 sides_stay : (s : Style) (q : ProblemParts) (t new : TableParts) (left right : ℕ) (universal : Option ℕ) → TablesGrow t new → AreSideNumbers s q t left right universal → AreSideNumbers s q new left right universal

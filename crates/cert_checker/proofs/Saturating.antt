@@ -129,11 +129,11 @@ module _ (ps : List NumberPair) where
   brought_on terms a b x goes = record { there = λ k h. stays_has a b goes.kept k (x.there k h); made = λ set closed h. goes.made set closed (x.made set closed h) }
 
   -- every key is reached; once the set of keys is closed, every reached number is a key
-  pub there_reached : (terms keys wanted : List ℕ) → AreBrought ps terms keys → IsSubset wanted keys → AreReached ps terms wanted
-  there_reached terms keys wanted x sub k h set closed holds_all = x.made set closed holds_all k (sub k h)
+  pub there_reached : (terms keys expected : List ℕ) → AreBrought ps terms keys → IsSubset expected keys → AreReached ps terms expected
+  there_reached terms keys expected x sub k h set closed holds_all = x.made set closed holds_all k (sub k h)
 
-  closed_reached : (terms keys wanted : List ℕ) → AreBrought ps terms keys → IsClosed ps (λ k. list_any (nat_eq k) keys) → AreReached ps terms wanted → IsSubset wanted keys
-  closed_reached terms keys wanted x closed reached k h = any_key keys k (reached k h (λ j. list_any (nat_eq j) keys) closed (λ j m. key_any keys j (x.there j m)))
+  closed_reached : (terms keys expected : List ℕ) → AreBrought ps terms keys → IsClosed ps (λ k. list_any (nat_eq k) keys) → AreReached ps terms expected → IsSubset expected keys
+  closed_reached terms keys expected x closed reached k h = any_key keys k (reached k h (λ j. list_any (nat_eq j) keys) closed (λ j m. key_any keys j (x.there j m)))
 
 -- ---- processed pairs
 
@@ -220,12 +220,12 @@ module _ (ps : List PairParts) (also : Bool) (known : List Truth) where
       round_closed n h =
           let f = counting_has also known ps n h in
           let at = place_of_member ps f.0 f.1 in
-          let stands = indexed at.0 f.0 at.1 in
+          let represents = indexed at.0 f.0 at.1 in
           let S : ℕ → Bool = λ k. list_any (nat_eq k) c in
           subst (λ (m : NumberPair). (HoldsAll S m.left → HoldsAll S m.right) × (HoldsAll S m.right → HoldsAll S m.left)) f.3 (
-            (λ own k m. key_any c k ((by_set f.0.left at.0 f.0 stands.0 at.1 (λ j q. any_key c j (own j q)) f.2).0 (λ j q. back j (any_key c j (own j q))) k m)),
-            (λ own k m. key_any c k ((by_set f.0.right at.0 f.0 stands.1 at.1 (λ j q. any_key c j (own j q)) f.2).1 (λ j q. back j (any_key c j (own j q))) k m)),
+            (λ own k m. key_any c k ((by_set f.0.left at.0 f.0 represents.0 at.1 (λ j q. any_key c j (own j q)) f.2).0 (λ j q. back j (any_key c j (own j q))) k m)),
+            (λ own k m. key_any c k ((by_set f.0.right at.0 f.0 represents.1 at.1 (λ j q. any_key c j (own j q)) f.2).1 (λ j q. back j (any_key c j (own j q))) k m)),
           )
 
-      pub unreached : (terms wanted : List ℕ) → AreBrought (counting also known ps) terms c → (IsSubset wanted a → ⊥) → AreReached (counting also known ps) terms wanted → ⊥
-      unreached terms wanted brought never reached = never (λ k h. back k (closed_reached (counting also known ps) terms c wanted brought round_closed reached k h))
+      pub unreached : (terms expected : List ℕ) → AreBrought (counting also known ps) terms c → (IsSubset expected a → ⊥) → AreReached (counting also known ps) terms expected → ⊥
+      unreached terms expected brought never reached = never (λ k h. back k (closed_reached (counting also known ps) terms c expected brought round_closed reached k h))

@@ -44,7 +44,7 @@ module _ (known : List Truth) (others es : List (ℕ × ℕ)) where
   record IsFound (more : List (ℕ × ℕ)) (d : ℕ × ℕ) (now : List ℕ) (w : Option ℕ) : Type 0 where
     pub sure : now ++ sure_targets known more ≡ sure_targets known es
     pub may : falsely (known_of known d.1) ≡ false
-    pub told : MatchOption w ((b : Bool) × (known_of known d.1 ≡ Known b)) (IsWaitedBy known es)
+    pub given : MatchOption w ((b : Bool) × (known_of known d.1 ≡ Known b)) (IsWaitedBy known es)
 
   -- an additional target
   module _ (rest more : List (ℕ × ℕ)) (d : ℕ × ℕ) (cut : rest ≡ d ∷ more) (ks ls : List ℕ) (o p : Option ℕ) (before : IsSideOf known others es rest ks ls o p) where
@@ -86,21 +86,21 @@ module _ (known : List Truth) (others es : List (ℕ × ℕ)) where
     found_true now w e is none = record {
       sure = ap (λ (l : List ℕ). l ++ sure_targets known more) is ∙ append_assoc ks (d.0 ∷ []) (sure_targets known more) ∙ ap (λ (l : List ℕ). ks ++ l) (sym (sure_cut (Known true) e)) ∙ before.sure;
       may = ap falsely e;
-      told = subst (λ (u : Option ℕ). MatchOption u ((b : Bool) × (known_of known d.1 ≡ Known b)) (IsWaitedBy known es)) (sym none) (true, e);
+      given = subst (λ (u : Option ℕ). MatchOption u ((b : Bool) × (known_of known d.1 ≡ Known b)) (IsWaitedBy known es)) (sym none) (true, e);
     }
 
     found_waits : (now : List ℕ) (w : Option ℕ) (k : ℕ) → known_of known d.1 ≡ UndecidedBy k → now ≡ ks → w ≡ Some k → IsFound more d now w
     found_waits now w k e is some = record {
       sure = ap (λ (l : List ℕ). l ++ sure_targets known more) is ∙ ap (λ (l : List ℕ). ks ++ l) (sym (sure_cut (UndecidedBy k) e)) ∙ before.sure;
       may = ap falsely e;
-      told = subst (λ (u : Option ℕ). MatchOption u ((b : Bool) × (known_of known d.1 ≡ Known b)) (IsWaitedBy known es)) (sym some) (d, here, e);
+      given = subst (λ (u : Option ℕ). MatchOption u ((b : Bool) × (known_of known d.1 ≡ Known b)) (IsWaitedBy known es)) (sym some) (d, here, e);
     }
 
     module _ (now : List ℕ) (w : Option ℕ) (found : IsFound more d now w) where
       waits_now : MatchOption (option_or p w) (AreSettled known more → AreSettled known es) (IsWaitedBy known es)
       waits_now =
           or_then p w (AreSettled known rest → AreSettled known es) (AreSettled known more → AreSettled known es) ((b : Bool) × (known_of known d.1 ≡ Known b)) (IsWaitedBy known es) (λ f value s. f (settled_more value s)) before.waits
-          found.told
+          found.given
 
       -- a target that is also in the other set
       side_shared : has_too known others d.0 d.1 ≡ true → IsSideOf known others es more now ls o (option_or p w)
@@ -123,7 +123,7 @@ module _ (known : List Truth) (others es : List (ℕ × ℕ)) where
         within = within_more;
         alone_waits =
             or_then o w (AreOpenSettled known others rest → AreOpenSettled known others es) (AreOpenSettled known others more → AreOpenSettled known others es) ((b : Bool) × (known_of known d.1 ≡ Known b)) (IsWaitedBy known es)
-            (λ f value s. f (open_more (λ _. value) s)) before.alone_waits found.told;
+            (λ f value s. f (open_more (λ _. value) s)) before.alone_waits found.given;
         waits = waits_now;
       }
 

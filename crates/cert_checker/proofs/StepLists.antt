@@ -13,9 +13,9 @@ use Rattle.term_nodes.specs.declared.TermNode.TheVariants.{Zero, One, Test, Act,
 use Rattle.term_nodes.specs.NumberSets.{are_below, terms_of}
 use Rattle.term_nodes.specs.NodeTrees.{tree_in}
 use Rattle.cert_checker.specs.NodeTables.{TableParts, AreTables, TablesGrow, TestsGrow, IsTest, IsTerm, HasValues, term_at, nodes_in, holds_at}
-use Rattle.cert_checker.specs.Targets.{chosen, AreEntries, StandFor, AreAcceptances, AreSteps, HasNoneElsewhere, leads_to, set_leads_to}
+use Rattle.cert_checker.specs.Targets.{chosen, AreEntries, Represent, AreAcceptances, AreSteps, HasNoneElsewhere, leads_to, set_leads_to}
 use Rattle.cert_checker.proofs.TargetSets.{holds_kept, test_within, chosen_kept}
-use Rattle.cert_checker.proofs.StepSets.{append_same, acceptances_kept, steps_kept, stand_same, star_same, product_same}
+use Rattle.cert_checker.proofs.StepSets.{append_same, acceptances_kept, steps_kept, represent_same, star_same, product_same}
 use Rattle.cert_checker.proofs.GrowingTables.{tests_trans}
 use Rattle.cert_checker.proofs.AddingTargets.{gathered}
 
@@ -30,22 +30,22 @@ below_at n (k ∷ ks) (suc i) d e h = below_at n ks i d (and_parts (nat_lt k n) 
 
 module _ (t new : TableParts) (are : AreTables t) (grows : TablesGrow t new) where
   pub acceptances_more : (guards : List ℕ) (g : ℕ) → AreAcceptances t guards → length guards < length t.terms → HasValues new (out (term_at t (length guards))) g → AreAcceptances new (guards ++ g ∷ [])
-  acceptances_more guards g was low told k h e =
+  acceptances_more guards g was low given k h e =
       ⊎_elim
       (λ old. acceptances_kept t new are grows guards within was k h old)
-      (λ last. subst (HasValues new (out (term_at new k))) last.1 (told.0, (λ atom. told.1 atom ∙ ap (λ x. out x atom) (sym (grows.nodes.trees (length guards) low) ∙ ap (term_at new) (sym last.0)))))
+      (λ last. subst (HasValues new (out (term_at new k))) last.1 (given.0, (λ atom. given.1 atom ∙ ap (λ x. out x atom) (sym (grows.nodes.trees (length guards) low) ∙ ap (term_at new) (sym last.0)))))
       (slice_get_last guards g k h e)
     where
       within : (k h : ℕ) → slice_get guards k ≡ Some h → IsTerm t k
       within k h e = let here : k < length guards = slice_get_within guards k h e in omega (arith, here, low)
 
-  pub steps_more : (action : Option ℕ) (Among : ℕ → Type 0) (steps : List (List (ℕ × ℕ))) (es : List (ℕ × ℕ)) → AreSteps t action Among steps → length steps < length t.terms → (Among (length steps) → StandFor new es (leads_to action (term_at t (length steps)))) → AreSteps new action Among (steps ++ es ∷ [])
-  steps_more action Among steps es was low stands k fs m e =
+  pub steps_more : (action : Option ℕ) (Among : ℕ → Type 0) (steps : List (List (ℕ × ℕ))) (es : List (ℕ × ℕ)) → AreSteps t action Among steps → length steps < length t.terms → (Among (length steps) → Represent new es (leads_to action (term_at t (length steps)))) → AreSteps new action Among (steps ++ es ∷ [])
+  steps_more action Among steps es was low represents k fs m e =
       ⊎_elim
       (λ old. steps_kept t new are grows action Among steps within was k fs m old)
       (λ last.
-      subst (λ l. StandFor new l (leads_to action (term_at new k))) last.1
-      (subst (λ j. StandFor new es (leads_to action j)) (sym (grows.nodes.trees (length steps) low) ∙ ap (term_at new) (sym last.0)) (stands (subst Among last.0 m))))
+      subst (λ l. Represent new l (leads_to action (term_at new k))) last.1
+      (subst (λ j. Represent new es (leads_to action j)) (sym (grows.nodes.trees (length steps) low) ∙ ap (term_at new) (sym last.0)) (represents (subst Among last.0 m))))
       (slice_get_last steps es k fs e)
     where
       within : (k : ℕ) (fs : List (ℕ × ℕ)) → slice_get steps k ≡ Some fs → IsTerm t k
@@ -98,13 +98,13 @@ gathering_begins first now action always targets set none grows test sure = reco
 }
 
 module _ (first now last : TableParts) (action : Option ℕ) (always : ℕ) (targets new : List (ℕ × ℕ)) (rest all : List ℕ) (k : ℕ) (es : List (ℕ × ℕ)) where
-  pub gathering_more : IsGathering first now action always targets (k ∷ rest) all → StandFor first es (leads_to action (term_at first k)) → TestsGrow now last
-      → StandFor last new (λ atom. chosen now targets atom ++ cond (holds_at now always atom) (chosen now es atom) []) → IsGathering first last action always new rest all
-  gathering_more g step to_last stands = record {
+  pub gathering_more : IsGathering first now action always targets (k ∷ rest) all → Represent first es (leads_to action (term_at first k)) → TestsGrow now last
+      → Represent last new (λ atom. chosen now targets atom ++ cond (holds_at now always atom) (chosen now es atom) []) → IsGathering first last action always new rest all
+  gathering_more g step to_last represents = record {
     grows = tests_trans first now last g.grows to_last;
     test = test_within now last to_last.grows.was to_last.grows always g.test;
     sure = λ atom. holds_kept now last to_last.grows.was to_last.grows always atom g.test ∙ g.sure atom;
-    entries = stands.entries;
+    entries = represents.entries;
     left = λ j h. g.left j (inr h);
     same = λ atom. same_members_trans (chosen last new atom ++ rest_leads atom) (chosen now targets atom ++ set_leads_to action (terms_of (nodes_in first) (k ∷ rest)) atom) (set_leads_to action (terms_of (nodes_in first) all) atom) (gain atom) (g.same atom);
   }
@@ -115,26 +115,26 @@ module _ (first now last : TableParts) (action : Option ℕ) (always : ℕ) (tar
       here : Atom → List Term
       here atom = leads_to action (term_at first k) atom
 
-      more : StandFor last new (λ atom. chosen now targets atom ++ chosen first es atom)
-      more = gathered first now last targets new es always g.grows.grows step.entries g.sure stands
+      more : Represent last new (λ atom. chosen now targets atom ++ chosen first es atom)
+      more = gathered first now last targets new es always g.grows.grows step.entries g.sure represents
 
       itself : (xs : List Term) → SameMembers xs xs
       itself xs x = ((λ h. h), (λ h. h))
 
-      told : (atom : Atom) → SameMembers (chosen last new atom) (chosen now targets atom ++ here atom)
-      told atom = same_members_trans (chosen last new atom) (chosen now targets atom ++ chosen first es atom) (chosen now targets atom ++ here atom) (more.same atom)
+      given : (atom : Atom) → SameMembers (chosen last new atom) (chosen now targets atom ++ here atom)
+      given atom = same_members_trans (chosen last new atom) (chosen now targets atom ++ chosen first es atom) (chosen now targets atom ++ here atom) (more.same atom)
           (append_same (chosen now targets atom) (chosen now targets atom) (chosen first es atom) (here atom) (itself (chosen now targets atom)) (step.same atom))
 
       apart : (atom : Atom) → SameMembers (chosen last new atom ++ rest_leads atom) (chosen now targets atom ++ (here atom ++ rest_leads atom))
       apart atom =
           subst (SameMembers (chosen last new atom ++ rest_leads atom)) (append_assoc (chosen now targets atom) (here atom) (rest_leads atom))
-          (append_same (chosen last new atom) (chosen now targets atom ++ here atom) (rest_leads atom) (rest_leads atom) (told atom) (itself (rest_leads atom)))
+          (append_same (chosen last new atom) (chosen now targets atom ++ here atom) (rest_leads atom) (rest_leads atom) (given atom) (itself (rest_leads atom)))
 
       gain : (atom : Atom) → SameMembers (chosen last new atom ++ rest_leads atom) (chosen now targets atom ++ set_leads_to action (terms_of (nodes_in first) (k ∷ rest)) atom)
       gain atom = same_members_trans (chosen last new atom ++ rest_leads atom) (chosen now targets atom ++ (here atom ++ rest_leads atom)) (chosen now targets atom ++ set_leads_to action (terms_of (nodes_in first) (k ∷ rest)) atom) (apart atom)
           (append_same (chosen now targets atom) (chosen now targets atom) (here atom ++ rest_leads atom) (set_leads_to action (terms_of (nodes_in first) (k ∷ rest)) atom) (itself (chosen now targets atom)) (lead_more action (term_at first k) (terms_of (nodes_in first) rest) atom))
 
-pub gathering_ends : (first now : TableParts) (action : Option ℕ) (always : ℕ) (targets : List (ℕ × ℕ)) (rest all : List ℕ) → rest ≡ [] → IsGathering first now action always targets rest all → StandFor now targets (set_leads_to action (terms_of (nodes_in first) all))
+pub gathering_ends : (first now : TableParts) (action : Option ℕ) (always : ℕ) (targets : List (ℕ × ℕ)) (rest all : List ℕ) → rest ≡ [] → IsGathering first now action always targets rest all → Represent now targets (set_leads_to action (terms_of (nodes_in first) all))
 gathering_ends first now action always targets [] all e g = record {
   entries = g.entries;
   same = λ atom. subst (λ l. SameMembers l (set_leads_to action (terms_of (nodes_in first) all) atom)) (ap (λ l. chosen now targets atom ++ l) (no_members_lead action atom) ∙ append-nil (chosen now targets atom)) (g.same atom);
@@ -151,30 +151,30 @@ accept_at t guards k are low = are k (get_or guards k 0) (slice_get-get_or guard
 
 -- ---- the targets of a node
 
-pub nothing_stands : (t : TableParts) (es : List (ℕ × ℕ)) (f : Atom → List Term) → es ≡ [] → ((atom : Atom) → f atom ≡ []) → StandFor t es f
-nothing_stands t es f none nothing = record {
+pub nothing_represents : (t : TableParts) (es : List (ℕ × ℕ)) (f : Atom → List Term) → es ≡ [] → ((atom : Atom) → f atom ≡ []) → Represent t es f
+nothing_represents t es f none nothing = record {
   entries = λ e h. absurd (subst (λ l. Has l e) none h);
   same = λ atom. subst (λ (l : List (ℕ × ℕ)). SameMembers (chosen t l atom) (f atom)) (sym none) (subst (SameMembers []) (sym (nothing atom)) (λ x. ((λ h. h), (λ h. h))));
 }
 
-pub sum_stands : (new : TableParts) (es : List (ℕ × ℕ)) (e f : Term) (a : ℕ) → StandFor new es (λ atom. set_next (e ∷ f ∷ []) atom a) → StandFor new es (λ atom. next (sum e f) atom a)
-sum_stands new es e f a s =
-    stand_same new es (λ atom. set_next (e ∷ f ∷ []) atom a) (λ atom. next (sum e f) atom a) s
+pub sum_represents : (new : TableParts) (es : List (ℕ × ℕ)) (e f : Term) (a : ℕ) → Represent new es (λ atom. set_next (e ∷ f ∷ []) atom a) → Represent new es (λ atom. next (sum e f) atom a)
+sum_represents new es e f a s =
+    represent_same new es (λ atom. set_next (e ∷ f ∷ []) atom a) (λ atom. next (sum e f) atom a) s
     (λ atom. subst (SameMembers (next e atom a ++ (next f atom a ++ []))) (ap (λ l. next e atom a ++ l) (append-nil (next f atom a))) (λ x. ((λ h. h), (λ h. h))))
 
-pub star_stands : (t new : TableParts) (x k a : ℕ) (first es : List (ℕ × ℕ)) → term_at t k ≡ star (term_at t x) → StandFor t first (λ atom. next (term_at t x) atom a) → StandFor new es (λ atom. map (λ x. dot x (term_at t k)) (chosen t first atom)) → StandFor new es (λ atom. next (term_at t k) atom a)
-star_stands t new x k a first es tree step s =
-    subst (λ e. StandFor new es (λ atom. next e atom a)) (sym tree)
-    (stand_same new es (λ atom. map (λ y. dot y (star (term_at t x))) (chosen t first atom)) (λ atom. next (star (term_at t x)) atom a)
-    (subst (λ e. StandFor new es (λ atom. map (λ y. dot y e) (chosen t first atom))) tree s)
+pub star_represents : (t new : TableParts) (x k a : ℕ) (first es : List (ℕ × ℕ)) → term_at t k ≡ star (term_at t x) → Represent t first (λ atom. next (term_at t x) atom a) → Represent new es (λ atom. map (λ x. dot x (term_at t k)) (chosen t first atom)) → Represent new es (λ atom. next (term_at t k) atom a)
+star_represents t new x k a first es tree step s =
+    subst (λ e. Represent new es (λ atom. next e atom a)) (sym tree)
+    (represent_same new es (λ atom. map (λ y. dot y (star (term_at t x))) (chosen t first atom)) (λ atom. next (star (term_at t x)) atom a)
+    (subst (λ e. Represent new es (λ atom. map (λ y. dot y e) (chosen t first atom))) tree s)
     (λ atom. star_same (term_at t x) atom a (chosen t first atom) (step.same atom)))
 
-pub product_stands : (t mid new : TableParts) (x y a guard : ℕ) (left right begun es : List (ℕ × ℕ)) → AreTables t → TablesGrow t mid → StandFor t left (λ atom. next (term_at t x) atom a) → StandFor t right (λ atom. next (term_at t y) atom a)
+pub product_represents : (t mid new : TableParts) (x y a guard : ℕ) (left right begun es : List (ℕ × ℕ)) → AreTables t → TablesGrow t mid → Represent t left (λ atom. next (term_at t x) atom a) → Represent t right (λ atom. next (term_at t y) atom a)
     → IsTest t guard → ((atom : Atom) → holds_at t guard atom ≡ out (term_at t x) atom)
-    → StandFor mid begun (λ atom. map (λ z. dot z (term_at t y)) (chosen t left atom)) → StandFor new es (λ atom. chosen mid begun atom ++ cond (holds_at mid guard atom) (chosen mid right atom) [])
-    → StandFor new es (λ atom. next (product (term_at t x) (term_at t y)) atom a)
-product_stands t mid new x y a guard left right begun es are grows first second test accepts from_first s =
-    stand_same new es (λ atom. chosen mid begun atom ++ cond (holds_at mid guard atom) (chosen mid right atom) []) (λ atom. next (product (term_at t x) (term_at t y)) atom a) s
+    → Represent mid begun (λ atom. map (λ z. dot z (term_at t y)) (chosen t left atom)) → Represent new es (λ atom. chosen mid begun atom ++ cond (holds_at mid guard atom) (chosen mid right atom) [])
+    → Represent new es (λ atom. next (product (term_at t x) (term_at t y)) atom a)
+product_represents t mid new x y a guard left right begun es are grows first second test accepts from_first s =
+    represent_same new es (λ atom. chosen mid begun atom ++ cond (holds_at mid guard atom) (chosen mid right atom) []) (λ atom. next (product (term_at t x) (term_at t y)) atom a) s
     (λ atom. same_members_trans (chosen mid begun atom ++ cond (holds_at mid guard atom) (chosen mid right atom) []) (map (λ z. dot z (term_at t y)) (chosen t left atom) ++ cond (holds_at mid guard atom) (chosen mid right atom) []) (next (product (term_at t x) (term_at t y)) atom a)
     (append_same (chosen mid begun atom) (map (λ z. dot z (term_at t y)) (chosen t left atom)) _ (cond (holds_at mid guard atom) (chosen mid right atom) []) (from_first.same atom) (λ z. ((λ h. h), (λ h. h))))
     (product_same (term_at t x) (term_at t y) atom a (holds_at mid guard atom) (chosen t left atom) (chosen mid right atom) (first.same atom)
@@ -182,8 +182,8 @@ product_stands t mid new x y a guard left right begun es are grows first second 
     (holds_kept t mid are grows guard atom test ∙ accepts atom)))
 
 -- the empty product as the only target
-pub one_stands : (t new : TableParts) (es : List (ℕ × ℕ)) (k guard : ℕ) → TablesGrow t new → IsTest t guard → IsTerm new k → term_at new k ≡ one → es ≡ (k, guard) ∷ [] → StandFor new es (λ atom. cond (holds_at t guard atom) (one ∷ []) [])
-one_stands t new es k guard grows test there tree made = record {
+pub one_represents : (t new : TableParts) (es : List (ℕ × ℕ)) (k guard : ℕ) → TablesGrow t new → IsTest t guard → IsTerm new k → term_at new k ≡ one → es ≡ (k, guard) ∷ [] → Represent new es (λ atom. cond (holds_at t guard atom) (one ∷ []) [])
+one_represents t new es k guard grows test there tree made = record {
   entries = λ e h. ⊎_elim
       (λ s. subst (λ (z : ℕ × ℕ). IsTerm new z.0 × IsTest new z.1) s (there, test_within t new grows.was grows guard test))
       absurd

@@ -5,19 +5,19 @@ use Rattle.kat_model.specs.Members.{Has, SameMembers}
 use Rattle.kat_model.specs.Steps.{Atom, out, next, dot}
 use Rattle.kat_model.proofs.Lists.{has_map, map_has, has_append, has_left, has_right}
 use Rattle.cert_checker.specs.NodeTables.{TableParts, AreTables, TablesGrow, IsTerm, term_at}
-use Rattle.cert_checker.specs.Targets.{StandFor, AreAcceptances, AreSteps, leads_to}
+use Rattle.cert_checker.specs.Targets.{Represent, AreAcceptances, AreSteps, leads_to}
 use Rattle.cert_checker.proofs.TargetSets.{test_within, holds_kept, entries_kept, chosen_kept}
 
 -- targets that stand for a list also stand for every list with the same members
-pub stand_same : (t : TableParts) (es : List (ℕ × ℕ)) (f g : Atom → List Term) → StandFor t es f → ((atom : Atom) → SameMembers (f atom) (g atom)) → StandFor t es g
-stand_same t es f g s same = record {
+pub represent_same : (t : TableParts) (es : List (ℕ × ℕ)) (f g : Atom → List Term) → Represent t es f → ((atom : Atom) → SameMembers (f atom) (g atom)) → Represent t es g
+represent_same t es f g s same = record {
   entries = s.entries;
   same = λ atom x. ((λ h. (same atom x).0 ((s.same atom x).0 h)), (λ h. (s.same atom x).1 ((same atom x).1 h)));
 }
 
 module _ (old new : TableParts) (are : AreTables old) (grows : TablesGrow old new) where
-  pub stand_kept : (es : List (ℕ × ℕ)) (f : Atom → List Term) → StandFor old es f → StandFor new es f
-  stand_kept es f s = record {
+  pub represent_kept : (es : List (ℕ × ℕ)) (f : Atom → List Term) → Represent old es f → Represent new es f
+  represent_kept es f s = record {
     entries = entries_kept old new are grows es s.entries;
     same = λ atom. subst (λ l. SameMembers l (f atom)) (sym (chosen_kept old new are grows es atom s.entries)) (s.same atom);
   }
@@ -31,7 +31,7 @@ module _ (old new : TableParts) (are : AreTables old) (grows : TablesGrow old ne
 
   pub steps_kept : (action : Option ℕ) (Among : ℕ → Type 0) (steps : List (List (ℕ × ℕ))) → ((k : ℕ) (es : List (ℕ × ℕ)) → slice_get steps k ≡ Some es → IsTerm old k) → AreSteps old action Among steps → AreSteps new action Among steps
   steps_kept action Among steps within h k es m e =
-      stand_same new es (leads_to action (term_at old k)) (leads_to action (term_at new k)) (stand_kept es (leads_to action (term_at old k)) (h k es m e))
+      represent_same new es (leads_to action (term_at old k)) (leads_to action (term_at new k)) (represent_kept es (leads_to action (term_at old k)) (h k es m e))
       (λ atom. subst (λ x. SameMembers (leads_to action (term_at old k) atom) (leads_to action x atom)) (sym (grows.nodes.trees k (within k es e))) (λ x. ((λ m. m), (λ m. m))))
 
 -- ---- the rest of a product

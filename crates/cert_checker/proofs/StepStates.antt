@@ -32,7 +32,7 @@ use Rattle.cert_checker.proofs.Covered.{covered_congruent, congruent_covered}
 use Rattle.cert_checker.proofs.KnownMoves.{test_value, sure_are_at, at_are_counted, excluded_never, counts_then}
 use Rattle.cert_checker.proofs.StepAnswers.{side_settled, none_alone, universal_holds, listed_holds, unlisted_fails}
 
-module _ (t : TableParts) (are : AreTables t) (q : QuestionParts) (is : IsQuestion t q) (asked : List ℕ) (named : AreNamed t q asked) (ds : List (Option Bool)) (c : TestCase) (known : IsTestCase t q asked ds c) where
+module _ (t : TableParts) (are : AreTables t) (q : QuestionParts) (is : IsQuestion t q) (queried : List ℕ) (named : AreNamed t q queried) (ds : List (Option Bool)) (c : TestCase) (known : IsTestCase t q queried ds c) where
   at_begin : (g : ℕ) → NamesByTargets q g ⊎ NamesByMoves q g → IsKnown 0 (take t.width ds) (holds_at t g) (known_of c.begin.items g)
   at_begin g h = ⊎_elim (λ n. known.targets g (named.named g n)) (λ m. known.begin g (is.by_moves g m)) h
 
@@ -82,8 +82,8 @@ module _ (t : TableParts) (are : AreTables t) (q : QuestionParts) (is : IsQuesti
         (test_value t 0 (take t.width ds) c.begin.items (take t.width x) (extends_front t.width ds x extends) q.pair_test (λ k o. at_begin k (inl (inl o))))
         (λ f h. front_right f.0 (inr (f, h, refl))) (λ f h. back_right f.1 (inl (f, h, refl))) does
 
-    pair_told : (p : PairParts) → Has q.action_pass.pairs p → (k : ℕ) → p.test ≡ Some k → IsKnown t.width (drop t.width ds) (holds_at t k) (known_of c.end.items k)
-    pair_told p h k e = at_end k (inr (p, h, e))
+    pair_given : (p : PairParts) → Has q.action_pass.pairs p → (k : ℕ) → p.test ≡ Some k → IsKnown t.width (drop t.width ds) (holds_at t k) (known_of c.end.items k)
+    pair_given p h k e = at_end k (inr (p, h, e))
 
     numbers_below : (also : Bool) → ArePairsBelow (length t.terms) (counting also c.end.items q.action_pass.pairs)
     numbers_below also = counting_below also c.end.items (length t.terms) q.action_pass.pairs (λ p h. let sets = is.pairs p h in (sets.0.there, sets.1.there))
@@ -102,7 +102,7 @@ module _ (t : TableParts) (are : AreTables t) (q : QuestionParts) (is : IsQuesti
       covered_here : AreCovered (counting false c.end.items q.action_pass.pairs) q.action_pass.universal s → IsCongruent (option_map (term_at t) q.action_pass.universal) (pairs_at (map (tested_pair_of (nodes_in t)) q.action_pass.pairs) (drop t.width x)) (chosen t q.left (take t.width x)) (chosen t q.right (take t.width x))
       covered_here m =
           congruent_more (set_pairs_of (nodes_in t) (counting false c.end.items q.action_pass.pairs)) (pairs_at (map (tested_pair_of (nodes_in t)) q.action_pass.pairs) (drop t.width x))
-          (sure_are_at t t.width (drop t.width ds) c.end.items (drop t.width x) (extends_back t.width ds x extends) q.action_pass.pairs pair_told)
+          (sure_are_at t t.width (drop t.width ds) c.end.items (drop t.width x) (extends_back t.width ds x extends) q.action_pass.pairs pair_given)
           (option_map (term_at t) q.action_pass.universal) (chosen t q.left (take t.width x)) (chosen t q.right (take t.width x))
           (covered_congruent t are c.begin.items (take t.width x) (counting false c.end.items q.action_pass.pairs) (numbers_below false) q.action_pass.universal q.left q.right is.left is.right lefts rights s sides m)
 
@@ -113,7 +113,7 @@ module _ (t : TableParts) (are : AreTables t) (q : QuestionParts) (is : IsQuesti
       congruent_here sl sr also settled m =
           congruent_covered t are c.begin.items (take t.width x) (counting also c.end.items q.action_pass.pairs) (numbers_below also) q.action_pass.universal q.left q.right is.left is.right lefts rights s sides is.universal sl sr
           (congruent_more (pairs_at (map (tested_pair_of (nodes_in t)) q.action_pass.pairs) (drop t.width x)) (set_pairs_of (nodes_in t) (counting also c.end.items q.action_pass.pairs))
-          (at_are_counted t t.width (drop t.width ds) c.end.items (drop t.width x) (extends_back t.width ds x extends) q.action_pass.pairs pair_told also settled)
+          (at_are_counted t t.width (drop t.width ds) c.end.items (drop t.width x) (extends_back t.width ds x extends) q.action_pass.pairs pair_given also settled)
           (option_map (term_at t) q.action_pass.universal) (chosen t q.left (take t.width x)) (chosen t q.right (take t.width x)) m)
 
       listed_here : AreSettled c.begin.items q.left → AreSettled c.begin.items q.right → q.action_pass.style ≡ Plain → lists (counting false c.end.items q.action_pass.pairs) s.left.sure.items s.right.sure.items ≡ true

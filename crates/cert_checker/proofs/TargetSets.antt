@@ -13,7 +13,7 @@ use Rattle.kat_model.specs.Members.{Has, SameMembers}
 use Rattle.kat_model.specs.Steps.{Atom, truth}
 use Rattle.kat_model.proofs.Lists.{has_left, has_right, has_append}
 use Rattle.cert_checker.specs.NodeTables.{TableParts, AreTables, TablesGrow, IsTest, IsTerm, term_at, holds_at}
-use Rattle.cert_checker.specs.Targets.{chosen, AreEntries, StandFor}
+use Rattle.cert_checker.specs.Targets.{chosen, AreEntries, Represent}
 use Rattle.cert_checker.specs.Targets.{guard_of}
 use Rattle.term_nodes.proofs.Prefixes.{IsPrefix-within}
 use Rattle.cert_checker.proofs.ChosenTargets.{chosen_has, has_chosen, guard_member, any_value}
@@ -86,8 +86,8 @@ module _ (old new : TableParts) (are : AreTables old) (grows : TablesGrow old ne
     (k guard joined : ℕ) (is_term : IsTerm old k) (is_test : IsTest new joined)
     (value : (atom : Atom) → holds_at new joined atom ≡ (option_map_or (λ o. holds_at old o atom) (guard_of es k) false || holds_at old guard atom)) where
   -- the list with the added target stands for the previous terms and the added one
-  pub added_stands : StandFor new (insert_entry nat_cmp es k joined) (λ atom. chosen old es atom ++ cond (holds_at old guard atom) (term_at old k ∷ []) [])
-  added_stands = record { entries = entries; same = λ atom x. (to atom x, from atom x) }
+  pub added_represents : Represent new (insert_entry nat_cmp es k joined) (λ atom. chosen old es atom ++ cond (holds_at old guard atom) (term_at old k ∷ []) [])
+  added_represents = record { entries = entries; same = λ atom x. (to atom x, from atom x) }
     where
       entries : AreEntries new (insert_entry nat_cmp es k joined)
       entries e h =
@@ -148,8 +148,8 @@ module _ (old new : TableParts) (are : AreTables old) (grows : TablesGrow old ne
           by_guard false e m = absurd m
 
 -- under a guard that is never true nothing is added
-pub never_stands : (t : TableParts) (es : List (ℕ × ℕ)) (guard : ℕ) (more : Atom → List Term) → AreEntries t es → ((atom : Atom) → holds_at t guard atom ≡ false) → StandFor t es (λ atom. chosen t es atom ++ cond (holds_at t guard atom) (more atom) [])
-never_stands t es guard more own never = record {
+pub never_represents : (t : TableParts) (es : List (ℕ × ℕ)) (guard : ℕ) (more : Atom → List Term) → AreEntries t es → ((atom : Atom) → holds_at t guard atom ≡ false) → Represent t es (λ atom. chosen t es atom ++ cond (holds_at t guard atom) (more atom) [])
+never_represents t es guard more own never = record {
   entries = own;
   same = λ atom. subst (λ b. SameMembers (chosen t es atom) (chosen t es atom ++ cond b (more atom) [])) (sym (never atom))
       (subst (SameMembers (chosen t es atom)) (sym (append-nil (chosen t es atom))) (λ x. ((λ h. h), (λ h. h))));

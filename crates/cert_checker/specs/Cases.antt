@@ -76,10 +76,10 @@ falsely (Known b) = not b
 falsely (Undecided k) = false
 
 -- the numbers are tests of the tables, and the parts of each test come before it
-abbrev pub AreAsked : TableParts → List ℕ → Type 0
-AreAsked t asked =
-    (i k : ℕ) → slice_get asked i ≡ Some k → IsTest t k × ((node : TestNode ℕ) → slice_get t.tests k ≡ Some node → IsSubset (test_parts node) (take i asked))
+abbrev pub AreQueried : TableParts → List ℕ → Type 0
+AreQueried t queried =
+    (i k : ℕ) → slice_get queried i ≡ Some k → IsTest t k × ((node : TestNode ℕ) → slice_get t.tests k ≡ Some node → IsSubset (test_parts node) (take i queried))
 
 -- the list has what is known of each of these tests of the tables
 abbrev pub AreKnown : ℕ → TableParts → List (Option Bool) → List ℕ → List Truth → Type 0
-AreKnown first t decided asked known = (k : ℕ) → Has asked k → IsKnown first decided (holds_at t k) (known_of known k)
+AreKnown first t decided queried known = (k : ℕ) → Has queried k → IsKnown first decided (holds_at t k) (known_of known k)

@@ -8,13 +8,13 @@ use Rattle.cert_checker.specs.declared.answer.Answer.{Answer}
 use Rattle.cert_checker.specs.Answers.{Shows, IsAnswer}
 
 -- the claim of evidence: a certificate says that both sides are the same, a string that they are not
-abbrev pub Says : ProblemParts → Evidence → Type 0
-Says q (Equal c) = Same q
-Says q (Different x) = Same q → ⊥
+abbrev pub Denotes : ProblemParts → Evidence → Type 0
+Denotes q (Equal c) = Same q
+Denotes q (Different x) = Same q → ⊥
 
 -- accepted evidence has a true claim
 abbrev pub ShownIsSo : Type 0
-ShownIsSo = (q : ProblemParts) (e : Evidence) → Shows q e → Says q e
+ShownIsSo = (q : ProblemParts) (e : Evidence) → Shows q e → Denotes q e
 
 -- evidence has exactly one answer
 abbrev pub HasOneAnswer : Type 0

@@ -12,9 +12,9 @@ use Rattle.certificate.specs.PairParts.{PairParts}
 use Rattle.certificate.specs.Certs.{CertParts, IsCert}
 use Rattle.cert_checker.specs.NodeTables.{TableParts, TablesGrow, tables_of, IsTest, HasValues, holds_at}
 use Rattle.cert_checker.specs.Marks.{IsMarked, AreClosed}
-use Rattle.cert_checker.specs.Targets.{AreAcceptances, AreSteps, StandFor}
+use Rattle.cert_checker.specs.Targets.{AreAcceptances, AreSteps, Represent}
 use Rattle.cert_checker.specs.declared.pass.PassNumbers.{PassNumbers}
-use Rattle.cert_checker.specs.Cases.{AreAsked}
+use Rattle.cert_checker.specs.Cases.{AreQueried}
 use Rattle.cert_checker.specs.Indices.{IndexParts, AreIndexed}
 use Rattle.cert_checker.specs.Roots.{AreRoots, counted_short}
 use Rattle.cert_checker.specs.Questions.{ActionPassParts}
@@ -91,7 +91,7 @@ forbidden_of outputs e = (e.1, get_or outputs e.0 0)
 pub record AddsMoves (t : TableParts) (leads : Atom → List Term) (old new : List (ℕ × ℕ)) : Type 0 where
   pub entries : List (ℕ × ℕ)
   pub outputs : List ℕ
-  pub stand : StandFor t entries leads
+  pub represent : Represent t entries leads
   pub accept : AreAcceptances t outputs
   pub there : (e : ℕ × ℕ) → Has entries e → e.0 < length outputs
   pub pairs : new ≡ old ++ map (forbidden_of outputs) entries
@@ -105,7 +105,7 @@ pub record IsActionPass (p : PassParts) (action_pass : ActionPassParts) : Type 0
   pub index : action_pass.index ≡ p.index
   pub universal : action_pass.universal ≡ option_map_or (λ a. p.universal) action_pass.action None
   pub forbidden : AreForbidden p.tables p.cert p.problem action_pass.action action_pass.forbidden
-  pub begin : AreAsked p.tables action_pass.begin
-  pub end : AreAsked p.tables action_pass.end
+  pub begin : AreQueried p.tables action_pass.begin
+  pub end : AreQueried p.tables action_pass.end
   pub by_moves : (f : ℕ × ℕ) → Has action_pass.forbidden f → Has action_pass.begin f.0 × Has action_pass.end f.1
   pub by_pairs : (r : PairParts) (g : ℕ) → Has action_pass.pairs r → r.test ≡ Some g → Has action_pass.end g

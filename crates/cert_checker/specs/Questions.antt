@@ -14,7 +14,7 @@ use Rattle.certificate.specs.PairParts.{PairParts, only_sets}
 use Rattle.certificate.specs.Accepted.{test_of, tested_pair_of}
 use Rattle.cert_checker.specs.NodeTables.{TableParts, AreTables, IsTest, IsTerm, term_at, holds_at, nodes_in}
 use Rattle.cert_checker.specs.Targets.{AreEntries, chosen}
-use Rattle.cert_checker.specs.Cases.{AreAsked, AreKnown}
+use Rattle.cert_checker.specs.Cases.{AreQueried, AreKnown}
 use Rattle.cert_checker.specs.Indices.{IndexParts, AreIndexed}
 use Rattle.cert_checker.specs.declared.known.TestCase.{TestCase}
 
@@ -41,7 +41,7 @@ pub record QuestionParts : Type 0 where
   pub pair_test : Option ℕ
   pub left : List (ℕ × ℕ)
   pub right : List (ℕ × ℕ)
-  pub asked : List ℕ
+  pub queried : List ℕ
 
 -- the tests that the question names at the first atom, by the pair and the targets, and by moves; and those at the
 -- second atom
@@ -63,29 +63,29 @@ pub record IsQuestion (t : TableParts) (q : QuestionParts) : Type 0 where
   pub pair_test : (k : ℕ) → q.pair_test ≡ Some k → IsTest t k
   pub left : AreEntries t q.left
   pub right : AreEntries t q.right
-  pub begin : AreAsked t q.action_pass.begin
-  pub end : AreAsked t q.action_pass.end
+  pub begin : AreQueried t q.action_pass.begin
+  pub end : AreQueried t q.action_pass.end
   pub by_moves : (g : ℕ) → NamesByMoves q g → Has q.action_pass.begin g
   pub at_end : (g : ℕ) → NamesAtEnd q g → Has q.action_pass.end g
 
 -- `tests` contains the tests that the question names by the pair and the targets
 pub record AreNamed (t : TableParts) (q : QuestionParts) (tests : List ℕ) : Type 0 where
-  pub asked : AreAsked t tests
+  pub queried : AreQueried t tests
   pub named : (g : ℕ) → NamesByTargets q g → Has tests g
 
 -- a question over sound tables, with the tests that it names
 pub record IsPosed (q : QuestionParts) : Type 0 where
   pub tables : AreTables q.tables
   pub question : IsQuestion q.tables q
-  pub named : AreNamed q.tables q q.asked
+  pub named : AreNamed q.tables q q.queried
 
 -- the question of an action's pass about a pair with this test and these targets
-abbrev pub IsAskedOf : TableParts → ActionPassParts → Option ℕ → List (ℕ × ℕ) → List (ℕ × ℕ) → QuestionParts → Type 0
-IsAskedOf t action_pass own left right q = q ≡ record { tables = t; action_pass = action_pass; pair_test = own; left = left; right = right; asked = q.asked }
+abbrev pub IsQueriedOf : TableParts → ActionPassParts → Option ℕ → List (ℕ × ℕ) → List (ℕ × ℕ) → QuestionParts → Type 0
+IsQueriedOf t action_pass own left right q = q ≡ record { tables = t; action_pass = action_pass; pair_test = own; left = left; right = right; queried = q.queried }
 
 -- what is known of the listed tests when some primitive tests of both atoms are decided
-pub record IsTestCase (t : TableParts) (q : QuestionParts) (asked : List ℕ) (decided : List (Option Bool)) (c : TestCase) : Type 0 where
-  pub targets : AreKnown 0 t (take t.width decided) asked c.begin.items
+pub record IsTestCase (t : TableParts) (q : QuestionParts) (queried : List ℕ) (decided : List (Option Bool)) (c : TestCase) : Type 0 where
+  pub targets : AreKnown 0 t (take t.width decided) queried c.begin.items
   pub begin : AreKnown 0 t (take t.width decided) q.action_pass.begin c.begin.items
   pub end : AreKnown t.width t (drop t.width decided) q.action_pass.end c.end.items
 

@@ -22,7 +22,7 @@ abbrev pub guard_of : List (ℕ × ℕ) → ℕ → Option ℕ
 guard_of es k = lookup (is_at (nat_cmp k)) es
 
 -- at each atom, the chosen terms are these terms
-pub record StandFor (t : TableParts) (es : List (ℕ × ℕ)) (terms : Atom → List Term) : Type 0 where
+pub record Represent (t : TableParts) (es : List (ℕ × ℕ)) (terms : Atom → List Term) : Type 0 where
   pub entries : AreEntries t es
   pub same : (atom : Atom) → SameMembers (chosen t es atom) (terms atom)
 
@@ -42,7 +42,7 @@ set_leads_to (Some a) es atom = set_next es atom a
 
 -- the targets of each of these terms stand for what the term leads to
 abbrev pub AreSteps : TableParts → Option ℕ → (ℕ → Type 0) → List (List (ℕ × ℕ)) → Type 0
-AreSteps t action Among steps = (k : ℕ) (es : List (ℕ × ℕ)) → Among k → slice_get steps k ≡ Some es → StandFor t es (λ atom. leads_to action (term_at t k) atom)
+AreSteps t action Among steps = (k : ℕ) (es : List (ℕ × ℕ)) → Among k → slice_get steps k ≡ Some es → Represent t es (λ atom. leads_to action (term_at t k) atom)
 
 -- terms that are not marked have no targets
 abbrev pub HasNoneElsewhere : List Bool → List (List (ℕ × ℕ)) → Type 0

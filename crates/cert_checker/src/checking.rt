@@ -8,7 +8,7 @@ ghost use Rattle.term_nodes.specs.declared.TermNode.TheVariants.{Act};
 ghost use Rattle.certificate.specs.Accepted.{IsAccepted};
 ghost use Rattle.cert_checker.specs.declared.answer.Answer.TheVariants.{Accepted};
 ghost use Rattle.cert_checker.specs.Answers.{Shows, FailsFirstBy, IsFoundBy, IsAnswer, finding_reason};
-ghost use Rattle.cert_checker.specs.Laws.{Says};
+ghost use Rattle.cert_checker.specs.Laws.{Denotes};
 ghost use Rattle.cert_checker.specs.Passes.{IsPass};
 ghost use Rattle.cert_checker.specs.Working.Places.{place_reason};
 ghost use Rattle.cert_checker.specs.Working.Relevant.{HasFewerHyps};
@@ -19,9 +19,9 @@ use crate::index::PairIndex;
 use crate::pass::Pass;
 use crate::places::{Place, first_place};
 use crate::range::{action_out, test_out};
-use crate::relevant::asked_tests;
+use crate::relevant::queried_tests;
 use certificate::{Cert, Evidence, Style};
-use goal_forms::{asks_only, is_short};
+use goal_forms::{is_short, tests_only_from};
 use kat_model::{Items, Kat, NoMemory, Problem};
 use std::alloc::Global;
 use string_tables::{Finding, verdict};
@@ -73,7 +73,7 @@ fn kept_hyps(alloc: Global, problem: &Problem, known: &[usize]) -> Result<Vec<Ka
 {
     let mut hyps = Vec::new(alloc);
     for hyp in problem.hyps() {
-        if !is_short(hyp) || asks_only(hyp, known, hyp.acts() == 0) {
+        if !is_short(hyp) || tests_only_from(hyp, known, hyp.acts() == 0) {
             hyps.push(hyp.copy(alloc)?)?;
         }
     }
@@ -86,7 +86,7 @@ fn fewer_hyps(alloc: Global, problem: &Problem, cert: &Cert) -> Result<Option<Pr
     requires { (k : ℕ) → Has cert.now.test_nodes (Prim k) → k < problem.now.tests }
     ensures { IfOk result (λ o. IfSome o (HasFewerHyps problem.now)) }
 {
-    let known = asked_tests(alloc, cert, problem.tests())?;
+    let known = queried_tests(alloc, cert, problem.tests())?;
     let hyps = kept_hyps(alloc, problem, &known)?;
     let left = problem.left().copy(alloc)?;
     let right = problem.right().copy(alloc)?;
@@ -148,7 +148,7 @@ pub fn check(alloc: Global, problem: &Problem, evidence: &Evidence) -> Result<An
     ensures answer { IfOk result (λ answer. IsAnswer problem.now evidence.now answer) }
 
     // The claim of accepted evidence is true: both sides are the same, or they are not.
-    ensures shown { IfOk result (λ answer. answer ≡ Accepted → Says problem.now evidence.now) }
+    ensures shown { IfOk result (λ answer. answer ≡ Accepted → Denotes problem.now evidence.now) }
 {
     match first_reason(alloc, problem, evidence)? {
         None => Ok(Answer::Accepted),

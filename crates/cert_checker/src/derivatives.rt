@@ -8,7 +8,7 @@ ghost use Rattle.kat_model.specs.Steps.{dot, out};
 ghost use Rattle.term_nodes.specs.NumberSets.{are_below, terms_of};
 ghost use Rattle.cert_checker.specs.NodeTables.{AreTables, TablesGrow, TestsGrow, IsTest, IsTerm, HasValues, term_at, holds_at, nodes_in};
 ghost use Rattle.cert_checker.specs.Marks.{IsMarked, IsPart, AreClosed, IsClosure};
-ghost use Rattle.cert_checker.specs.Targets.{AreEntries, StandFor, chosen, leads_to, set_leads_to, AreAcceptances, AreSteps, HasNoneElsewhere};
+ghost use Rattle.cert_checker.specs.Targets.{AreEntries, Represent, chosen, leads_to, set_leads_to, AreAcceptances, AreSteps, HasNoneElsewhere};
 
 use crate::tables::Tables;
 use certificate::{TermNode, TestNode};
@@ -73,7 +73,7 @@ pub(crate) type Targets = BTreeMap<usize, usize>;
 /// Returns the empty product as a target, with the given guard.
 pub(crate) fn empty_product(tables: &mut Tables, guard: usize) -> Result<Targets, NoMemory>
     requires { IsTest tables.old guard }
-    ensures targets { IfOk result (λ t. StandFor tables.new t.entries (λ atom. if holds_at tables.old guard atom then one ∷ [] else [])) }
+    ensures targets { IfOk result (λ t. Represent tables.new t.entries (λ atom. if holds_at tables.old guard atom then one ∷ [] else [])) }
     ensures grows { TablesGrow tables.old tables.new }
 {
     let one = tables.term(TermNode::One)?;
@@ -85,7 +85,7 @@ pub(crate) fn empty_product(tables: &mut Tables, guard: usize) -> Result<Targets
 // Adds a term, with the guard. If the term is a target already, its new guard is the disjunction of both guards.
 fn add(tables: &mut Tables, to: &mut Targets, term: usize, guard: usize) -> Result<(), NoMemory>
     requires { AreEntries tables.old ((term, guard) ∷ to.old.entries) }
-    ensures added { OnOk result (StandFor tables.new to.new.entries (λ atom. chosen tables.old to.old.entries atom ++ (if holds_at tables.old guard atom then term_at tables.old term ∷ [] else []))) }
+    ensures added { OnOk result (Represent tables.new to.new.entries (λ atom. chosen tables.old to.old.entries atom ++ (if holds_at tables.old guard atom then term_at tables.old term ∷ [] else []))) }
     ensures grows { TestsGrow tables.old tables.new }
 {
     if let TestNode::False = tables.test_node(guard) {
@@ -109,7 +109,7 @@ fn add_all(
     requires entries { AreEntries tables.old targets.old.entries }
     requires others { AreEntries tables.old more.now.entries }
     requires is_test { IsTest tables.old guard }
-    ensures added { OnOk result (StandFor tables.new targets.new.entries (λ atom. chosen tables.old targets.old.entries atom ++ (if holds_at tables.old guard atom then chosen tables.old more.now.entries atom else []))) }
+    ensures added { OnOk result (Represent tables.new targets.new.entries (λ atom. chosen tables.old targets.old.entries atom ++ (if holds_at tables.old guard atom then chosen tables.old more.now.entries atom else []))) }
     ensures grows { TestsGrow tables.old tables.new }
 {
     if let TestNode::False = tables.test_node(guard) {
@@ -127,7 +127,7 @@ fn continued(tables: &mut Tables, first: &Targets, after: usize) -> Result<Targe
     requires tables { AreTables tables.old }
     requires entries { AreEntries tables.old first.now.entries }
     requires is_term { IsTerm tables.old after }
-    ensures targets { IfOk result (λ t. StandFor tables.new t.entries (λ atom. map (λ x. dot x (term_at tables.old after)) (chosen tables.old first.now.entries atom))) }
+    ensures targets { IfOk result (λ t. Represent tables.new t.entries (λ atom. map (λ x. dot x (term_at tables.old after)) (chosen tables.old first.now.entries atom))) }
     ensures grows { TablesGrow tables.old tables.new }
 {
     let mut targets = BTreeMap::new(tables.alloc());
@@ -147,7 +147,7 @@ pub(crate) fn of_set(
 ) -> Result<Targets, NoMemory>
     requires steps { AreSteps tables.old action (Has set.now) (map (λ t. t.entries) steps.now) }
     requires numbers { IsTrue (are_below (length steps.now) set.now) }
-    ensures targets { IfOk result (λ t. StandFor tables.new t.entries (λ atom. set_leads_to action (terms_of (nodes_in tables.old) set.now) atom)) }
+    ensures targets { IfOk result (λ t. Represent tables.new t.entries (λ atom. set_leads_to action (terms_of (nodes_in tables.old) set.now) atom)) }
     ensures grows { TestsGrow tables.old tables.new }
 {
     let always = tables.constant(true)?;
@@ -169,7 +169,7 @@ fn step(
     requires count { length earlier.now < length accepting.now }
     requires next { IsTerm tables.old (length earlier.now) }
     requires parts { AreSteps tables.old action (IsPart tables.old (length earlier.now)) (map (λ t. t.entries) earlier.now) }
-    ensures targets { IfOk result (λ t. StandFor tables.new t.entries (λ atom. leads_to action (term_at tables.old (length earlier.now)) atom)) }
+    ensures targets { IfOk result (λ t. Represent tables.new t.entries (λ atom. leads_to action (term_at tables.old (length earlier.now)) atom)) }
     ensures grows { TablesGrow tables.old tables.new }
 {
     let term = earlier.len();

@@ -4,7 +4,7 @@ ghost use Rattle.std.specs.Prelude.{◌≡◌, ◌<◌, ◌≤◌, ◌+◌, ℕ,
 ghost use Rattle.kat_model.specs.Members.{Has};
 ghost use Rattle.term_nodes.specs.Nodes.{IsTestOver};
 ghost use Rattle.cert_checker.specs.NodeTables.{IsWithin};
-ghost use Rattle.cert_checker.specs.Cases.{known_of, known_test, known_not, known_and, known_node, falsely, truly, undecided, AreAsked, AreKnown};
+ghost use Rattle.cert_checker.specs.Cases.{known_of, known_test, known_not, known_and, known_node, falsely, truly, undecided, AreQueried, AreKnown};
 
 use crate::question::Question;
 use crate::tables::Tables;
@@ -120,19 +120,19 @@ fn known_in(node: TestNode, known: &[Truth], decided: &[Option<bool>], first: us
 fn evaluate(
     known: &mut [Truth],
     tables: &Tables,
-    asked: &[usize],
+    queried: &[usize],
     decided: &[Option<bool>],
     first: usize,
 )
     requires room { length tables.now.tests ≤ length known.old }
-    requires asked { AreAsked tables.now asked.now }
+    requires queried { AreQueried tables.now queried.now }
     requires decided { length decided.now ≡ tables.now.width }
     requires narrow { first ≤ tables.now.width }
-    ensures known { AreKnown first tables.now decided.now asked.now known.new }
-    ensures others { (k : ℕ) → (Has asked.now k → ⊥) → known_of known.new k ≡ known_of known.old k }
+    ensures known { AreKnown first tables.now decided.now queried.now known.new }
+    ensures others { (k : ℕ) → (Has queried.now k → ⊥) → known_of known.new k ≡ known_of known.old k }
     ensures room { length known.new ≡ length known.old }
 {
-    for test in asked {
+    for test in queried {
         known[*test] = known_in(tables.test_node(*test), known, decided, first);
     }
 }
@@ -165,14 +165,14 @@ impl TestCase {
     pub fn evaluate(&mut self, question: &Question) -> Result<(), NoMemory>
         requires question { IsPosed question.now }
         requires decided { length self.old.decided.items ≡ question.now.tables.width + question.now.tables.width }
-        ensures known { OnOk result (IsTestCase question.now.tables question.now question.now.asked self.new.decided.items self.new) }
+        ensures known { OnOk result (IsTestCase question.now.tables question.now question.now.queried self.new.decided.items self.new) }
         ensures decided { self.new.decided ≡ self.old.decided }
     {
         let (tables, pass) = (question.tables, question.action_pass);
         self.begin.resize(tables.test_count(), Truth::Known(false))?;
         self.end.resize(tables.test_count(), Truth::Known(false))?;
         let (first, second) = self.decided.split_at(tables.width());
-        evaluate(&mut self.begin, tables, &question.asked, first, 0);
+        evaluate(&mut self.begin, tables, &question.queried, first, 0);
         evaluate(&mut self.begin, tables, &pass.begin, first, 0);
         evaluate(&mut self.end, tables, &pass.end, second, tables.width());
         Ok(())

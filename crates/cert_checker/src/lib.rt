@@ -1,7 +1,8 @@
-//! The checker of evidence. It depends on no part of a prover. The crates that it shares with a prover are below both:
-//! terms and their steps (`kat_model`), the closed sides of a problem and which hypotheses are short (`goal_forms`),
-//! guarded strings and their tables (`string_tables`), nodes of terms (`term_nodes`), and certificates and their
-//! acceptance (`certificate`).
+//! The checker of evidence; it depends on no part of a prover.
+//!
+//! The crates that it shares with a prover are below both: terms and their steps (`kat_model`), the closed sides of a
+//! problem and which hypotheses are short (`goal_forms`), guarded strings and their tables (`string_tables`), nodes of
+//! terms (`term_nodes`), and certificates and their acceptance (`certificate`).
 //!
 //! The checker traverses a certificate in its own order: the ranges of its nodes, its first pair, and then, for the
 //! outputs and for each action, each pair. It checks a pair by cases on the tests of an atom and, in the style of
@@ -11,7 +12,6 @@
 #![tactic(auto)]
 
 mod answer;
-mod asked;
 mod cases;
 mod checking;
 mod derivatives;
@@ -23,6 +23,7 @@ mod matching;
 mod moves;
 mod pass;
 mod places;
+mod queried;
 mod question;
 mod range;
 mod relevant;

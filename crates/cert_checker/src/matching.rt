@@ -17,7 +17,7 @@ use crate::moves::{MoveStatus, move_status};
 use crate::question::Question;
 use crate::saturation::{Counted, counts, reaches};
 use crate::sides::{TargetSides, is_sure, side_of};
-use crate::waiting::{waiting_guard, waiting_pair};
+use crate::waiting::{undecided_test_of_pairs, waiting_guard};
 use certificate::{Pair, Style};
 use kat_model::NoMemory;
 
@@ -161,7 +161,7 @@ fn outcome_by(
     sides: &TargetSides,
 ) -> Result<Outcome, NoMemory>
     requires question { IsPosed question.now }
-    requires case { IsTestCase question.now.tables question.now question.now.asked case.now.decided.items case.now }
+    requires case { IsTestCase question.now.tables question.now question.now.queried case.now.decided.items case.now }
     requires the_move { IsMoveStatus question.now case.now the_move }
     requires sides { AreTargetSides case.now.begin.items question.now.left question.now.right sides.now }
     ensures { IfOk result (IsOutcome (MatchAt question.now.tables question.now) case.now.decided.items) }
@@ -177,7 +177,7 @@ fn outcome_by(
         return Ok(Outcome::Undecided(test));
     }
     if are_covered(&Counted::of(question, case, true), sides)? {
-        if let Some(test) = waiting_pair(question, case) {
+        if let Some(test) = undecided_test_of_pairs(question, case) {
             return Ok(Outcome::Undecided(test));
         }
     }
@@ -194,7 +194,7 @@ fn outcome_by(
 /// universal term. Exact dependence would end some branches earlier; the least place is the same.
 pub(crate) fn outcome_of(question: &Question, case: &TestCase) -> Result<Outcome, NoMemory>
     requires question { IsPosed question.now }
-    requires case { IsTestCase question.now.tables question.now question.now.asked case.now.decided.items case.now }
+    requires case { IsTestCase question.now.tables question.now question.now.queried case.now.decided.items case.now }
     ensures { IfOk result (IsOutcome (MatchAt question.now.tables question.now) case.now.decided.items) }
 {
     let (alloc, known) = (question.tables.alloc(), case.begin.as_slice());

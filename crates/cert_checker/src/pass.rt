@@ -15,9 +15,9 @@ ghost use Rattle.cert_checker.specs.Indices.{IndexParts, AreIndexed};
 ghost use Rattle.cert_checker.specs.Roots.{AreClosedBelow, AreClosedNumbers, compared, counted_short};
 ghost use Rattle.cert_checker.specs.Passes.{AddsMoves, AreNeeded, IsPass, forbidden_of, pass_of};
 
-use crate::asked::{begin_tests, end_tests};
 use crate::derivatives::{Targets, acceptances, close_marks, of_set, steps};
 use crate::index::PairIndex;
+use crate::queried::{begin_tests, end_tests};
 use crate::question::ActionPass;
 use crate::tables::Tables;
 use certificate::{Cert, Pair, Style};

@@ -2,12 +2,12 @@
 ghost use Rattle.std.specs.Prelude.{◌≡◌, ◌↔◌, ◌⊎◌, Some, IfOk, OnOk, ℕ};
 ghost use Rattle.kat_model.specs.Members.{Has};
 ghost use Rattle.cert_checker.specs.NodeTables.{IsTest};
-ghost use Rattle.cert_checker.specs.Cases.{AreAsked};
+ghost use Rattle.cert_checker.specs.Cases.{AreQueried};
 ghost use Rattle.cert_checker.specs.Targets.{AreEntries};
 
-use crate::asked::{add_test, with_parts};
 use crate::derivatives::Targets;
 use crate::index::PairIndex;
+use crate::queried::{add_test, with_parts};
 use crate::tables::Tables;
 use certificate::{Pair, Style};
 use kat_model::NoMemory;
@@ -69,7 +69,7 @@ pub(crate) struct Question<'a> {
     pub left: Targets,
     pub right: Targets,
     /// The tests that the targets and the pair name, with their parts.
-    pub asked: Vec<usize>,
+    pub queried: Vec<usize>,
 }
 
 // Explicit, so that it is proved once and not at each end of each function that owns one.
@@ -81,7 +81,7 @@ impl Drop for Question<'_> {
             pair_test: _,
             left: _left,
             right: _right,
-            asked: _asked,
+            queried: _asked,
         } = self;
     }
 }
@@ -91,7 +91,7 @@ impl<'a> Model for Question<'a> {
 
     ghost Value = { QuestionParts };
 
-    ghost view = { λ q. record { tables = q.tables.now; action_pass = q.action_pass.now; pair_test = q.pair_test; left = q.left.entries; right = q.right.entries; asked = q.asked.items } };
+    ghost view = { λ q. record { tables = q.tables.now; action_pass = q.action_pass.now; pair_test = q.pair_test; left = q.left.entries; right = q.right.entries; queried = q.queried.items } };
 }
 
 // Adds the guards of the targets.
@@ -111,7 +111,7 @@ fn named_tests(
     requires pair_test { (k : ℕ) → pair_test ≡ Some k → IsTest tables.now k }
     requires left { AreEntries tables.now left.now.entries }
     requires right { AreEntries tables.now right.now.entries }
-    ensures asked { IfOk result (λ v. AreAsked tables.now v.items) }
+    ensures queried { IfOk result (λ v. AreQueried tables.now v.items) }
     ensures named { IfOk result (λ v. (k : ℕ) → (pair_test ≡ Some k) ⊎ ((e : ℕ × ℕ) × (Has left.now.entries e ⊎ Has right.now.entries e) × (e.1 ≡ k)) → Has v.items k) }
 {
     let mut named = BTreeSet::new(tables.alloc());
@@ -125,7 +125,7 @@ impl<'a> Question<'a> {
     ghost use Rattle.std.specs.Prelude.{◌≡◌, ℕ, IfOk};
     ghost use Rattle.cert_checker.specs.NodeTables.{IsTest};
     ghost use Rattle.cert_checker.specs.Targets.{AreEntries};
-    ghost use Rattle.cert_checker.specs.Questions.{AreNamed, IsAskedOf};
+    ghost use Rattle.cert_checker.specs.Questions.{AreNamed, IsQueriedOf};
 
     /// Builds the question of the pass about two sets with these targets, under a test.
     pub fn of(
@@ -138,17 +138,17 @@ impl<'a> Question<'a> {
         requires pair_test { (k : ℕ) → pair_test ≡ Some k → IsTest tables.now k }
         requires left { AreEntries tables.now left.entries }
         requires right { AreEntries tables.now right.entries }
-        ensures question { IfOk result (IsAskedOf tables.now action_pass.now pair_test left.entries right.entries) }
-        ensures named { IfOk result (λ q. AreNamed tables.now q q.asked) }
+        ensures question { IfOk result (IsQueriedOf tables.now action_pass.now pair_test left.entries right.entries) }
+        ensures named { IfOk result (λ q. AreNamed tables.now q q.queried) }
     {
-        let asked = named_tests(tables, pair_test, &left, &right)?;
+        let queried = named_tests(tables, pair_test, &left, &right)?;
         Ok(Question {
             tables,
             action_pass,
             pair_test,
             left,
             right,
-            asked,
+            queried,
         })
     }
 }

@@ -3,7 +3,7 @@
 ghost use Rattle.std.specs.Prelude.{◌≡◌};
 ghost use Rattle.cert_checker.specs.NodeTables.{ArePrimsBelow, tables_of};
 
-use crate::asked::{add_tests_of, with_parts};
+use crate::queried::{add_tests_of, with_parts};
 use crate::tables::Tables;
 use certificate::{Cert, TestNode};
 use kat_model::NoMemory;
@@ -22,19 +22,23 @@ fn prims_among(alloc: Global, nodes: &[TestNode], tests: &[usize]) -> Result<Vec
 }
 
 // Returns the primitive tests that the tests of pairs name. The tables have only the nodes of the certificate.
-fn asked_prims(tables: &Tables, cert: &Cert) -> Result<Vec<usize>, NoMemory>
+fn queried_prims(tables: &Tables, cert: &Cert) -> Result<Vec<usize>, NoMemory>
     requires { tables.now ≡ tables_of tables.now.width cert.now }
 {
     let mut tests = BTreeSet::new(tables.alloc());
     add_tests_of(&mut tests, cert.pairs())?;
-    let asked = with_parts(tables, tests)?;
-    prims_among(tables.alloc(), cert.test_nodes(), &asked)
+    let queried = with_parts(tables, tests)?;
+    prims_among(tables.alloc(), cert.test_nodes(), &queried)
 }
 
 /// Returns the primitive tests that the tests of pairs name. All are below `width`.
-pub(crate) fn asked_tests(alloc: Global, cert: &Cert, width: usize) -> Result<Vec<usize>, NoMemory>
+pub(crate) fn queried_tests(
+    alloc: Global,
+    cert: &Cert,
+    width: usize,
+) -> Result<Vec<usize>, NoMemory>
     requires { ArePrimsBelow width cert.now.test_nodes }
 {
     let tables = Tables::of(alloc, cert, width)?;
-    asked_prims(&tables, cert)
+    queried_prims(&tables, cert)
 }

@@ -110,13 +110,13 @@ fn add_under(reached: &mut Reached, counted: &Counted, terms: &[usize]) -> Resul
 
 // Visits the pairs under each reached term, including terms that are added on the way, until all wanted terms are
 // reached.
-fn add_round(reached: &mut Reached, counted: &Counted, wanted: &[usize]) -> Result<(), NoMemory>
+fn add_round(reached: &mut Reached, counted: &Counted, expected: &[usize]) -> Result<(), NoMemory>
     ensures goes_on { OnOk result (GoesOn (counting_in counted.now) reached.old.keys reached.new.keys) }
-    ensures tended { OnOk result (IsSubset wanted.now reached.new.keys ⊎ ((term : ℕ) → Has reached.new.keys term → AreTendedAt counted.now.action_pass.now.pairs counted.now.also_open counted.now.known.now reached.old.keys reached.new.keys (places_under counted.now.action_pass.now.index term))) }
+    ensures tended { OnOk result (IsSubset expected.now reached.new.keys ⊎ ((term : ℕ) → Has reached.new.keys term → AreTendedAt counted.now.action_pass.now.pairs counted.now.also_open counted.now.known.now reached.old.keys reached.new.keys (places_under counted.now.action_pass.now.index term))) }
 {
     let mut place = 0;
     while place < reached.len() {
-        if has_all(reached, wanted) {
+        if has_all(reached, expected) {
             return Ok(());
         }
         let term = *reached.get_index(place).unwrap();
@@ -132,18 +132,18 @@ fn saturate(
     reached: &mut Reached,
     counted: &Counted,
     from: &[usize],
-    wanted: &[usize],
+    expected: &[usize],
 ) -> Result<bool, NoMemory>
     requires empty { reached.old.keys ≡ [] }
     requires indexed { IsIndexed counted.now }
-    ensures { IfOk result (λ b. IsTrue b ↔ AreReached (counting_in counted.now) from.now wanted.now) }
+    ensures { IfOk result (λ b. IsTrue b ↔ AreReached (counting_in counted.now) from.now expected.now) }
 {
     add_all(reached, from)?;
-    add_under(reached, counted, wanted)?;
-    while !has_all(reached, wanted) {
+    add_under(reached, counted, expected)?;
+    while !has_all(reached, expected) {
         let count = reached.len();
         add_pairs(reached, counted, None)?;
-        add_round(reached, counted, wanted)?;
+        add_round(reached, counted, expected)?;
         if reached.len() == count {
             return Ok(false);
         }
@@ -154,13 +154,17 @@ fn saturate(
 /// Whether the pairs that count make each wanted term reachable from `from`. Visits the pairs under the wanted terms
 /// first, because usually one of those suffices. Rounds take only pairs that the index has under reached terms, and
 /// stop when the answer is known; contracts speak of rounds over all pairs.
-pub(crate) fn reaches(counted: &Counted, from: &[usize], wanted: &[usize]) -> Result<bool, NoMemory>
+pub(crate) fn reaches(
+    counted: &Counted,
+    from: &[usize],
+    expected: &[usize],
+) -> Result<bool, NoMemory>
     requires { IsIndexed counted.now }
-    ensures { IfOk result (λ b. IsTrue b ↔ AreReached (counting_in counted.now) from.now wanted.now) }
+    ensures { IfOk result (λ b. IsTrue b ↔ AreReached (counting_in counted.now) from.now expected.now) }
 {
-    if wanted.is_empty() {
+    if expected.is_empty() {
         return Ok(true);
     }
     let mut reached = IndexSet::new(counted.alloc);
-    saturate(&mut reached, counted, from, wanted)
+    saturate(&mut reached, counted, from, expected)
 }

@@ -20,7 +20,7 @@ fn has_surely_all(targets: &Targets, terms: &[usize], known: &[Truth]) -> bool {
 
 /// Returns an undecided test that a listed pair depends on, preferably of a pair whose sets are surely subsets of the
 /// two sets.
-pub(crate) fn waiting_pair(question: &Question, case: &TestCase) -> Option<usize>
+pub(crate) fn undecided_test_of_pairs(question: &Question, case: &TestCase) -> Option<usize>
     ensures { MatchOption result (AreTestsSettled case.now.end.items question.now.action_pass.pairs) (IsWaited question.now case.now) }
 {
     let (action_pass, mut waiting) = (question.action_pass, None);

@@ -45,11 +45,11 @@ test_two name v w ks x y n nx ny kx ky e =
     (λ p. (named name w p.0 ∙ sym ny ∙ ap test_name p.1, ky ∙ ap test_numbers p.1))
     (some_of_conds (bytes_eq name v) (bytes_eq name w) x y n e)
 
-pub test_node_told : (name ks : List ℕ) (n : TestNode ℕ) → test_node_of name ks ≡ Some n → (name ≡ test_name n) × (ks ≡ test_numbers n)
-test_node_told name [] n e = test_two name _ _ [] False True n refl refl refl refl e
-test_node_told name (x ∷ []) n e = test_two name _ _ (x ∷ []) (Prim x) (Not x) n refl refl refl refl e
-test_node_told name (x ∷ y ∷ []) n e = test_two name _ _ (x ∷ y ∷ []) (And x y) (Or x y) n refl refl refl refl e
-test_node_told name (x ∷ y ∷ z ∷ ks) n e = cc
+pub test_node_given : (name ks : List ℕ) (n : TestNode ℕ) → test_node_of name ks ≡ Some n → (name ≡ test_name n) × (ks ≡ test_numbers n)
+test_node_given name [] n e = test_two name _ _ [] False True n refl refl refl refl e
+test_node_given name (x ∷ []) n e = test_two name _ _ (x ∷ []) (Prim x) (Not x) n refl refl refl refl e
+test_node_given name (x ∷ y ∷ []) n e = test_two name _ _ (x ∷ y ∷ []) (And x y) (Or x y) n refl refl refl refl e
+test_node_given name (x ∷ y ∷ z ∷ ks) n e = cc
 
 pub test_node_made : (n : TestNode ℕ) → test_node_of (test_name n) (test_numbers n) ≡ Some n
 test_node_made False = refl
@@ -76,11 +76,11 @@ term_three name u v w ks x y z n nx ny nz kx ky kz e =
     q)
     (three_forms (bytes_eq name u) (bytes_eq name v) (bytes_eq name w) x y z n e)
 
-pub term_node_told : (name ks : List ℕ) (n : TermNode ℕ ℕ) → term_node_of name ks ≡ Some n → (name ≡ term_name n) × (ks ≡ term_numbers n)
-term_node_told name [] n e = term_two name _ _ [] Zero One n refl refl refl refl e
-term_node_told name (x ∷ []) n e = term_three name _ _ _ (x ∷ []) (Test x) (Act x) (Star x) n refl refl refl refl refl refl e
-term_node_told name (x ∷ y ∷ []) n e = term_two name _ _ (x ∷ y ∷ []) (Sum x y) (Seq x y) n refl refl refl refl e
-term_node_told name (x ∷ y ∷ z ∷ ks) n e = cc
+pub term_node_given : (name ks : List ℕ) (n : TermNode ℕ ℕ) → term_node_of name ks ≡ Some n → (name ≡ term_name n) × (ks ≡ term_numbers n)
+term_node_given name [] n e = term_two name _ _ [] Zero One n refl refl refl refl e
+term_node_given name (x ∷ []) n e = term_three name _ _ _ (x ∷ []) (Test x) (Act x) (Star x) n refl refl refl refl refl refl e
+term_node_given name (x ∷ y ∷ []) n e = term_two name _ _ (x ∷ y ∷ []) (Sum x y) (Seq x y) n refl refl refl refl e
+term_node_given name (x ∷ y ∷ z ∷ ks) n e = cc
 
 pub term_node_made : (n : TermNode ℕ ℕ) → term_node_of (term_name n) (term_numbers n) ≡ Some n
 term_node_made Zero = refl
@@ -122,14 +122,14 @@ term_node_same name (w ∷ x ∷ []) (y ∷ z ∷ []) n h e = of_two (bytes_eq n
 term_node_same name (w ∷ x ∷ []) (y ∷ z ∷ k ∷ ys) n h e = absurd (omega arith)
 term_node_same name (w ∷ x ∷ k ∷ xs) ys n h e = cc
 
-pub test_line_told : (name : List ℕ) (ks : List ℕ) (n : TestNode ℕ) → test_node_of name ks ≡ Some n → (ks ≡ entry_numbers (TestLine n)) × (section_of (TestLine n) ≡ Tests)
-test_line_told name ks n e = ((test_node_told name ks n e).1, refl)
+pub test_line_given : (name : List ℕ) (ks : List ℕ) (n : TestNode ℕ) → test_node_of name ks ≡ Some n → (ks ≡ entry_numbers (TestLine n)) × (section_of (TestLine n) ≡ Tests)
+test_line_given name ks n e = ((test_node_given name ks n e).1, refl)
 
-pub term_line_told : (name : List ℕ) (ks : List ℕ) (n : TermNode ℕ ℕ) → term_node_of name ks ≡ Some n → (ks ≡ entry_numbers (TermLine n)) × (section_of (TermLine n) ≡ Terms)
-term_line_told name ks n e = ((term_node_told name ks n e).1, refl)
+pub term_line_given : (name : List ℕ) (ks : List ℕ) (n : TermNode ℕ ℕ) → term_node_of name ks ≡ Some n → (ks ≡ entry_numbers (TermLine n)) × (section_of (TermLine n) ≡ Terms)
+term_line_given name ks n e = ((term_node_given name ks n e).1, refl)
 
 pub wide_test : (name : List ℕ) (ws : List (List ℕ)) (v : Numbers) (n : TestNode ℕ) → list_all is_numeral ws ≡ true → HasNumbers (map value_of ws) v → test_node_of name v.values.items ≡ Some n → v.wide ≡ true → (e : Entry) × (option_map TestLine (option_and_then (test_node_of name) (numbers_of ws)) ≡ Some e) × (is_wide e ≡ true) × (section_of e ≡ Tests)
-wide_test name = wide_form entry_numbers section_of (test_node_of name) TestLine Tests (test_node_same name) (test_line_told name)
+wide_test name = wide_form entry_numbers section_of (test_node_of name) TestLine Tests (test_node_same name) (test_line_given name)
 
 pub wide_term : (name : List ℕ) (ws : List (List ℕ)) (v : Numbers) (n : TermNode ℕ ℕ) → list_all is_numeral ws ≡ true → HasNumbers (map value_of ws) v → term_node_of name v.values.items ≡ Some n → v.wide ≡ true → (e : Entry) × (option_map TermLine (option_and_then (term_node_of name) (numbers_of ws)) ≡ Some e) × (is_wide e ≡ true) × (section_of e ≡ Terms)
-wide_term name = wide_form entry_numbers section_of (term_node_of name) TermLine Terms (term_node_same name) (term_line_told name)
+wide_term name = wide_form entry_numbers section_of (term_node_of name) TermLine Terms (term_node_same name) (term_line_given name)

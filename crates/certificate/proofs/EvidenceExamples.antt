@@ -22,7 +22,7 @@ use Rattle.certificate.specs.Certs.{CertParts}
 use Rattle.certificate.specs.Texts.{text_of}
 use Rattle.certificate.specs.Faults.{answer_of, line_fault}
 use Rattle.certificate.specs.Accepted.{set_pairs, tested_pairs, IsAccepted}
-use Rattle.line_format.proofs.WholeTexts.{read_told}
+use Rattle.line_format.proofs.WholeTexts.{read_given}
 use Rattle.certificate.proofs.EvidenceTexts.{text_laws}
 
 -- b = b
@@ -34,7 +34,7 @@ one_test_read : answer_of (codes "kat 1 equal\nT prim 0\nE test 0\nP 0 | 0\nend\
 one_test_read = refl
 
 one_test_text : codes "kat 1 equal\nT prim 0\nE test 0\nP 0 | 0\nend\n" ≡ text_of (Equal one_test)
-one_test_text = (read_told text_laws _ (Equal one_test) one_test_read).1
+one_test_text = (read_given text_laws _ (Equal one_test) one_test_read).1
 
 one_test_pairs : set_pairs one_test ≡ record { left = test (prim 0) ∷ []; right = test (prim 0) ∷ [] } ∷ []
 unfolding test_trees trees
@@ -82,7 +82,7 @@ lasting_read : answer_of (codes "kat 1 equal under\nT true\nT prim 0\nE act 0\nE
 lasting_read = refl
 
 lasting_text : codes "kat 1 equal under\nT true\nT prim 0\nE act 0\nE test 1\nE seq 0 1\nE one\nP 0 | 2 | 0\nP 3 | 1 | 1\nend\n" ≡ text_of (Equal lasting)
-lasting_text = (read_told text_laws _ (Equal lasting) lasting_read).1
+lasting_text = (read_given text_laws _ (Equal lasting) lasting_read).1
 
 abbrev first : TestedPair
 first = record { sets = record { left = p ∷ []; right = product p (test b) ∷ [] }; test = top }
@@ -100,8 +100,8 @@ lasting_pairs = refl
 abbrev hyps : List Term
 hyps = product p (test (complement b)) ∷ []
 
-abbrev asks : ProblemParts
-asks = record { tests = 1; actions = 1; hyps = hyps; left = p; right = product p (test b) }
+abbrev poses : ProblemParts
+poses = record { tests = 1; actions = 1; hyps = hyps; left = p; right = product p (test b) }
 
 -- after p, where b holds, the second pair is available
 after_p : (atom after : Atom) → IsAllowedMove hyps atom (moves_to after) → IsCongruent None (pairs_at both after) (one ∷ []) (test b ∷ [])
@@ -110,7 +110,7 @@ after_p atom (false ∷ after) m = absurd (true≢false m.move)
 after_p atom (true ∷ after) m =
     inl (listed_same (pairs_at both (true ∷ after)) (one ∷ []) (test b ∷ []) (record { pair = second.sets; listed = inr (inl refl); lefts = λ x. ((λ h. h), (λ h. h)); rights = λ x. ((λ h. h), (λ h. h)) }))
 
-both_accepted : AreAcceptedUnder (short_hyps asks) (with_hyps asks (long_hyps asks)) both
+both_accepted : AreAcceptedUnder (short_hyps poses) (with_hyps poses (long_hyps poses)) both
 both_accepted = record { test = top; rest = second ∷ []; first = refl; holds = λ atom wide allowed. refl; bisimulation = record { outputs = outputs; steps = one_action_steps hyps both steps } }
   where
     IsAlike : TestedPair → Atom → Type 0
@@ -127,12 +127,12 @@ both_accepted = record { test = top; rest = second ∷ []; first = refl; holds =
         (λ k. ⊎_elim (λ e. subst (λ z. IsMatched both z atom (moves_to after)) e (inl (λ x. ((λ h. h), (λ h. h))))) absurd k)
         h
 
-lasting_accepted : IsAccepted asks lasting
+lasting_accepted : IsAccepted poses lasting
 lasting_accepted =
     record {
       tests = λ k h. ⊎_elim (λ e. cc) (λ r. ⊎_elim (λ e. let same : 0 ≡ k = cc in omega (arith, same)) absurd r) h;
       actions = λ a h. ⊎_elim (λ e. let same : 0 ≡ a = cc in omega (arith, same)) (λ r. ⊎_elim (λ e. cc) (λ s. ⊎_elim (λ e. cc) (λ t. ⊎_elim (λ e. cc) absurd t) s) r) h;
-      pairs = subst (AreAcceptedUnder (short_hyps asks) (with_hyps asks (long_hyps asks))) (sym lasting_pairs) both_accepted;
+      pairs = subst (AreAcceptedUnder (short_hyps poses) (with_hyps poses (long_hyps poses))) (sym lasting_pairs) both_accepted;
     }
 
 -- two tests, and a step of action 0

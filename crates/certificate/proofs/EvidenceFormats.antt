@@ -26,8 +26,8 @@ use Rattle.certificate.specs.Certs.{CertParts, IsCert}
 use Rattle.certificate.specs.Texts.{entry_numbers, entries_of, IsNarrow}
 use Rattle.certificate.specs.Faults.{section_of, is_section_allowed, with_entry, entry_format, move_format, no_entries}
 use Rattle.certificate.proofs.Growth.{cert_grown, test_allowed, test_below, same_test_equal, test_same_itself, same_term_equal, term_same_itself}
-use Rattle.certificate.proofs.Spellings.{entry_back, entry_told, entry_lacks, entry_not_end}
-use Rattle.certificate.proofs.StringSpellings.{move_back, move_told, move_lacks, move_not_end}
+use Rattle.certificate.proofs.Spellings.{entry_back, entry_given, entry_lacks, entry_not_end}
+use Rattle.certificate.proofs.StringSpellings.{move_back, move_given, move_lacks, move_not_end}
 
 -- ---- entries
 
@@ -51,7 +51,7 @@ entries_grown c (PairLine p) allowed =
     ap (λ l. tests ++ (terms ++ l)) (map-append PairLine c.pairs (p ∷ [])) ∙ ap (λ l. tests ++ l) (sym (append_assoc terms pairs (PairLine p ∷ []))) ∙ sym (append_assoc tests (terms ++ pairs) (PairLine p ∷ []))
 
 pub entry_laws : IsLineFormat entry_format
-entry_laws = record { read_back = entry_back; read_told = entry_told; lacks_feed = entry_lacks; not_end = entry_not_end; lines_grown = entries_grown }
+entry_laws = record { read_back = entry_back; read_given = entry_given; lacks_feed = entry_lacks; not_end = entry_not_end; lines_grown = entries_grown }
 
 -- the entries of a certificate pass
 module _ (c : CertParts) (cert : IsCert c) (narrow : (e : Entry) → Has (entries_of c) e → IsNarrow e) where
@@ -145,7 +145,7 @@ pub move_laws : IsLineFormat move_format
 move_laws =
     record {
       read_back = λ m narrow. move_back m (narrow m.act (inl refl));
-      read_told = λ line m narrow. move_told line m (narrow m.act (inl refl));
+      read_given = λ line m narrow. move_given line m (narrow m.act (inl refl));
       lacks_feed = λ m narrow. move_lacks m (narrow m.act (inl refl));
       not_end = move_not_end;
       lines_grown = λ x m allowed. refl;

@@ -11,7 +11,7 @@ use Rattle.line_format.proofs.Splits.{LacksByte}
 use Rattle.line_format.proofs.TextParts.{LackFeeds, with_last}
 use Rattle.line_format.proofs.LineSteps.{named, complete}
 use Rattle.line_format.proofs.LinesScanned.{lines_scanned, lines_lack}
-use Rattle.line_format.proofs.LinesTold.{body_told}
+use Rattle.line_format.proofs.LinesGiven.{body_given}
 use Rattle.line_format.proofs.WholeTexts.{IsTextFormat}
 use Rattle.certificate.specs.declared.nodes.Style.{Style}
 use Rattle.certificate.specs.declared.nodes.Style.TheVariants.{Plain, UpTo, Under}
@@ -21,7 +21,7 @@ use Rattle.certificate.specs.declared.evidence.EvidenceFault.TheVariants.{Header
 use Rattle.certificate.specs.Texts.{atom_words, heading, string_heading, entries_of, lines_before_end, lines_of, IsEvidence}
 use Rattle.certificate.specs.Forms.{first_of}
 use Rattle.certificate.specs.Faults.{Answer, fault_names, entry_format, move_format, cert_from, moves_from, after_atom, string_from, no_entries, all_from}
-use Rattle.certificate.proofs.StringSpellings.{first_back, first_told, first_lacks}
+use Rattle.certificate.proofs.StringSpellings.{first_back, first_given, first_lacks}
 use Rattle.certificate.proofs.EvidenceFormats.{entry_laws, IsCertIn, certs_grow, move_laws, moves_narrow, narrow_moves, strings_grow}
 
 -- the answer for the parts from line n on, after the lines of evidence before the last one
@@ -56,40 +56,40 @@ before_scanned (Different x) i part parts is place =
 
 -- ---- what is read is spelled
 
-pub record Told (parts : List (List ℕ)) (e : Evidence) : Type 0 where
+pub record Reported (parts : List (List ℕ)) (e : Evidence) : Type 0 where
   pub evidence : IsEvidence e
   pub lines : parts ≡ with_last (lines_of e)
 
-headed_told : (style : Style) (line : List ℕ) (rest : List (List ℕ)) (e : Evidence) → line ≡ heading style → cert_from (no_entries style) 2 rest ≡ Ok e → Told (line ∷ rest) e
-headed_told style line rest e is h =
-    let told = body_told entry_format entry_laws (no_entries style) (IsCertIn style) (certs_grow style) rest 2 e h in
-    let first : line ≡ heading told.whole.style = is ∙ ap heading (sym told.keeps.1) in
-    subst (Told (line ∷ rest)) told.is (record { evidence = (told.keeps.0, told.narrow); lines = ap₂ (λ l ls. l ∷ ls) first told.lines })
+headed_given : (style : Style) (line : List ℕ) (rest : List (List ℕ)) (e : Evidence) → line ≡ heading style → cert_from (no_entries style) 2 rest ≡ Ok e → Reported (line ∷ rest) e
+headed_given style line rest e is h =
+    let given = body_given entry_format entry_laws (no_entries style) (IsCertIn style) (certs_grow style) rest 2 e h in
+    let first : line ≡ heading given.whole.style = is ∙ ap heading (sym given.keeps.1) in
+    subst (Reported (line ∷ rest)) given.is (record { evidence = (given.keeps.0, given.narrow); lines = ap₂ (λ l ls. l ∷ ls) first given.lines })
 
-string_told : (line : List ℕ) (rest : List (List ℕ)) (e : Evidence) → line ≡ string_heading → string_from rest ≡ Ok e → Told (line ∷ rest) e
-string_told line [] e is h = cc
-string_told line (second ∷ []) e is h = cc
-string_told line (second ∷ part ∷ parts) e is h = by_first (first_of second) refl h
+string_given : (line : List ℕ) (rest : List (List ℕ)) (e : Evidence) → line ≡ string_heading → string_from rest ≡ Ok e → Reported (line ∷ rest) e
+string_given line [] e is h = cc
+string_given line (second ∷ []) e is h = cc
+string_given line (second ∷ part ∷ parts) e is h = by_first (first_of second) refl h
   where
-    by_first : (o : Option Atom) → first_of second ≡ o → after_atom o (part ∷ parts) ≡ Ok e → Told (line ∷ second ∷ part ∷ parts) e
+    by_first : (o : Option Atom) → first_of second ≡ o → after_atom o (part ∷ parts) ≡ Ok e → Reported (line ∷ second ∷ part ∷ parts) e
     by_first None read k = cc
     by_first (Some atom) read k =
-        let told = body_told move_format move_laws (record { first = atom; rest = [] }) (λ x. x.first ≡ atom) (strings_grow atom) (part ∷ parts) 3 e k in
-        let x : GuardedString = told.whole in
-        let spelled_first : second ≡ line_of (atom_words x.first) = first_told second atom read ∙ ap (λ a. line_of (atom_words a)) (sym told.keeps) in
-        subst (Told (line ∷ second ∷ part ∷ parts)) told.is (record { evidence = narrow_moves x told.narrow; lines = ap₂ (λ l ls. l ∷ ls) is (ap₂ (λ l ls. l ∷ ls) spelled_first told.lines) })
+        let given = body_given move_format move_laws (record { first = atom; rest = [] }) (λ x. x.first ≡ atom) (strings_grow atom) (part ∷ parts) 3 e k in
+        let x : GuardedString = given.whole in
+        let spelled_first : second ≡ line_of (atom_words x.first) = first_given second atom read ∙ ap (λ a. line_of (atom_words a)) (sym given.keeps) in
+        subst (Reported (line ∷ second ∷ part ∷ parts)) given.is (record { evidence = narrow_moves x given.narrow; lines = ap₂ (λ l ls. l ∷ ls) is (ap₂ (λ l ls. l ∷ ls) spelled_first given.lines) })
 
-all_told : (parts : List (List ℕ)) (e : Evidence) → all_from parts ≡ Ok e → Told parts e
-all_told [] e h = cc
-all_told (line ∷ []) e h = cc
-all_told (line ∷ part ∷ parts) e h = by_heading (bytes_eq line (heading Plain)) (bytes_eq line (heading UpTo)) (bytes_eq line (heading Under)) (bytes_eq line string_heading) refl refl refl refl h
+all_given : (parts : List (List ℕ)) (e : Evidence) → all_from parts ≡ Ok e → Reported parts e
+all_given [] e h = cc
+all_given (line ∷ []) e h = cc
+all_given (line ∷ part ∷ parts) e h = by_heading (bytes_eq line (heading Plain)) (bytes_eq line (heading UpTo)) (bytes_eq line (heading Under)) (bytes_eq line string_heading) refl refl refl refl h
   where
     by_heading : (a b c d : Bool) → bytes_eq line (heading Plain) ≡ a → bytes_eq line (heading UpTo) ≡ b → bytes_eq line (heading Under) ≡ c → bytes_eq line string_heading ≡ d
-        → cond a (cert_from (no_entries Plain) 2 (part ∷ parts)) (cond b (cert_from (no_entries UpTo) 2 (part ∷ parts)) (cond c (cert_from (no_entries Under) 2 (part ∷ parts)) (cond d (string_from (part ∷ parts)) (Err Header)))) ≡ Ok e → Told (line ∷ part ∷ parts) e
-    by_heading true b c d is f g i k = headed_told Plain line (part ∷ parts) e (named line (heading Plain) is) k
-    by_heading false true c d f is g i k = headed_told UpTo line (part ∷ parts) e (named line (heading UpTo) is) k
-    by_heading false false true d f g is i k = headed_told Under line (part ∷ parts) e (named line (heading Under) is) k
-    by_heading false false false true f g i is k = string_told line (part ∷ parts) e (named line string_heading is) k
+        → cond a (cert_from (no_entries Plain) 2 (part ∷ parts)) (cond b (cert_from (no_entries UpTo) 2 (part ∷ parts)) (cond c (cert_from (no_entries Under) 2 (part ∷ parts)) (cond d (string_from (part ∷ parts)) (Err Header)))) ≡ Ok e → Reported (line ∷ part ∷ parts) e
+    by_heading true b c d is f g i k = headed_given Plain line (part ∷ parts) e (named line (heading Plain) is) k
+    by_heading false true c d f is g i k = headed_given UpTo line (part ∷ parts) e (named line (heading UpTo) is) k
+    by_heading false false true d f g is i k = headed_given Under line (part ∷ parts) e (named line (heading Under) is) k
+    by_heading false false false true f g i is k = string_given line (part ∷ parts) e (named line string_heading is) k
     by_heading false false false false f g i j k = cc
 
 -- ---- the laws
@@ -103,4 +103,4 @@ ended_from (Equal c) i part parts = refl
 ended_from (Different x) i part parts = refl
 
 pub text_laws : IsTextFormat fault_names all_from lines_before_end IsEvidence next_from
-text_laws = record { lack = before_lack; scanned = before_scanned; short = short; ends = ended_from; told = λ parts e h. let told = all_told parts e h in (told.evidence, told.lines) }
+text_laws = record { lack = before_lack; scanned = before_scanned; short = short; ends = ended_from; given = λ parts e h. let given = all_given parts e h in (given.evidence, given.lines) }

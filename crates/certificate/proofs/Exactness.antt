@@ -19,8 +19,8 @@ use Rattle.certificate.specs.Faults.{Answer, answer_of, all_from, fault_names, e
 use Rattle.certificate.specs.Readings.{Gives}
 use Rattle.certificate.specs.Working.Readings.{Reads}
 use Rattle.certificate.specs.Laws.{IsLine, text_with, TextsDiffer, IsTextOrFaulty, EachHasOneSpelling, FaultsAreFirst, next_line}
-use Rattle.certificate.proofs.Spellings.{entry_back, entry_told}
-use Rattle.certificate.proofs.StringSpellings.{first_back, first_told, move_back, move_told}
+use Rattle.certificate.proofs.Spellings.{entry_back, entry_given}
+use Rattle.certificate.proofs.StringSpellings.{first_back, first_given, move_back, move_given}
 use Rattle.certificate.proofs.MoveForms.{formless, wide_move_fault}
 use Rattle.certificate.proofs.EvidenceTexts.{text_laws}
 
@@ -33,9 +33,9 @@ is_text_or_faulty_lem = text_or_fault text_laws
 pub lines_have_one_spelling_lem : EachHasOneSpelling
 lines_have_one_spelling_lem line =
     record {
-      entry = λ e narrow. (entry_told line e narrow, (λ is. ap entry_of is ∙ entry_back e narrow));
-      first = λ atom. (first_told line atom, (λ is. ap first_of is ∙ first_back atom));
-      move = λ m small. (move_told line m small, (λ is. ap move_of is ∙ move_back m small));
+      entry = λ e narrow. (entry_given line e narrow, (λ is. ap entry_of is ∙ entry_back e narrow));
+      first = λ atom. (first_given line atom, (λ is. ap first_of is ∙ first_back atom));
+      move = λ m small. (move_given line m small, (λ is. ap move_of is ∙ move_back m small));
     }
 
 pub only_from : (bytes : List ℕ) (r : Answer) → Reads (answer_of bytes) r → (e : Evidence) → IsEvidence e → bytes ≡ text_of e → Gives e r

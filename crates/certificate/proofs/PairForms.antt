@@ -95,19 +95,19 @@ pub pair_made : (ks ls : List ℕ) (t : Option ℕ) → pair_with (part_numbers 
 pair_made ks ls None = refl
 pair_made ks ls (Some t) = refl
 
-pub pair_with_told : (parts : List (Option (List ℕ))) (p : PairParts) → pair_with parts ≡ Some p → parts ≡ part_numbers p.left p.right p.test
-pair_with_told [] p e = cc
-pair_with_told (None ∷ parts) p e = cc
-pair_with_told (Some ks ∷ []) p e = cc
-pair_with_told (Some ks ∷ None ∷ parts) p e = cc
-pair_with_told (Some ks ∷ Some ls ∷ []) p e =
+pub pair_with_given : (parts : List (Option (List ℕ))) (p : PairParts) → pair_with parts ≡ Some p → parts ≡ part_numbers p.left p.right p.test
+pair_with_given [] p e = cc
+pair_with_given (None ∷ parts) p e = cc
+pair_with_given (Some ks ∷ []) p e = cc
+pair_with_given (Some ks ∷ None ∷ parts) p e = cc
+pair_with_given (Some ks ∷ Some ls ∷ []) p e =
     let same : record { left = ks; right = ls; test = None } ≡ p = cc in ap (λ (q : PairParts). part_numbers q.left q.right q.test) same
-pair_with_told (Some ks ∷ Some ls ∷ None ∷ parts) p e = cc
-pair_with_told (Some ks ∷ Some ls ∷ Some [] ∷ parts) p e = cc
-pair_with_told (Some ks ∷ Some ls ∷ Some (t ∷ []) ∷ []) p e =
+pair_with_given (Some ks ∷ Some ls ∷ None ∷ parts) p e = cc
+pair_with_given (Some ks ∷ Some ls ∷ Some [] ∷ parts) p e = cc
+pair_with_given (Some ks ∷ Some ls ∷ Some (t ∷ []) ∷ []) p e =
     let same : record { left = ks; right = ls; test = Some t } ≡ p = cc in ap (λ (q : PairParts). part_numbers q.left q.right q.test) same
-pair_with_told (Some ks ∷ Some ls ∷ Some (t ∷ []) ∷ part ∷ parts) p e = cc
-pair_with_told (Some ks ∷ Some ls ∷ Some (t ∷ u ∷ ts) ∷ parts) p e = cc
+pair_with_given (Some ks ∷ Some ls ∷ Some (t ∷ []) ∷ part ∷ parts) p e = cc
+pair_with_given (Some ks ∷ Some ls ∷ Some (t ∷ u ∷ ts) ∷ parts) p e = cc
 
 -- a pair has two parts or three
 pub pair_count : (parts : List (Option (List ℕ))) → (length parts ≡ 2 → ⊥) → (length parts ≡ 3 → ⊥) → pair_with parts ≡ None

@@ -13,7 +13,7 @@ use Rattle.term_nodes.specs.declared.TermNode.TheVariants.{Zero, One, Test, Act,
 use Rattle.line_format.proofs.LineForms.{line_of-cons}
 use Rattle.line_format.specs.Lines.{line_of, words_of}
 use Rattle.line_format.specs.Numerals.{is_numeral, numbers_of}
-use Rattle.line_format.proofs.Words.{AreNarrow, numbers_back, IsWord, AreWords, AreLineWords, decimals_words, words_append, words_back, line_back, line_lacks, numbers_told}
+use Rattle.line_format.proofs.Words.{AreNarrow, numbers_back, IsWord, AreWords, AreLineWords, decimals_words, words_append, words_back, line_back, line_lacks, numbers_given}
 use Rattle.certificate.specs.declared.entry.Entry.{Entry}
 use Rattle.certificate.specs.declared.entry.Entry.TheVariants.{TestLine, TermLine, PairLine}
 use Rattle.certificate.specs.PairParts.{PairParts}
@@ -21,13 +21,13 @@ use Rattle.certificate.specs.Texts.{test_name, test_numbers, term_name, term_num
 use Rattle.certificate.specs.Forms.{test_node_of, term_node_of, is_bar, pair_with, pair_of, entry_of_words, entry_of}
 use Rattle.line_format.proofs.Splits.{LacksByte, split_none, split_first}
 use Rattle.line_format.proofs.NumeralValues.{decimal_numeral}
-use Rattle.certificate.proofs.EntryForms.{test_node_told, test_node_made, test_node_same, test_line_told, term_node_told, term_node_made, term_node_same, term_line_told}
+use Rattle.certificate.proofs.EntryForms.{test_node_given, test_node_made, test_node_same, test_line_given, term_node_given, term_node_made, term_node_same, term_line_given}
 use Rattle.line_format.proofs.LineSteps.{named}
-use Rattle.line_format.proofs.NumberForms.{form_told}
+use Rattle.line_format.proofs.NumberForms.{form_given}
 use Rattle.kat_model.proofs.Options.{some_of_map}
 use Rattle.certificate.specs.declared.entry.Section.TheVariants.{Tests, Terms}
 use Rattle.certificate.specs.Faults.{section_of}
-use Rattle.certificate.proofs.PairForms.{with_bars, bars_back, part_numbers, pair_made, pair_with_told}
+use Rattle.certificate.proofs.PairForms.{with_bars, bars_back, part_numbers, pair_made, pair_with_given}
 
 -- ---- the words of an entry
 
@@ -137,29 +137,29 @@ cons_parts : {X : Type 0} (x y : X) (xs ys : List X) → x ∷ xs ≡ y ∷ ys �
 cons_parts x y xs ys e = (cc, cc)
 
 -- the words of parts that have these numbers
-parts_told : (parts : List (List (List ℕ))) (ks ls : List ℕ) (t : Option ℕ) → map numbers_of parts ≡ part_numbers ks ls t → AreNarrow ks → AreNarrow ls → AreNarrow (maybe_one t) → with_bars parts ≡ map decimal ks ++ codes "|" ∷ (map decimal ls ++ last_words t)
-parts_told [] ks ls None e nk nl nt = cc
-parts_told [] ks ls (Some t) e nk nl nt = cc
-parts_told (a ∷ []) ks ls None e nk nl nt = cc
-parts_told (a ∷ []) ks ls (Some t) e nk nl nt = cc
-parts_told (a ∷ b ∷ []) ks ls None e nk nl nt =
+parts_given : (parts : List (List (List ℕ))) (ks ls : List ℕ) (t : Option ℕ) → map numbers_of parts ≡ part_numbers ks ls t → AreNarrow ks → AreNarrow ls → AreNarrow (maybe_one t) → with_bars parts ≡ map decimal ks ++ codes "|" ∷ (map decimal ls ++ last_words t)
+parts_given [] ks ls None e nk nl nt = cc
+parts_given [] ks ls (Some t) e nk nl nt = cc
+parts_given (a ∷ []) ks ls None e nk nl nt = cc
+parts_given (a ∷ []) ks ls (Some t) e nk nl nt = cc
+parts_given (a ∷ b ∷ []) ks ls None e nk nl nt =
     let one = cons_parts (numbers_of a) (Some ks) (numbers_of b ∷ []) (Some ls ∷ []) e in
     let two = cons_parts (numbers_of b) (Some ls) [] [] one.1 in
-    ap₂ (λ v w. v ++ codes "|" ∷ w) (numbers_told a ks one.0 nk) (numbers_told b ls two.0 nl ∙ sym (append-nil (map decimal ls)))
-parts_told (a ∷ b ∷ []) ks ls (Some t) e nk nl nt = cc
-parts_told (a ∷ b ∷ c ∷ parts) ks ls None e nk nl nt = cc
-parts_told (a ∷ b ∷ c ∷ []) ks ls (Some t) e nk nl nt =
+    ap₂ (λ v w. v ++ codes "|" ∷ w) (numbers_given a ks one.0 nk) (numbers_given b ls two.0 nl ∙ sym (append-nil (map decimal ls)))
+parts_given (a ∷ b ∷ []) ks ls (Some t) e nk nl nt = cc
+parts_given (a ∷ b ∷ c ∷ parts) ks ls None e nk nl nt = cc
+parts_given (a ∷ b ∷ c ∷ []) ks ls (Some t) e nk nl nt =
     let one = cons_parts (numbers_of a) (Some ks) (numbers_of b ∷ numbers_of c ∷ []) (Some ls ∷ Some (t ∷ []) ∷ []) e in
     let two = cons_parts (numbers_of b) (Some ls) (numbers_of c ∷ []) (Some (t ∷ []) ∷ []) one.1 in
     let three = cons_parts (numbers_of c) (Some (t ∷ [])) [] [] two.1 in
-    ap₂ (λ v w. v ++ codes "|" ∷ w) (numbers_told a ks one.0 nk) (ap₂ (λ v w. v ++ codes "|" ∷ w) (numbers_told b ls two.0 nl) (numbers_told c (t ∷ []) three.0 nt))
-parts_told (a ∷ b ∷ c ∷ d ∷ parts) ks ls (Some t) e nk nl nt = cc
+    ap₂ (λ v w. v ++ codes "|" ∷ w) (numbers_given a ks one.0 nk) (ap₂ (λ v w. v ++ codes "|" ∷ w) (numbers_given b ls two.0 nl) (numbers_given c (t ∷ []) three.0 nt))
+parts_given (a ∷ b ∷ c ∷ d ∷ parts) ks ls (Some t) e nk nl nt = cc
 
-pair_told : (ws : List (List ℕ)) (p : PairParts) → IsNarrow (PairLine p) → pair_of ws ≡ Some p → ws ≡ map decimal p.left ++ codes "|" ∷ (map decimal p.right ++ last_words p.test)
-pair_told ws p narrow e =
+pair_given : (ws : List (List ℕ)) (p : PairParts) → IsNarrow (PairLine p) → pair_of ws ≡ Some p → ws ≡ map decimal p.left ++ codes "|" ∷ (map decimal p.right ++ last_words p.test)
+pair_given ws p narrow e =
     let parts : List (List (List ℕ)) = slice_split is_bar ws in
     sym (bars_back ws)
-    ∙ parts_told parts p.left p.right p.test (pair_with_told (map numbers_of parts) p e) (narrow_left p narrow) (narrow_right p narrow) (narrow_last p narrow)
+    ∙ parts_given parts p.left p.right p.test (pair_with_given (map numbers_of parts) p e) (narrow_left p narrow) (narrow_right p narrow) (narrow_last p narrow)
 
 -- the cases of an entry by its first word
 three_kinds : (a b c : Bool) (x y z : Option Entry) (e : Entry) → cond a x (cond b y (cond c z None)) ≡ Some e → ((a ≡ true) × (x ≡ Some e)) ⊎ (((b ≡ true) × (y ≡ Some e)) ⊎ ((c ≡ true) × (z ≡ Some e)))
@@ -168,33 +168,33 @@ three_kinds false true c x y z e h = inr (inl (refl, h))
 three_kinds false false true x y z e h = inr (inr (refl, h))
 three_kinds false false false x y z e h = cc
 
-test_told : (kind name : List ℕ) (ws : List (List ℕ)) (e : Entry) → IsNarrow e → kind ≡ codes "T" → option_map TestLine (option_and_then (test_node_of name) (numbers_of ws)) ≡ Some e → kind ∷ name ∷ ws ≡ entry_words e
-test_told kind name ws e narrow is h =
-    let told = form_told entry_numbers section_of (test_node_of name) TestLine Tests (test_node_same name) (test_line_told name) ws e narrow h in
-    ap₂ (λ k l. k ∷ l) is (ap₂ (λ n l. n ∷ l) (test_node_told name told.1 told.0 told.2).0 told.3) ∙ ap entry_words told.4
+test_given : (kind name : List ℕ) (ws : List (List ℕ)) (e : Entry) → IsNarrow e → kind ≡ codes "T" → option_map TestLine (option_and_then (test_node_of name) (numbers_of ws)) ≡ Some e → kind ∷ name ∷ ws ≡ entry_words e
+test_given kind name ws e narrow is h =
+    let given = form_given entry_numbers section_of (test_node_of name) TestLine Tests (test_node_same name) (test_line_given name) ws e narrow h in
+    ap₂ (λ k l. k ∷ l) is (ap₂ (λ n l. n ∷ l) (test_node_given name given.1 given.0 given.2).0 given.3) ∙ ap entry_words given.4
 
-term_told : (kind name : List ℕ) (ws : List (List ℕ)) (e : Entry) → IsNarrow e → kind ≡ codes "E" → option_map TermLine (option_and_then (term_node_of name) (numbers_of ws)) ≡ Some e → kind ∷ name ∷ ws ≡ entry_words e
-term_told kind name ws e narrow is h =
-    let told = form_told entry_numbers section_of (term_node_of name) TermLine Terms (term_node_same name) (term_line_told name) ws e narrow h in
-    ap₂ (λ k l. k ∷ l) is (ap₂ (λ n l. n ∷ l) (term_node_told name told.1 told.0 told.2).0 told.3) ∙ ap entry_words told.4
+term_given : (kind name : List ℕ) (ws : List (List ℕ)) (e : Entry) → IsNarrow e → kind ≡ codes "E" → option_map TermLine (option_and_then (term_node_of name) (numbers_of ws)) ≡ Some e → kind ∷ name ∷ ws ≡ entry_words e
+term_given kind name ws e narrow is h =
+    let given = form_given entry_numbers section_of (term_node_of name) TermLine Terms (term_node_same name) (term_line_given name) ws e narrow h in
+    ap₂ (λ k l. k ∷ l) is (ap₂ (λ n l. n ∷ l) (term_node_given name given.1 given.0 given.2).0 given.3) ∙ ap entry_words given.4
 
-set_told : (kind : List ℕ) (ws : List (List ℕ)) (e : Entry) → IsNarrow e → kind ≡ codes "P" → option_map PairLine (pair_of ws) ≡ Some e → kind ∷ ws ≡ entry_words e
-set_told kind ws e narrow is h =
+set_given : (kind : List ℕ) (ws : List (List ℕ)) (e : Entry) → IsNarrow e → kind ≡ codes "P" → option_map PairLine (pair_of ws) ≡ Some e → kind ∷ ws ≡ entry_words e
+set_given kind ws e narrow is h =
     let made = some_of_map PairLine (pair_of ws) e h in
-    ap₂ (λ k l. k ∷ l) is (pair_told ws made.0 (subst IsNarrow (sym made.2) narrow) made.1) ∙ ap entry_words made.2
+    ap₂ (λ k l. k ∷ l) is (pair_given ws made.0 (subst IsNarrow (sym made.2) narrow) made.1) ∙ ap entry_words made.2
 
-words_told : (ws : List (List ℕ)) (e : Entry) → IsNarrow e → entry_of_words ws ≡ Some e → ws ≡ entry_words e
-words_told [] e narrow h = cc
-words_told (kind ∷ []) e narrow h = cc
-words_told (kind ∷ name ∷ ws) e narrow h =
+words_given : (ws : List (List ℕ)) (e : Entry) → IsNarrow e → entry_of_words ws ≡ Some e → ws ≡ entry_words e
+words_given [] e narrow h = cc
+words_given (kind ∷ []) e narrow h = cc
+words_given (kind ∷ name ∷ ws) e narrow h =
     ⊎_elim
-    (λ p. test_told kind name ws e narrow (named kind (codes "T") p.0) p.1)
+    (λ p. test_given kind name ws e narrow (named kind (codes "T") p.0) p.1)
     (λ q. ⊎_elim
-    (λ p. term_told kind name ws e narrow (named kind (codes "E") p.0) p.1)
-    (λ p. set_told kind (name ∷ ws) e narrow (named kind (codes "P") p.0) p.1)
+    (λ p. term_given kind name ws e narrow (named kind (codes "E") p.0) p.1)
+    (λ p. set_given kind (name ∷ ws) e narrow (named kind (codes "P") p.0) p.1)
     q)
     (three_kinds (bytes_eq kind (codes "T")) (bytes_eq kind (codes "E")) (bytes_eq kind (codes "P")) _ _ _ e h)
 
 -- a line that is read as an entry is the line of this entry
-pub entry_told : (line : List ℕ) (e : Entry) → IsNarrow e → entry_of line ≡ Some e → line ≡ line_of (entry_words e)
-entry_told line e narrow h = sym (line_back line) ∙ ap line_of (words_told (words_of line) e narrow h)
+pub entry_given : (line : List ℕ) (e : Entry) → IsNarrow e → entry_of line ≡ Some e → line ≡ line_of (entry_words e)
+entry_given line e narrow h = sym (line_back line) ∙ ap line_of (words_given (words_of line) e narrow h)

@@ -56,8 +56,8 @@ word_back (c ∷ w) all =
     let parts = and_parts (is_bit c) (list_all is_bit w) all in
     ap₂ (λ x l. x ∷ l) (bit_back c parts.0) (word_back w parts.1)
 
-bits_told : (w : List ℕ) (atom : Atom) → bits_of w ≡ Some atom → w ∷ [] ≡ bit_words atom
-bits_told w atom e = by_test (nat_lt 0 (length w) && list_all is_bit w) refl e
+bits_given : (w : List ℕ) (atom : Atom) → bits_of w ≡ Some atom → w ∷ [] ≡ bit_words atom
+bits_given w atom e = by_test (nat_lt 0 (length w) && list_all is_bit w) refl e
   where
     words_at : (v : List ℕ) → nat_lt 0 (length v) ≡ true → list_all is_bit v ≡ true → v ∷ [] ≡ bit_words (map (λ c. c == 49) v)
     words_at [] some all = cc
@@ -70,10 +70,10 @@ bits_told w atom e = by_test (nat_lt 0 (length w) && list_all is_bit w) refl e
         words_at w parts.0 parts.1 ∙ ap bit_words same
     by_test false is f = cc
 
-atom_told : (ws : List (List ℕ)) (atom : Atom) → atom_of_words ws ≡ Some atom → ws ≡ bit_words atom
-atom_told [] atom e = let same : [] ≡ atom = cc in ap bit_words same
-atom_told (w ∷ []) atom e = bits_told w atom e
-atom_told (w ∷ v ∷ ws) atom e = cc
+atom_given : (ws : List (List ℕ)) (atom : Atom) → atom_of_words ws ≡ Some atom → ws ≡ bit_words atom
+atom_given [] atom e = let same : [] ≡ atom = cc in ap bit_words same
+atom_given (w ∷ []) atom e = bits_given w atom e
+atom_given (w ∷ v ∷ ws) atom e = cc
 
 -- ---- the first atom
 
@@ -86,16 +86,16 @@ first_back atom = ap first_of_words (words_back (atom_words atom) (first_are_wor
 pub first_lacks : (atom : Atom) → LacksByte 10 (line_of (atom_words atom))
 first_lacks atom = line_lacks (atom_words atom) (first_are_words atom)
 
-first_words_told : (ws : List (List ℕ)) (atom : Atom) → first_of_words ws ≡ Some atom → ws ≡ atom_words atom
-first_words_told [] atom e = cc
-first_words_told (kind ∷ ws) atom e = by_kind (bytes_eq kind (codes "A")) refl e
+first_words_given : (ws : List (List ℕ)) (atom : Atom) → first_of_words ws ≡ Some atom → ws ≡ atom_words atom
+first_words_given [] atom e = cc
+first_words_given (kind ∷ ws) atom e = by_kind (bytes_eq kind (codes "A")) refl e
   where
     by_kind : (b : Bool) → bytes_eq kind (codes "A") ≡ b → cond b (atom_of_words ws) None ≡ Some atom → kind ∷ ws ≡ atom_words atom
-    by_kind true is f = ap₂ (λ k l. k ∷ l) (named kind (codes "A") is) (atom_told ws atom f)
+    by_kind true is f = ap₂ (λ k l. k ∷ l) (named kind (codes "A") is) (atom_given ws atom f)
     by_kind false is f = cc
 
-pub first_told : (line : List ℕ) (atom : Atom) → first_of line ≡ Some atom → line ≡ line_of (atom_words atom)
-first_told line atom e = sym (line_back line) ∙ ap line_of (first_words_told (words_of line) atom e)
+pub first_given : (line : List ℕ) (atom : Atom) → first_of line ≡ Some atom → line ≡ line_of (atom_words atom)
+first_given line atom e = sym (line_back line) ∙ ap line_of (first_words_given (words_of line) atom e)
 
 -- ---- moves
 
@@ -117,8 +117,8 @@ move_lacks m small = line_lacks (move_words m) (move_are_words m small)
 pub move_not_end : (m : Move) → bytes_eq (line_of (move_words m)) (codes "end") ≡ false
 move_not_end m = refl
 
-move_after_told : (act : List ℕ) (ws : List (List ℕ)) (m : Move) → m.act < 2 ^ 64 → move_after act ws ≡ Some m → act ∷ ws ≡ decimal m.act ∷ bit_words m.atom
-move_after_told act ws m small e = by_test (is_numeral act) refl e
+move_after_given : (act : List ℕ) (ws : List (List ℕ)) (m : Move) → m.act < 2 ^ 64 → move_after act ws ≡ Some m → act ∷ ws ≡ decimal m.act ∷ bit_words m.atom
+move_after_given act ws m small e = by_test (is_numeral act) refl e
   where
     made : (o : Option Atom) → option_map (λ (atom : Atom). record { act = value_of act; atom = atom }) o ≡ Some m → (o ≡ Some m.atom) × (value_of act ≡ m.act)
     made None f = cc
@@ -130,17 +130,17 @@ move_after_told act ws m small e = by_test (is_numeral act) refl e
     by_test true is f =
         let parts = made (atom_of_words ws) f in
         let spelled : act ≡ decimal m.act = sym (numeral_decimal act is (subst (λ k. k < 2 ^ 64) (sym parts.1) small)) ∙ ap decimal parts.1 in
-        ap₂ (λ k l. k ∷ l) spelled (atom_told ws m.atom parts.0)
+        ap₂ (λ k l. k ∷ l) spelled (atom_given ws m.atom parts.0)
     by_test false is f = cc
 
-move_words_told : (ws : List (List ℕ)) (m : Move) → m.act < 2 ^ 64 → move_of_words ws ≡ Some m → ws ≡ move_words m
-move_words_told [] m small e = cc
-move_words_told (kind ∷ []) m small e = cc
-move_words_told (kind ∷ act ∷ ws) m small e = by_kind (bytes_eq kind (codes "M")) refl e
+move_words_given : (ws : List (List ℕ)) (m : Move) → m.act < 2 ^ 64 → move_of_words ws ≡ Some m → ws ≡ move_words m
+move_words_given [] m small e = cc
+move_words_given (kind ∷ []) m small e = cc
+move_words_given (kind ∷ act ∷ ws) m small e = by_kind (bytes_eq kind (codes "M")) refl e
   where
     by_kind : (b : Bool) → bytes_eq kind (codes "M") ≡ b → cond b (move_after act ws) None ≡ Some m → kind ∷ act ∷ ws ≡ move_words m
-    by_kind true is f = ap₂ (λ k l. k ∷ l) (named kind (codes "M") is) (move_after_told act ws m small f)
+    by_kind true is f = ap₂ (λ k l. k ∷ l) (named kind (codes "M") is) (move_after_given act ws m small f)
     by_kind false is f = cc
 
-pub move_told : (line : List ℕ) (m : Move) → m.act < 2 ^ 64 → move_of line ≡ Some m → line ≡ line_of (move_words m)
-move_told line m small e = sym (line_back line) ∙ ap line_of (move_words_told (words_of line) m small e)
+pub move_given : (line : List ℕ) (m : Move) → m.act < 2 ^ 64 → move_of line ≡ Some m → line ≡ line_of (move_words m)
+move_given line m small e = sym (line_back line) ∙ ap line_of (move_words_given (words_of line) m small e)

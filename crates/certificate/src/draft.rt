@@ -5,8 +5,8 @@ ghost use Rattle.term_nodes.specs.NumberSets.{are_below};
 ghost use Rattle.certificate.specs.Certs.{CertParts};
 ghost use Rattle.certificate.specs.Texts.{maybe_one};
 ghost use Rattle.certificate.specs.Faults.{no_entries, has_tests, is_section_allowed, is_wide, names_earlier, entry_format};
-ghost use Rattle.line_format.specs.KnownLines.{TellsApart, IsReflexive};
-ghost use Rattle.certificate.specs.Working.Readings.{draft_parts, IsDraft, MayBeAdded, AddsEntry, unless_memory, is_told, is_passed_on};
+ghost use Rattle.line_format.specs.KnownLines.{Distinguishes, IsReflexive};
+ghost use Rattle.certificate.specs.Working.Readings.{draft_parts, IsDraft, MayBeAdded, AddsEntry, unless_memory, is_given, is_passed_on};
 ghost use Rattle.certificate.specs.declared.entry.Entry.{Entry};
 ghost use Rattle.certificate.specs.declared.entry.Entry.TheVariants.{TestLine, TermLine, PairLine};
 
@@ -45,9 +45,9 @@ impl Drop for Draft {
 
 // Does nothing. Its contract states the properties of the orders in which the sets keep nodes.
 fn node_orders()
-    ensures tests { TellsApart ⟦<TestNode as Ord>⟧.cmp }
+    ensures tests { Distinguishes ⟦<TestNode as Ord>⟧.cmp }
     ensures tests_own { IsReflexive ⟦<TestNode as Ord>⟧.cmp }
-    ensures terms { TellsApart ⟦<TermNode as Ord>⟧.cmp }
+    ensures terms { Distinguishes ⟦<TermNode as Ord>⟧.cmp }
     ensures terms_own { IsReflexive ⟦<TermNode as Ord>⟧.cmp }
 {}
 
@@ -253,7 +253,7 @@ impl LineDraft for Draft {
         EvidenceFault::Trailing(number)
     }
 
-    ghost is_told = { is_told };
+    ghost is_given = { is_given };
 
     ghost is_passed_on = { is_passed_on };
 }

@@ -2,7 +2,7 @@
 ghost use Rattle.std.specs.Prelude.{◌≡◌, []};
 ghost use Rattle.kat_model.specs.Strings.{Move as Step, GuardedString};
 ghost use Rattle.certificate.specs.Faults.{move_format};
-ghost use Rattle.certificate.specs.Working.Readings.{string_parts, unless_memory, is_told, is_passed_on};
+ghost use Rattle.certificate.specs.Working.Readings.{string_parts, unless_memory, is_given, is_passed_on};
 
 use crate::evidence::{Evidence, EvidenceFault};
 use crate::moves::{MoveFault, read_move};
@@ -70,7 +70,7 @@ impl LineDraft for StringDraft {
         EvidenceFault::Trailing(number)
     }
 
-    ghost is_told = { is_told };
+    ghost is_given = { is_given };
 
     ghost is_passed_on = { is_passed_on };
 }

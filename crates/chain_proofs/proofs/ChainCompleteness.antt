@@ -7,7 +7,7 @@ use Rattle.text_parser.specs.declared.fault.TextFault.{TextFault}
 use Rattle.text_parser.specs.declared.terminal.Terminal.TheVariants.{Name, Separator, Dot}
 use Rattle.text_parser.specs.declared.terminal.Separator.TheVariants.{Semicolon, CurlyOpen, CurlyClose, Equals}
 use Rattle.text_parser.specs.Lexemes.{Lexeme, heads, is_terminal}
-use Rattle.text_parser.specs.Parsed.{Parsed, ◌>>=◌, before, change, then_wants}
+use Rattle.text_parser.specs.Parsed.{Parsed, ◌>>=◌, before, change, then_expects}
 use Rattle.text_parser.specs.Phrases.{term, Leaf, Phrase, cons_token, yield_before, MeetsLookahead}
 use Rattle.text_parser.specs.Ends.{Ends}
 use Rattle.text_parser.proofs.ParserCompleteness.{then_rest, checked, changed, closed}
@@ -16,7 +16,7 @@ use Rattle.problem_file.specs.Items.{number_at}
 use Rattle.problem_file.specs.Phrases.{Numeral, zero_number, one_number, other_number, wide_number, numeral_onto}
 use Rattle.problem_file.specs.Folds.{numeral_value}
 use Rattle.chain_proofs.specs.ChainActions.{ChainActions}
-use Rattle.chain_proofs.specs.ChainWalks.{is_word, wants_word, rule_name, has_number, has_inner, argument, parts_by, path_by, Reason, rule_by, whole_chain, lines_after, ChainParser, braces_by, inner_by, line_by, parse_chain}
+use Rattle.chain_proofs.specs.ChainWalks.{is_word, expects_word, rule_name, has_number, has_inner, argument, parts_by, path_by, Reason, rule_by, whole_chain, lines_after, ChainParser, braces_by, inner_by, line_by, parse_chain}
 use Rattle.chain_proofs.specs.ChainPhrases.{RuleWord, plain, keyword, rule_leaf, Parts, no_parts, more_parts, Place, no_place, at_place, RulePhrase, Lines, no_lines, plain_line, line_around, ChainPhrase}
 use Rattle.chain_proofs.specs.ChainPhrases.{word_onto, number_onto, parts_onto, place_onto, rule_onto, reason_onto, ended, lines_onto, chain_onto, PlaceObeys, RuleObeys, LinesObey}
 use Rattle.chain_proofs.specs.ChainFolds.{fold_number, fold_parts, fold_place, fold_rule, TermFold, fold_lines, fold_chain}
@@ -96,7 +96,7 @@ module _ {Z T R P V : Type 0} (g : ChainActions Z T R P V) where
       (λ n. checked ts (g.rule l.at l.text n) (λ x. change (reason r x) (path_by g us)) (λ x. fold_place g r.place >>= λ p. Ok (reason r x p))
       (λ x. ap (change (reason r x)) (place_read r.place ts place ends) ∙ changed ts (reason r x) (fold_place g r.place))))
 
-  word_read : (w : List ℕ) (l : Leaf) (ts : List Lexeme) → bytes_eq l.text w ≡ true → wants_word w (cons_token Name l ts) ≡ Ok ts
+  word_read : (w : List ℕ) (l : Leaf) (ts : List Lexeme) → bytes_eq l.text w ≡ true → expects_word w (cons_token Name l ts) ≡ Ok ts
   word_read w l ts h = rw h refl
 
 module _ {Z T R P V : Type 0} (g : ChainActions Z T R P V) (t : TermFold Z T) (reads : (d : ℕ) (z : Z) (p : Phrase term) (ts : List Lexeme) → MeetsLookahead p ts → Ends term ts → g.term d z (yield_before p ts) ≡ before ts (t d z p)) where
@@ -108,13 +108,13 @@ module _ {Z T R P V : Type 0} (g : ChainActions Z T R P V) (t : TermFold Z T) (r
   lined v x r i = (g.line v x r.rule r.path i.0, i.1)
 
   abbrev after_inner : V → T → Reason R P → (Option V × Z) × List Lexeme → Parsed (V × Z)
-  after_inner v x r i = then_wants (is_terminal (Separator Semicolon)) (Ok (lined v x r i.0, i.1))
+  after_inner v x r i = then_expects (is_terminal (Separator Semicolon)) (Ok (lined v x r i.0, i.1))
 
   abbrev after_rule : V → ℕ → T × Z → Reason R P × List Lexeme → Parsed (V × Z)
   after_rule v d x r = inner_by f (r.0).inner x.1 d r.1 >>= after_inner v x.0 r.0
 
   abbrev after_term : V → ℕ → (T × Z) × List Lexeme → Parsed (V × Z)
-  after_term v d x = wants_word (codes "by") x.1 >>= λ b. rule_by g b >>= after_rule v d x.0
+  after_term v d x = expects_word (codes "by") x.1 >>= λ b. rule_by g b >>= after_rule v d x.0
 
   -- reading a line is its fold if reading what follows its rule is
   line_read : (v : V) (z : Z) (d : ℕ) (p : Phrase term) (by : Leaf) (r : RulePhrase) (b : Bool) (us ts : List Lexeme) (l : T × Z → Reason R P → Result (V × Z) TextFault) →
@@ -145,8 +145,8 @@ module _ {Z T R P V : Type 0} (g : ChainActions Z T R P V) (t : TermFold Z T) (r
       braces_by f z d (cons_token (Separator CurlyOpen) opening (yield_before first (lines_onto inner (cons_token (Separator CurlyClose) closing us)))) ≡ before us (enter d opening.at >>= λ e. t e z first >>= λ a. fold_lines g t e (g.first a.0) a.1 inner)
   braces_read z d opening closing first inner us read o obey =
       let vs = cons_token (Separator CurlyClose) closing us in
-      checked us (enter d opening.at) (λ e. then_wants (is_terminal (Separator CurlyClose)) (f (whole_chain z) e (yield_before first (lines_onto inner vs)))) (λ e. t e z first >>= λ a. fold_lines g t e (g.first a.0) a.1 inner)
-      (λ e. ap (then_wants (is_terminal (Separator CurlyClose)))
+      checked us (enter d opening.at) (λ e. then_expects (is_terminal (Separator CurlyClose)) (f (whole_chain z) e (yield_before first (lines_onto inner vs)))) (λ e. t e z first >>= λ a. fold_lines g t e (g.first a.0) a.1 inner)
+      (λ e. ap (then_expects (is_terminal (Separator CurlyClose)))
       (chain_step g (whole_chain z) e (yield_before first (lines_onto inner vs))
       ∙ ap (λ (m : Parsed (T × Z)). m >>= λ a. f (lines_after (g.first (a.0).0) (a.0).1) e a.1) (reads e z first (lines_onto inner vs) o (lines_end inner vs refl))
       ∙ then_rest (lines_onto inner vs) vs (t e z first) (λ a. f (lines_after (g.first (a.0).0) (a.0).1) e a.1) (λ a. fold_lines g t e (g.first a.0) a.1 inner) (λ a. read e (g.first a.0) a.1 vs refl refl obey))

@@ -6,14 +6,14 @@ use Rattle.text_parser.specs.declared.fault.TextFault.TheVariants.{NoMemory, Syn
 use Rattle.text_parser.specs.declared.terminal.Terminal.TheVariants.{Dot, Separator}
 use Rattle.text_parser.specs.declared.terminal.Separator.TheVariants.{Semicolon, CurlyOpen, CurlyClose, Equals}
 use Rattle.text_parser.specs.Lexemes.{Lexeme, heads, is_terminal}
-use Rattle.text_parser.specs.Parsed.{Parsed, Makes, Reads, wants, place_of}
+use Rattle.text_parser.specs.Parsed.{Parsed, Makes, Reads, expects, place_of}
 use Rattle.text_parser.proofs.NamedFaults.{IsNamed, if_named}
 use Rattle.while_lang.specs.Blocks.{enter}
 use Rattle.while_lang.proofs.BlockFaults.{returned, check_fails}
 use Rattle.problem_file.specs.Items.{number_at}
 use Rattle.problem_file.proofs.NamedItems.{number_at_named}
 use Rattle.chain_proofs.specs.ChainActions.{ChainActions}
-use Rattle.chain_proofs.specs.ChainWalks.{Reason, is_word, wants_word, rule_name, has_number, has_inner, argument, parts_by, path_by, rule_by, ChainParser, whole_chain, lines_after, braces_by, inner_by, line_by, parse_chain}
+use Rattle.chain_proofs.specs.ChainWalks.{Reason, is_word, expects_word, rule_name, has_number, has_inner, argument, parts_by, path_by, rule_by, ChainParser, whole_chain, lines_after, braces_by, inner_by, line_by, parse_chain}
 use Rattle.chain_proofs.proofs.PathSteps.{parts_step}
 use Rattle.chain_proofs.proofs.ChainSteps.{whole_chain_step, lines_after_step}
 
@@ -24,7 +24,7 @@ ok_of x = Ok x
 abbrev pub both_of : {A B C D : Type 0} → (A → C) → (B → D) → A × B → C × D
 both_of first second x = (first x.0, second x.1)
 
-pub word_named : (w : List ℕ) (ts : List Lexeme) → IsNamed (wants_word w ts)
+pub word_named : (w : List ℕ) (ts : List Lexeme) → IsNamed (expects_word w ts)
 word_named w ts = if_named (is_word w ts) (Ok (drop 1 ts)) (Err (Syntax (place_of ts))) (λ e. tt) (λ e. tt)
 
 module _ {V W : Type 0} (memory : Type 0) (means : V → W) (ts : List Lexeme) (whole : Parsed W) (e : TextFault) (r : Result (V × ℕ) TextFault) (same : IsErrAnd r (λ y. y ≡ e)) where
@@ -140,10 +140,10 @@ module _ {Z T R P V : Type 0} (g : ChainActions Z T R P V) (d : ℕ) (ts : List 
     line_unread e h = rw (h) refl
 
     module _ (t : (T × Z) × List Lexeme) (read : g.term d z ts ≡ Ok t) where
-      pub line_stopped : (e : TextFault) → wants_word (codes "by") t.1 ≡ Err e → line_by g f v z d ts ≡ Err e
+      pub line_stopped : (e : TextFault) → expects_word (codes "by") t.1 ≡ Err e → line_by g f v z d ts ≡ Err e
       line_stopped e h = rw (read, h) refl
 
-      module _ (b : List Lexeme) (goes : wants_word (codes "by") t.1 ≡ Ok b) where
+      module _ (b : List Lexeme) (goes : expects_word (codes "by") t.1 ≡ Ok b) where
         pub line_unruled : (e : TextFault) → rule_by g b ≡ Err e → line_by g f v z d ts ≡ Err e
         line_unruled e h = rw (read, goes, h) refl
 
@@ -152,10 +152,10 @@ module _ {Z T R P V : Type 0} (g : ChainActions Z T R P V) (d : ℕ) (ts : List 
           line_unfilled e h = rw (read, goes, ruled, h) refl
 
           module _ (i : (Option V × Z) × List Lexeme) (filled : inner_by f (r.0).inner (t.0).1 d r.1 ≡ Ok i) where
-            pub line_unended : (e : TextFault) → wants (is_terminal (Separator Semicolon)) i.1 ≡ Err e → line_by g f v z d ts ≡ Err e
+            pub line_unended : (e : TextFault) → expects (is_terminal (Separator Semicolon)) i.1 ≡ Err e → line_by g f v z d ts ≡ Err e
             line_unended e h = rw (read, goes, ruled, filled, h) refl
 
-            pub line_made : (us : List Lexeme) → wants (is_terminal (Separator Semicolon)) i.1 ≡ Ok us → (c : V) → ok_of (g.line v (t.0).0 (r.0).rule (r.0).path (i.0).0) ≡ Ok c
+            pub line_made : (us : List Lexeme) → expects (is_terminal (Separator Semicolon)) i.1 ≡ Ok us → (c : V) → ok_of (g.line v (t.0).0 (r.0).rule (r.0).path (i.0).0) ≡ Ok c
                 → line_by g f v z d ts ≡ Ok ((c, (i.0).1), us)
             line_made us h c made =
                 let same : g.line v (t.0).0 (r.0).rule (r.0).path (i.0).0 ≡ c = cc in
@@ -171,10 +171,10 @@ module _ {Z V : Type 0} (f : ChainParser Z V) (z : Z) (d : ℕ) (ts : List Lexem
     pub inner_made : (x : (V × Z) × List Lexeme) → braces_by f z d ts ≡ Ok x → inner_by f follows z d ts ≡ Ok ((Some (x.0).0, (x.0).1), x.1)
     inner_made x h = rw (is, h) refl
 
-  pub braces_unopened : (e : TextFault) → wants (is_terminal (Separator CurlyOpen)) ts ≡ Err e → braces_by f z d ts ≡ Err e
+  pub braces_unopened : (e : TextFault) → expects (is_terminal (Separator CurlyOpen)) ts ≡ Err e → braces_by f z d ts ≡ Err e
   braces_unopened e h = rw (h) refl
 
-  module _ (us : List Lexeme) (opens : wants (is_terminal (Separator CurlyOpen)) ts ≡ Ok us) where
+  module _ (us : List Lexeme) (opens : expects (is_terminal (Separator CurlyOpen)) ts ≡ Ok us) where
     pub braces_deep : (e : TextFault) → enter d (place_of ts) ≡ Err e → braces_by f z d ts ≡ Err e
     braces_deep e h = rw (opens, h) refl
 
@@ -183,8 +183,8 @@ module _ {Z V : Type 0} (f : ChainParser Z V) (z : Z) (d : ℕ) (ts : List Lexem
       braces_fail e h = rw (opens, inside, h) refl
 
       module _ (x : (V × Z) × List Lexeme) (chain : f (whole_chain z) n us ≡ Ok x) where
-        pub braces_unclosed : (e : TextFault) → wants (is_terminal (Separator CurlyClose)) x.1 ≡ Err e → braces_by f z d ts ≡ Err e
+        pub braces_unclosed : (e : TextFault) → expects (is_terminal (Separator CurlyClose)) x.1 ≡ Err e → braces_by f z d ts ≡ Err e
         braces_unclosed e h = rw (opens, inside, chain, h) refl
 
-        pub braces_made : (rest : List Lexeme) → wants (is_terminal (Separator CurlyClose)) x.1 ≡ Ok rest → braces_by f z d ts ≡ Ok (x.0, rest)
+        pub braces_made : (rest : List Lexeme) → expects (is_terminal (Separator CurlyClose)) x.1 ≡ Ok rest → braces_by f z d ts ≡ Ok (x.0, rest)
         braces_made rest h = rw (opens, inside, chain, h) refl

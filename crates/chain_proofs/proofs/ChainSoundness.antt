@@ -11,17 +11,17 @@ use Rattle.text_parser.specs.declared.terminal.Terminal.TheVariants.{Name, Keywo
 use Rattle.text_parser.specs.declared.terminal.Keyword.TheVariants as word
 use Rattle.text_parser.specs.declared.terminal.Separator.TheVariants.{Semicolon, CurlyOpen, CurlyClose, Equals}
 use Rattle.text_parser.specs.Lexemes.{Lexeme, lexeme, heads, is_terminal}
-use Rattle.text_parser.specs.Parsed.{Parsed, ◌>>=◌, change, wants, place_of}
+use Rattle.text_parser.specs.Parsed.{Parsed, ◌>>=◌, change, expects, place_of}
 use Rattle.text_parser.specs.Phrases.{term, Leaf, cons_token, IsPhrase}
-use Rattle.text_parser.proofs.TerminalEquality.{wants_ok}
-use Rattle.text_parser.proofs.ParserSoundness.{leaf, bind_ok, chosen, changed_ok, wanted_ok, terminal_headed}
+use Rattle.text_parser.proofs.TerminalEquality.{expects_ok}
+use Rattle.text_parser.proofs.ParserSoundness.{leaf, bind_ok, chosen, changed_ok, expected_ok, terminal_headed}
 use Rattle.while_lang.specs.Blocks.{enter}
 use Rattle.while_lang.proofs.BlockSoundness.{enter_ok, rest_of}
 use Rattle.problem_file.specs.Items.{number_at}
 use Rattle.problem_file.specs.Phrases.{Numeral, numeral_onto}
 use Rattle.problem_file.proofs.FoundItems.{numeral_found}
 use Rattle.chain_proofs.specs.ChainActions.{ChainActions}
-use Rattle.chain_proofs.specs.ChainWalks.{is_word, wants_word, rule_name, has_number, has_inner, argument, parts_by, path_by, Reason, rule_by, ChainAim, whole_chain, lines_after, ChainParser, braces_by, inner_by, line_by, chain_by, chain_within, parse_chain}
+use Rattle.chain_proofs.specs.ChainWalks.{is_word, expects_word, rule_name, has_number, has_inner, argument, parts_by, path_by, Reason, rule_by, ChainAim, whole_chain, lines_after, ChainParser, braces_by, inner_by, line_by, chain_by, chain_within, parse_chain}
 use Rattle.chain_proofs.specs.ChainPhrases.{RuleWord, plain, keyword, rule_leaf, Parts, no_parts, more_parts, Place, no_place, at_place, RulePhrase, Lines, no_lines, plain_line, line_around}
 use Rattle.chain_proofs.specs.ChainPhrases.{word_onto, number_onto, parts_onto, place_onto, rule_onto, reason_onto, ended, lines_onto, chain_onto, PlaceObeys, LinesObey, NumberFits, PartsFit, PlaceFits, RuleFits, LinesFit, IsChainPhrase}
 
@@ -37,7 +37,7 @@ word_headed w [] e = absurd cc
 word_headed w (lexeme Name at text ∷ ts) e = (leaf at text, refl, e)
 word_headed w (lexeme _ at text ∷ ts) e = absurd cc
 
-word_ok : (w : List ℕ) (ts us : List Lexeme) → wants_word w ts ≡ Ok us → (l : Leaf) × (ts ≡ cons_token Name l us) × (bytes_eq l.text w ≡ true)
+word_ok : (w : List ℕ) (ts us : List Lexeme) → expects_word w ts ≡ Ok us → (l : Leaf) × (ts ≡ cons_token Name l us) × (bytes_eq l.text w ≡ true)
 word_ok w ts us e = by_test (is_word w ts) refl e where
   by_test : (b : Bool) → is_word w ts ≡ b → if_true b (Ok (drop 1 ts)) (Err (Syntax (place_of ts))) ≡ Ok us → (l : Leaf) × (ts ≡ cons_token Name l us) × (bytes_eq l.text w ≡ true)
   by_test true h k =
@@ -46,14 +46,14 @@ word_ok w ts us e = by_test (is_word w ts) refl e where
       (x.0, x.1 ∙ ap (cons_token Name x.0) same, x.2)
   by_test false h k = absurd cc
 
-abbrev text_told : Result (ℕ × List ℕ) TextFault → List ℕ
-text_told (Ok x) = x.1
-text_told (Err e) = []
+abbrev text_given : Result (ℕ × List ℕ) TextFault → List ℕ
+text_given (Ok x) = x.1
+text_given (Err e) = []
 
 name_ok : (ts : List Lexeme) (x : ℕ × List ℕ) → rule_name ts ≡ Ok x → (w : RuleWord) × (ts ≡ word_onto w (drop 1 ts)) × ((rule_leaf w).text ≡ x.1)
 name_ok [] x e = absurd cc
-name_ok (lexeme Name at text ∷ ts) x e = (plain (leaf at text), refl, ap text_told e)
-name_ok (lexeme (Keyword word.Hyp) at text ∷ ts) x e = (keyword (leaf at text), refl, ap text_told e)
+name_ok (lexeme Name at text ∷ ts) x e = (plain (leaf at text), refl, ap text_given e)
+name_ok (lexeme (Keyword word.Hyp) at text ∷ ts) x e = (keyword (leaf at text), refl, ap text_given e)
 name_ok (lexeme _ at text ∷ ts) x e = absurd cc
 
 -- the tokens begin with the number that the name of a rule requires
@@ -134,9 +134,9 @@ module _ {Z T R P V : Type 0} (g : ChainActions Z T R P V) where
     pub place : PlaceObeys phrase.place
     pub fits : RuleFits phrase
 
-  abbrev reason_told : Reason R P → Parsed (Reason R P) → Reason R P
-  reason_told z (Ok x) = x.0
-  reason_told z (Err e) = z
+  abbrev reason_given : Reason R P → Parsed (Reason R P) → Reason R P
+  reason_given z (Ok x) = x.0
+  reason_given z (Err e) = z
 
   rule_ok : (ts : List Lexeme) (y : Reason R P × List Lexeme) → rule_by g ts ≡ Ok y → IsRule (y.0).inner ts y.1
   rule_ok ts y e =
@@ -148,7 +148,7 @@ module _ {Z T R P V : Type 0} (g : ChainActions Z T R P V) where
       let made : P → Reason R P = λ p. record { rule = c.0; path = p; inner = has_inner (a.0).1 } in
       let k = changed_ok made (path_by g (b.0).1) y.0 y.1 c.2 in
       let p = path_ok (b.0).1 (k.0, y.1) k.1 in
-      let same : made k.0 ≡ y.0 = sym (ap (reason_told y.0) (sym c.2 ∙ ap (change made) k.1)) in
+      let same : made k.0 ≡ y.0 = sym (ap (reason_given y.0) (sym c.2 ∙ ap (change made) k.1)) in
       record {
         phrase = record { name = w.0; number = n.number; place = p.phrase };
         spelled = w.1 ∙ ap (word_onto w.0) (n.spelled ∙ ap (number_onto n.number) p.spelled);
@@ -167,8 +167,8 @@ pub record AreLines (d : ℕ) (ts rest : List Lexeme) : Type 0 where
 
 -- an inner chain in braces after a rule, or nothing
 pub data Inner (d : ℕ) (inner : Bool) (ts rest : List Lexeme) : Type 0 where
-  nothing_there : (told : inner ≡ false) → (same : ts ≡ rest) → Inner d inner ts rest
-  chain_there : (told : inner ≡ true) → (opening closing : Leaf) → (us : List Lexeme) → (spelled : ts ≡ cons_token (Separator CurlyOpen) opening us) → (lt : d < MAX_OPEN) → (c : IsChainPhrase (d + 1) us (cons_token (Separator CurlyClose) closing rest)) → Inner d inner ts rest
+  nothing_there : (given : inner ≡ false) → (same : ts ≡ rest) → Inner d inner ts rest
+  chain_there : (given : inner ≡ true) → (opening closing : Leaf) → (us : List Lexeme) → (spelled : ts ≡ cons_token (Separator CurlyOpen) opening us) → (lt : d < MAX_OPEN) → (c : IsChainPhrase (d + 1) us (cons_token (Separator CurlyClose) closing rest)) → Inner d inner ts rest
 
 -- a chain is a term followed by lines
 chain_found : (d : ℕ) (ts mid rest : List Lexeme) → IsPhrase term d ts mid → AreLines d mid rest → IsChainPhrase d ts rest
@@ -187,7 +187,7 @@ chain_found d ts mid rest p q =
 module _ {Z T R P V : Type 0} (g : ChainActions Z T R P V) where
   line_found : (d : ℕ) (equals by end : Leaf) (inner : Bool) (ts mid after rest us all : List Lexeme) →
       ts ≡ cons_token (Separator Equals) equals us → IsPhrase term d us (cons_token Name by mid) → bytes_eq by.text (codes "by") ≡ true → IsRule g inner mid after → Inner d inner after (ended end rest) → AreLines d rest all → AreLines d ts all
-  line_found d equals by end inner ts mid after rest us all head t word r (nothing_there told same) q =
+  line_found d equals by end inner ts mid after rest us all head t word r (nothing_there given same) q =
       let semi : after ≡ ended end (lines_onto q.phrase all) = same ∙ ap (ended end) q.spelled in
       let tail : mid ≡ rule_onto r.phrase (ended end (lines_onto q.phrase all)) = r.spelled ∙ ap (rule_onto r.phrase) semi in
       let k : IsPhrase term d us (reason_onto by r.phrase (ended end (lines_onto q.phrase all))) =
@@ -195,10 +195,10 @@ module _ {Z T R P V : Type 0} (g : ChainActions Z T R P V) where
       record {
         phrase = plain_line equals k.phrase by r.phrase end q.phrase;
         spelled = head ∙ ap (cons_token (Separator Equals) equals) k.spelled;
-        obey = (k.obeys, record { word = word; number = r.number; chain = sym told ∙ r.chain; place = r.place }, q.obey);
+        obey = (k.obeys, record { word = word; number = r.number; chain = sym given ∙ r.chain; place = r.place }, q.obey);
         fit = (k.fits, r.fits, q.fit);
       }
-  line_found d equals by end inner ts mid after rest us all head t word r (chain_there told opening closing vs spelled lt c) q =
+  line_found d equals by end inner ts mid after rest us all head t word r (chain_there given opening closing vs spelled lt c) q =
       let last : List Lexeme = cons_token (Separator CurlyClose) closing (ended end (lines_onto q.phrase all)) in
       let closed : cons_token (Separator CurlyClose) closing (ended end rest) ≡ last = ap (λ (x : List Lexeme). cons_token (Separator CurlyClose) closing (ended end x)) q.spelled in
       let i : IsChainPhrase (d + 1) vs last = subst (IsChainPhrase (d + 1) vs) closed c in
@@ -209,7 +209,7 @@ module _ {Z T R P V : Type 0} (g : ChainActions Z T R P V) where
       record {
         phrase = line_around equals k.phrase by r.phrase opening (i.phrase).first (i.phrase).lines closing end q.phrase;
         spelled = head ∙ ap (cons_token (Separator Equals) equals) k.spelled;
-        obey = (k.obeys, record { word = word; number = r.number; chain = sym told ∙ r.chain; place = r.place }, i.first_obeys, i.obey, q.obey);
+        obey = (k.obeys, record { word = word; number = r.number; chain = sym given ∙ r.chain; place = r.place }, i.first_obeys, i.obey, q.obey);
         fit = (k.fits, r.fits, lt, i.first_fits, i.fit, q.fit);
       }
 
@@ -224,11 +224,11 @@ module _ {Z T R P V : Type 0} (g : ChainActions Z T R P V) (term_is : (d : ℕ) 
   braces_find : (f : ChainParser Z V) → Finds f → (z : Z) (d : ℕ) (ts : List Lexeme) (y : (V × Z) × List Lexeme) → braces_by f z d ts ≡ Ok y →
       (opening closing : Leaf) × (us : List Lexeme) × (ts ≡ cons_token (Separator CurlyOpen) opening us) × (d < MAX_OPEN) × IsChainPhrase (d + 1) us (cons_token (Separator CurlyClose) closing y.1)
   braces_find f s z d ts y e =
-      let a = bind_ok (wants (is_terminal (Separator CurlyOpen)) ts) _ y e in
-      let w = wants_ok (Separator CurlyOpen) ts a.0 a.1 in
+      let a = bind_ok (expects (is_terminal (Separator CurlyOpen)) ts) _ y e in
+      let w = expects_ok (Separator CurlyOpen) ts a.0 a.1 in
       let b = bind_ok (enter d (place_of ts)) _ y a.2 in
       let n = enter_ok d b.0 (place_of ts) b.1 in
-      let k = wanted_ok (Separator CurlyClose) (f (whole_chain z) b.0 a.0) y b.2 in
+      let k = expected_ok (Separator CurlyClose) (f (whole_chain z) b.0 a.0) y b.2 in
       let h = s (whole_chain z) b.0 a.0 (y.0, cons_token (Separator CurlyClose) k.0 y.1) k.1 in
       (w.0, k.0, a.0, w.1, n.0, subst (λ (m : ℕ). IsChainPhrase m a.0 (cons_token (Separator CurlyClose) k.0 y.1)) n.1 h)
 
@@ -241,19 +241,19 @@ module _ {Z T R P V : Type 0} (g : ChainActions Z T R P V) (term_is : (d : ℕ) 
       (λ h k. nothing_there h (ap rest_of k))
       e
 
-  abbrev line_told : V × Z → Parsed (V × Z) → V × Z
-  line_told z (Ok x) = x.0
-  line_told z (Err e) = z
+  abbrev line_given : V × Z → Parsed (V × Z) → V × Z
+  line_given z (Ok x) = x.0
+  line_given z (Err e) = z
 
   -- a line after its `=`, followed by lines, gives lines
   line_finds : (f : ChainParser Z V) → Finds f → (v : V) (z : Z) (d : ℕ) (equals : Leaf) (ts us rest : List Lexeme) (y : (V × Z) × List Lexeme) → ts ≡ cons_token (Separator Equals) equals us → line_by g f v z d us ≡ Ok y → AreLines d y.1 rest → AreLines d ts rest
   line_finds f s v z d equals ts us rest y head e q =
       let t = bind_ok (g.term d z us) _ y e in
-      let b = bind_ok (wants_word (codes "by") (t.0).1) _ y t.2 in
+      let b = bind_ok (expects_word (codes "by") (t.0).1) _ y t.2 in
       let w = word_ok (codes "by") (t.0).1 b.0 b.1 in
       let r = bind_ok (rule_by g b.0) _ y b.2 in
       let i = bind_ok (inner_by f ((r.0).0).inner ((t.0).0).1 d (r.0).1) _ y r.2 in
-      let k = wanted_ok (Separator Semicolon) (Ok ((g.line v ((t.0).0).0 ((r.0).0).rule ((r.0).0).path ((i.0).0).0, ((i.0).0).1), (i.0).1)) y i.2 in
+      let k = expected_ok (Separator Semicolon) (Ok ((g.line v ((t.0).0).0 ((r.0).0).rule ((r.0).0).path ((i.0).0).0, ((i.0).0).1), (i.0).1)) y i.2 in
       let semi : (i.0).1 ≡ ended k.0 y.1 = ap rest_of k.1 in
       let p : IsPhrase term d us (cons_token Name w.0 b.0) = subst (IsPhrase term d us) w.1 (term_is d z us t.0 t.1) in
       line_found g d equals w.0 k.0 ((r.0).0).inner ts b.0 (r.0).1 y.1 us rest head p w.2 (rule_ok g b.0 r.0 r.1)

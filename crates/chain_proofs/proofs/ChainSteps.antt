@@ -4,13 +4,13 @@ use Rattle.text_parser.specs.declared.fault.TextFault.TheVariants.{Syntax}
 use Rattle.text_parser.specs.declared.terminal.Terminal.TheVariants.{Dot, Separator}
 use Rattle.text_parser.specs.declared.terminal.Separator.TheVariants.{Semicolon, CurlyOpen, CurlyClose, Equals}
 use Rattle.text_parser.specs.Lexemes.{Lexeme, heads, is_terminal}
-use Rattle.text_parser.specs.Parsed.{Parsed, ◌>>=◌, change, then_wants, place_of}
-use Rattle.text_parser.proofs.Within.{Within, bind_within, if_within, weaken, enter_within, change_within, then_wants_within, headed, bind_same, if_same, enter_same}
+use Rattle.text_parser.specs.Parsed.{Parsed, ◌>>=◌, change, then_expects, place_of}
+use Rattle.text_parser.proofs.Within.{Within, bind_within, if_within, weaken, enter_within, change_within, then_expects_within, headed, bind_same, if_same, enter_same}
 use Rattle.chain_proofs.specs.ChainActions.{ChainActions}
 use Rattle.while_lang.specs.Blocks.{enter}
-use Rattle.while_lang.proofs.BlockSteps.{wanted_within, wanted_same}
+use Rattle.while_lang.proofs.BlockSteps.{expected_within, expected_same}
 use Rattle.problem_file.specs.Items.{number_at}
-use Rattle.chain_proofs.specs.ChainWalks.{is_word, wants_word, rule_name, has_number, argument, parts_by, path_by, rule_by, ChainAim, whole_chain, lines_after, ChainParser, braces_by, inner_by, line_by, chain_by, chain_within, parse_chain}
+use Rattle.chain_proofs.specs.ChainWalks.{is_word, expects_word, rule_name, has_number, argument, parts_by, path_by, rule_by, ChainAim, whole_chain, lines_after, ChainParser, braces_by, inner_by, line_by, chain_by, chain_within, parse_chain}
 
 -- ---- reading consumes at least one token, unless the phrase may be empty
 
@@ -26,7 +26,7 @@ pub tail_shorter : (w : List ℕ) (ts : List Lexeme) → is_word w ts ≡ true �
 tail_shorter w [] e = absurd cc
 tail_shorter w (x ∷ ts) e = omega arith
 
-word_within : {V : Type 0} (w : List ℕ) (n : ℕ) (ts : List Lexeme) (k : List Lexeme → Parsed V) → ((us : List Lexeme) → length us < length ts → Within n (k us)) → Within n (wants_word w ts >>= k)
+word_within : {V : Type 0} (w : List ℕ) (n : ℕ) (ts : List Lexeme) (k : List Lexeme → Parsed V) → ((us : List Lexeme) → length us < length ts → Within n (k us)) → Within n (expects_word w ts >>= k)
 word_within w n ts k h = by_test (is_word w ts) refl where
   by_test : (b : Bool) → is_word w ts ≡ b → Within n (cond b (Ok (drop 1 ts)) (Err (Syntax (place_of ts))) >>= k)
   by_test true e = h (drop 1 ts) (tail_shorter w ts e)
@@ -66,9 +66,9 @@ rule_short g (x ∷ ts) =
 
 braces_short : {Z V : Type 0} (f : ChainParser Z V) → IsShort f → (z : Z) (d : ℕ) (ts : List Lexeme) → Within (length ts) (braces_by f z d ts)
 braces_short f s z d ts =
-    wanted_within (is_terminal (Separator CurlyOpen)) (length ts) ts (λ a. enter d (place_of ts) >>= λ e. then_wants (is_terminal (Separator CurlyClose)) (f (whole_chain z) e a))
-    (λ a lt. enter_within (length ts) (enter d (place_of ts)) (λ e. then_wants (is_terminal (Separator CurlyClose)) (f (whole_chain z) e a))
-    (λ e. then_wants_within (is_terminal (Separator CurlyClose)) (length ts) (f (whole_chain z) e a) (weaken (length a) (length ts) (f (whole_chain z) e a) (omega arith) (s (whole_chain z) e a))))
+    expected_within (is_terminal (Separator CurlyOpen)) (length ts) ts (λ a. enter d (place_of ts) >>= λ e. then_expects (is_terminal (Separator CurlyClose)) (f (whole_chain z) e a))
+    (λ a lt. enter_within (length ts) (enter d (place_of ts)) (λ e. then_expects (is_terminal (Separator CurlyClose)) (f (whole_chain z) e a))
+    (λ e. then_expects_within (is_terminal (Separator CurlyClose)) (length ts) (f (whole_chain z) e a) (weaken (length a) (length ts) (f (whole_chain z) e a) (omega arith) (s (whole_chain z) e a))))
 
 pub inner_short : {Z V : Type 0} (f : ChainParser Z V) → IsShort f → (b : Bool) (z : Z) (d : ℕ) (ts : List Lexeme) → Within (length ts + 1) (inner_by f b z d ts)
 inner_short f s b z d ts =
@@ -82,7 +82,7 @@ line_short g f s v z d ts =
     (λ t lt. word_within _ (length ts) t.1 _
     (λ b less. bind_within (length b) (length ts) (rule_by g b) _ (rule_short g b)
     (λ r fewer. bind_within (length r.1 + 1) (length ts) (inner_by f (r.0).inner (t.0).1 d r.1) _ (inner_short f s (r.0).inner (t.0).1 d r.1)
-    (λ i le. then_wants_within (is_terminal (Separator Semicolon)) (length ts) (Ok ((g.line v (t.0).0 (r.0).rule (r.0).path (i.0).0, (i.0).1), i.1)) (omega arith)))))
+    (λ i le. then_expects_within (is_terminal (Separator Semicolon)) (length ts) (Ok ((g.line v (t.0).0 (r.0).rule (r.0).path (i.0).0, (i.0).1), i.1)) (omega arith)))))
 
 chain_short : {Z T R P V : Type 0} (g : ChainActions Z T R P V) (f : ChainParser Z V) → IsShort f → IsShort (chain_by g f)
 chain_short g f s (whole_chain z) d ts =
@@ -104,7 +104,7 @@ within_short g (suc n) x d ts = chain_short g (chain_within g n) (within_short g
 abbrev Same : {Z V : Type 0} → ChainParser Z V → ChainParser Z V → ℕ → Type 0
 Same {Z} {V} f h n = (x : ChainAim Z V) (d : ℕ) (ts : List Lexeme) → length ts < n → f x d ts ≡ h x d ts
 
-word_same : {V : Type 0} (w : List ℕ) (ts : List Lexeme) (k l : List Lexeme → Parsed V) → ((us : List Lexeme) → length us < length ts → k us ≡ l us) → (wants_word w ts >>= k) ≡ (wants_word w ts >>= l)
+word_same : {V : Type 0} (w : List ℕ) (ts : List Lexeme) (k l : List Lexeme → Parsed V) → ((us : List Lexeme) → length us < length ts → k us ≡ l us) → (expects_word w ts >>= k) ≡ (expects_word w ts >>= l)
 word_same w ts k l h = by_test (is_word w ts) refl where
   by_test : (b : Bool) → is_word w ts ≡ b → (cond b (Ok (drop 1 ts)) (Err (Syntax (place_of ts))) >>= k) ≡ (cond b (Ok (drop 1 ts)) (Err (Syntax (place_of ts))) >>= l)
   by_test true e = h (drop 1 ts) (tail_shorter w ts e)
@@ -112,8 +112,8 @@ word_same w ts k l h = by_test (is_word w ts) refl where
 
 braces_same : {Z V : Type 0} (f h : ChainParser Z V) (z : Z) (d : ℕ) (ts : List Lexeme) → Same f h (length ts) → braces_by f z d ts ≡ braces_by h z d ts
 braces_same f h z d ts a =
-    wanted_same (is_terminal (Separator CurlyOpen)) ts _ _
-    (λ us lt. enter_same (enter d (place_of ts)) _ _ (λ e. ap (then_wants (is_terminal (Separator CurlyClose))) (a (whole_chain z) e us lt)))
+    expected_same (is_terminal (Separator CurlyOpen)) ts _ _
+    (λ us lt. enter_same (enter d (place_of ts)) _ _ (λ e. ap (then_expects (is_terminal (Separator CurlyClose))) (a (whole_chain z) e us lt)))
 
 inner_same : {Z V : Type 0} (f h : ChainParser Z V) (b : Bool) (z : Z) (d : ℕ) (ts : List Lexeme) → Same f h (length ts) → inner_by f b z d ts ≡ inner_by h b z d ts
 inner_same f h b z d ts a = if_same b _ (Ok ((None, z), ts)) _ (λ e. ap (change (λ x. (Some x.0, x.1))) (braces_same f h z d ts a))

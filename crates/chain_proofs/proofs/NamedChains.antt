@@ -6,24 +6,24 @@ use Rattle.text_parser.specs.declared.terminal.Terminal.TheVariants.{Name, Keywo
 use Rattle.text_parser.specs.declared.terminal.Keyword.TheVariants as word
 use Rattle.text_parser.specs.declared.terminal.Separator.TheVariants.{Semicolon, CurlyOpen, CurlyClose, Equals}
 use Rattle.text_parser.specs.Lexemes.{Lexeme, lexeme, heads, is_terminal}
-use Rattle.text_parser.specs.Parsed.{Parsed, ◌>>=◌, then_wants, place_of}
+use Rattle.text_parser.specs.Parsed.{Parsed, ◌>>=◌, then_expects, place_of}
 use Rattle.text_parser.specs.Actions.{context}
 use Rattle.text_parser.specs.Scans.{scanning}
 use Rattle.text_parser.specs.Terms.{parse_term, choice}
 use Rattle.text_parser.proofs.Within.{headed}
-use Rattle.text_parser.proofs.NamedFaults.{IsNamed, then_named, bind_named, if_named, change_named, then_wants_named, term_named}
+use Rattle.text_parser.proofs.NamedFaults.{IsNamed, then_named, bind_named, if_named, change_named, then_expects_named, term_named}
 use Rattle.text_parser.specs.ScopeParts.{ScopeParts}
 use Rattle.text_parser.specs.Building.{trees}
 use Rattle.text_parser.specs.Measuring.{extents}
 use Rattle.while_lang.specs.Blocks.{enter}
 use Rattle.problem_file.specs.Items.{number_at}
 use Rattle.while_lang.proofs.BlockFaults.{enter_named}
-use Rattle.problem_file.proofs.NamedBlocks.{wanted_named}
+use Rattle.problem_file.proofs.NamedBlocks.{expected_named}
 use Rattle.problem_file.proofs.NamedItems.{number_at_named}
 use Rattle.problem_file.proofs.NamedTexts.{extents_named, trees_named, scanning_named}
 use Rattle.chain_rules.specs.declared.chain.Axiom.{Axiom}
 use Rattle.chain_proofs.specs.ChainActions.{ChainActions}
-use Rattle.chain_proofs.specs.ChainWalks.{is_word, wants_word, rule_name, has_number, argument, parts_by, path_by, rule_by, ChainAim, whole_chain, lines_after, ChainParser, braces_by, inner_by, line_by, chain_by, chain_within, parse_chain}
+use Rattle.chain_proofs.specs.ChainWalks.{is_word, expects_word, rule_name, has_number, argument, parts_by, path_by, rule_by, ChainAim, whole_chain, lines_after, ChainParser, braces_by, inner_by, line_by, chain_by, chain_within, parse_chain}
 use Rattle.chain_proofs.specs.ChainScans.{scanning_chain, ends, scan_chain}
 use Rattle.chain_proofs.specs.ChainMaking.{known_axiom, axiom_named, total_with, sized_term, making_chain, make_chain}
 use Rattle.chain_proofs.specs.Reads.{tested}
@@ -43,7 +43,7 @@ argument_named name ts =
     (λ e. then_named (number_at ts) (λ n. Ok (n, drop 1 ts)) (number_at_named ts) (λ n. tt))
     (λ e. tt)
 
-word_named : {V : Type 0} (w : List ℕ) (ts : List Lexeme) (k : List Lexeme → Parsed V) → ((us : List Lexeme) → length us < length ts → IsNamed (k us)) → IsNamed (wants_word w ts >>= k)
+word_named : {V : Type 0} (w : List ℕ) (ts : List Lexeme) (k : List Lexeme → Parsed V) → ((us : List Lexeme) → length us < length ts → IsNamed (k us)) → IsNamed (expects_word w ts >>= k)
 word_named w ts k h = by_test (is_word w ts) refl where
   by_test : (b : Bool) → is_word w ts ≡ b → IsNamed (cond b (Ok (drop 1 ts)) (Err (Syntax (place_of ts))) >>= k)
   by_test true e = h (drop 1 ts) (tail_shorter w ts e)
@@ -77,9 +77,9 @@ module _ {Z T R P V : Type 0} (g : ChainActions Z T R P V) (terms : (d : ℕ) (z
 
   braces_named : (f : ChainParser Z V) (z : Z) (d : ℕ) (ts : List Lexeme) → NamesBelow f (length ts) → IsNamed (braces_by f z d ts)
   braces_named f z d ts a =
-      wanted_named (is_terminal (Separator CurlyOpen)) ts (λ us. enter d (place_of ts) >>= λ e. then_wants (is_terminal (Separator CurlyClose)) (f (whole_chain z) e us))
-      (λ us lt. then_named (enter d (place_of ts)) (λ e. then_wants (is_terminal (Separator CurlyClose)) (f (whole_chain z) e us)) (enter_named d (place_of ts))
-      (λ e. then_wants_named (is_terminal (Separator CurlyClose)) (f (whole_chain z) e us) (a (whole_chain z) e us lt)))
+      expected_named (is_terminal (Separator CurlyOpen)) ts (λ us. enter d (place_of ts) >>= λ e. then_expects (is_terminal (Separator CurlyClose)) (f (whole_chain z) e us))
+      (λ us lt. then_named (enter d (place_of ts)) (λ e. then_expects (is_terminal (Separator CurlyClose)) (f (whole_chain z) e us)) (enter_named d (place_of ts))
+      (λ e. then_expects_named (is_terminal (Separator CurlyClose)) (f (whole_chain z) e us) (a (whole_chain z) e us lt)))
 
   inner_named : (f : ChainParser Z V) (b : Bool) (z : Z) (d : ℕ) (ts : List Lexeme) → NamesBelow f (length ts) → IsNamed (inner_by f b z d ts)
   inner_named f b z d ts a = if_named b _ (Ok ((None, z), ts)) (λ e. change_named _ (braces_by f z d ts) (braces_named f z d ts a)) (λ e. tt)
@@ -90,7 +90,7 @@ module _ {Z T R P V : Type 0} (g : ChainActions Z T R P V) (terms : (d : ℕ) (z
       (λ t lt. word_named _ t.1 _
       (λ b less. bind_named (length b) (rule_by g b) _ (rule_named b) (rule_short g b)
       (λ r fewer. then_named (inner_by f (r.0).inner (t.0).1 d r.1) _ (inner_named f (r.0).inner (t.0).1 d r.1 (λ x e us le. a x e us (omega arith)))
-      (λ i. then_wants_named (is_terminal (Separator Semicolon)) (Ok ((g.line v (t.0).0 (r.0).rule (r.0).path (i.0).0, (i.0).1), i.1)) tt))))
+      (λ i. then_expects_named (is_terminal (Separator Semicolon)) (Ok ((g.line v (t.0).0 (r.0).rule (r.0).path (i.0).0, (i.0).1), i.1)) tt))))
 
   chain_step_named : (f : ChainParser Z V) → IsShort f → (x : ChainAim Z V) (d : ℕ) (ts : List Lexeme) → NamesBelow f (length ts) → IsNamed (chain_by g f x d ts)
   chain_step_named f s (whole_chain z) d ts a =

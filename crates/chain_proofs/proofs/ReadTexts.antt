@@ -21,8 +21,8 @@ module _ (tests actions : ℕ) where
   abbrev w : ScopeParts
   w = numbered_scope tests actions
 
-  pub read_told : (bytes : List ℕ) (ms : List TokenParts) (c : ChainTree) → Lexes bytes ms → tested w (map lexeme_of ms) ≡ Ok c → Reads tests actions bytes c
-  read_told bytes ms c lexes e =
+  pub read_given : (bytes : List ℕ) (ms : List TokenParts) (c : ChainTree) → Lexes bytes ms → tested w (map lexeme_of ms) ≡ Ok c → Reads tests actions bytes c
+  read_given bytes ms c lexes e =
       let ts = map lexeme_of ms in
       let a = bind_ok (scan_chain ts) (λ u. make_chain w ts) c e in
       let i = (chains_are_scanned ts).0 a.1 in
@@ -38,5 +38,5 @@ module _ (tests actions : ℕ) where
       ap (λ (m : Result (Unit {0}) TextFault). m >>= λ u. make_chain w ts) scanned ∙ made
 
   -- the same for the tokens as the program reports them
-  pub chain_told : (scope : ScopeParts) (text : List ℕ) (ts : List Token) (c : ChainTree) → scope ≡ w → Lexes text (parts_of_tokens ts) → tested scope (lexemes ts) ≡ Ok c → Reads tests actions text c
-  chain_told scope text ts c same lexes e = read_told text (parts_of_tokens ts) c lexes (ap (λ (v : ScopeParts). tested v (lexemes ts)) (sym same) ∙ e)
+  pub chain_given : (scope : ScopeParts) (text : List ℕ) (ts : List Token) (c : ChainTree) → scope ≡ w → Lexes text (parts_of_tokens ts) → tested scope (lexemes ts) ≡ Ok c → Reads tests actions text c
+  chain_given scope text ts c same lexes e = read_given text (parts_of_tokens ts) c lexes (ap (λ (v : ScopeParts). tested v (lexemes ts)) (sym same) ∙ e)

@@ -7,7 +7,7 @@ use Rattle.text_parser.specs.declared.terminal.Terminal.TheVariants.{Name, Keywo
 use Rattle.text_parser.specs.declared.terminal.Keyword.TheVariants as word
 use Rattle.text_parser.specs.declared.terminal.Separator.TheVariants.{Semicolon, CurlyOpen, CurlyClose, Equals}
 use Rattle.text_parser.specs.Lexemes.{Lexeme, lexeme, heads, is_terminal}
-use Rattle.text_parser.specs.Parsed.{Parsed, ◌>>=◌, at_end, place_of, change, wants, then_wants}
+use Rattle.text_parser.specs.Parsed.{Parsed, ◌>>=◌, at_end, place_of, change, expects, then_expects}
 use Rattle.while_lang.specs.Blocks.{enter}
 use Rattle.problem_file.specs.Items.{number_at}
 use Rattle.chain_proofs.specs.ChainActions.{ChainActions}
@@ -19,8 +19,8 @@ is_word w (lexeme Name at text ∷ ts) = bytes_eq text w
 is_word w (lexeme _ at text ∷ ts) = false
 
 -- the tokens after this plain name, or a fault
-abbrev pub wants_word : List ℕ → List Lexeme → Result (List Lexeme) TextFault
-wants_word w ts = if is_word w ts then Ok (drop 1 ts) else Err (Syntax (place_of ts))
+abbrev pub expects_word : List ℕ → List Lexeme → Result (List Lexeme) TextFault
+expects_word w ts = if is_word w ts then Ok (drop 1 ts) else Err (Syntax (place_of ts))
 
 -- the place and the text of the name of a rule: a name, or the keyword `hyp`
 abbrev pub rule_name : List Lexeme → Result (ℕ × List ℕ) TextFault
@@ -75,7 +75,7 @@ ChainParser Z V = ChainAim Z V → ℕ → List Lexeme → Parsed (V × Z)
 -- "{" chain "}"
 abbrev pub braces_by : {Z V : Type 0} → ChainParser Z V → Z → ℕ → List Lexeme → Parsed (V × Z)
 braces_by f z d ts =
-    wants (is_terminal (Separator CurlyOpen)) ts >>= λ a. enter d (place_of ts) >>= λ e. then_wants (is_terminal (Separator CurlyClose)) (f (whole_chain z) e a)
+    expects (is_terminal (Separator CurlyOpen)) ts >>= λ a. enter d (place_of ts) >>= λ e. then_expects (is_terminal (Separator CurlyClose)) (f (whole_chain z) e a)
 
 -- [ "{" chain "}" ]
 abbrev pub inner_by : {Z V : Type 0} → ChainParser Z V → Bool → Z → ℕ → List Lexeme → Parsed (Option V × Z)
@@ -86,10 +86,10 @@ inner_by f inner z d ts =
 abbrev pub line_by : {Z T R P V : Type 0} → ChainActions Z T R P V → ChainParser Z V → V → Z → ℕ → List Lexeme → Parsed (V × Z)
 line_by g f v z d ts =
     g.term d z ts
-    >>= λ t. wants_word (codes "by") t.1
+    >>= λ t. expects_word (codes "by") t.1
     >>= λ b. rule_by g b
     >>= λ r. inner_by f (r.0).inner (t.0).1 d r.1
-    >>= λ i. then_wants (is_terminal (Separator Semicolon)) (Ok ((g.line v (t.0).0 (r.0).rule (r.0).path (i.0).0, (i.0).1), i.1))
+    >>= λ i. then_expects (is_terminal (Separator Semicolon)) (Ok ((g.line v (t.0).0 (r.0).rule (r.0).path (i.0).0, (i.0).1), i.1))
 
 -- one step: reads an aim by reading aims on fewer tokens
 abbrev pub chain_by : {Z T R P V : Type 0} → ChainActions Z T R P V → ChainParser Z V → ChainParser Z V

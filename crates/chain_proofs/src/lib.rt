@@ -1,4 +1,6 @@
-//! Equational proofs: reads their texts as chains, which the crate below checks.
+//! Reads the texts of equational proofs as chains.
+//!
+//! The crate below checks them.
 #![tactic(auto)]
 
 mod chain_reading;

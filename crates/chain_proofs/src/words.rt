@@ -1,8 +1,8 @@
 //! Reads names and numbers of a chain.
 ghost use Rattle.std.specs.Prelude.{◌≡◌, ◌+◌, ◌<◌, length, drop, IsTrue, IfOk};
 ghost use Rattle.text_parser.specs.Lexemes.{lexemes};
-ghost use Rattle.text_parser.specs.Parsed.{Makes, Wants};
-ghost use Rattle.chain_proofs.specs.ChainWalks.{is_word, wants_word, rule_name, has_number, has_inner};
+ghost use Rattle.text_parser.specs.Parsed.{Makes, Expects};
+ghost use Rattle.chain_proofs.specs.ChainWalks.{is_word, expects_word, rule_name, has_number, has_inner};
 
 use text_parser::{Keyword, Terminal, TextFault, Token, syntax_fault_at, terminal_at, text_at};
 
@@ -20,7 +20,7 @@ pub(crate) fn is_word_at(toks: &[Token], i: usize, word: &str) -> bool
 /// Returns the index after a token that must be this plain name.
 #[tactic(auto, using(text_parser::proofs::TokenPlaces::next_drop))]
 pub(crate) fn expect_word(toks: &[Token], i: usize, word: &str) -> Result<usize, TextFault>
-    ensures value { Wants (lexemes toks.now) result (wants_word word.now (drop i (lexemes toks.now))) }
+    ensures value { Expects (lexemes toks.now) result (expects_word word.now (drop i (lexemes toks.now))) }
     ensures goes { IfOk result (λ end. (end ≡ i + 1) × (i < length toks.now)) }
 {
     if !is_word_at(toks, i, word) {

@@ -144,6 +144,6 @@ module _ {S : Type 0} (frame : Frame S) where
 
   pub equal_tests_agree : (tests : ℕ) → ((i : S) → frame.IsState i → length (frame.atom i) ≡ tests) → (s : Equation) → AreEqualTests tests s → Agree frame s.left s.right
   equal_tests_agree tests wide s t i j si sj =
-      let turned : AreEqualTests tests (equation s.right s.left) =
+      let converse : AreEqualTests tests (equation s.right s.left) =
       record { left = t.right; right = t.left; same = λ atom w. sym (t.same atom w) } in
-      (test_passes tests wide s.left s.right t i j si, test_passes tests wide s.right s.left turned i j si)
+      (test_passes tests wide s.left s.right t i j si, test_passes tests wide s.right s.left converse i j si)

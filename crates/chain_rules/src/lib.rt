@@ -1,5 +1,6 @@
-//! Chains of equations: they turn one side of an equation into the other line by line, by the axioms of Kleene algebra
-//! with tests.
+//! Chains of equations by the axioms of Kleene algebra with tests.
+//!
+//! A chain turns one side of an equation into the other line by line.
 #![tactic(auto)]
 
 mod answer;

@@ -244,13 +244,13 @@ holds-same_literal I s f g = by_cases (form_cmp f g) (equal_forms f g)
     own : (x : ℕ) → nat_eq x x ≡ true
     own x = grind (arith, nat_tests)
 
-    turned : (x y : ℕ) → nat_eq x y ≡ nat_eq y x
-    turned x y = grind (arith, nat_tests)
+    converse : (x y : ℕ) → nat_eq x y ≡ nat_eq y x
+    converse x y = grind (arith, nat_tests)
 
     by_cases : (o : Ordering) → (o ≡ Equal → f ≡ g) → literal_holds I s (by_order o (holding (same_form f g)) (decided true) (holding (same_form g f))) ≡ nat_eq (polynomial I s f) (polynomial I s g)
     by_cases Less e = refl
     by_cases Equal e = sym (ap (λ h. nat_eq (polynomial I s h) (polynomial I s g)) (e refl) ∙ own (polynomial I s g))
-    by_cases Greater e = turned (polynomial I s g) (polynomial I s f)
+    by_cases Greater e = converse (polynomial I s g) (polynomial I s f)
 
 pub holds-compared_numbers : (I : Interpretation) (s : State) (w : Width) (rel : Rel) (f g : FlowFormTree) → literal_holds I s (compared_numbers w rel f g) ≡ compares rel (number_of I s w f) (number_of I s w g)
 holds-compared_numbers I s w Eq f g = holds-zero_literal I s w (form_difference (modulus w) f g) ∙ difference_test I s w f g

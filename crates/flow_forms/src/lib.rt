@@ -1,5 +1,4 @@
-//! Forms with functions: polynomials modulo 2 to a width over cells, which are variables, applications of functions and
-//! conversions.
+//! Polynomials modulo 2 to a width over variables, applications and conversions.
 #![tactic(auto)]
 
 mod arithmetic;

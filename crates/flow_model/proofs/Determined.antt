@@ -39,8 +39,8 @@ run_kept I g (suc n) d k s e =
 -- two runs from one place that ended have one end
 pub ends_alike : (I : Interpretation) (g : Graph) (n m k : ℕ) (s : State) → IsEnd (run_from I g n k s) → IsEnd (run_from I g m k s) → run_from I g n k s ≡ run_from I g m k s
 ends_alike I g n m k s a b =
-    let turned : n + m ≡ m + n = omega arith in
-    sym (run_kept I g n m k s a) ∙ (ap (λ i. run_from I g i k s) turned ∙ run_kept I g m n k s b)
+    let converse : n + m ≡ m + n = omega arith in
+    sym (run_kept I g n m k s a) ∙ (ap (λ i. run_from I g i k s) converse ∙ run_kept I g m n k s b)
 
 one_list : (vs ws : List ℕ) → returned vs ≡ returned ws → vs ≡ ws
 one_list vs ws e = cc

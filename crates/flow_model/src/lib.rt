@@ -1,4 +1,6 @@
-//! Flow graphs: graphs of blocks and jumps over values of several sorts, with functions of which nothing is known.
+//! Flow graphs: blocks and jumps over values, with unknown functions.
+//!
+//! The values are of several sorts, and nothing is known of the functions.
 #![tactic(auto)]
 
 mod conversion;

@@ -12,7 +12,7 @@ use Rattle.text_parser.specs.declared.meaning.Meaning.{Meaning}
 use Rattle.text_parser.specs.declared.meaning.Meaning.TheVariants.{Test, Action}
 use Rattle.problem_file.specs.Questions.{plain_name}
 use Rattle.problem_file.specs.CommentedTexts.{IsComment, AreComments, EachAreComments, AreOneLine}
-use Rattle.problem_file.specs.TextLaws.{AsksEqual}
+use Rattle.problem_file.specs.TextLaws.{PosesEqual}
 use Rattle.problem_file.proofs.Comments.{comment_nil, comment_append, comment_chosen, shown_comment, comment_decimal, comment_name, plain_test, plain_action}
 use Rattle.problem_file.proofs.PlainNames.{plain_are_names}
 use Rattle.problem_file.proofs.PlainReadings.{commented_reads_back}
@@ -24,7 +24,7 @@ use Rattle.flow_problem.specs.Points.{FlowProblem}
 use Rattle.flow_print.specs.NameTables.{NameTable, name_or, variable_text, variable_width, function_text, sort_width}
 use Rattle.flow_print.specs.FormTexts.{is_minus, magnitude, comma_text, star_text, plus_text, minus_text, sign_text, times_text, constant_text, one_text, width_text, conversion_text, is_long, arguments_text, part_text, form_text, side_number, side_end, is_on_side, side_text, comparison_text}
 use Rattle.flow_print.specs.ActionTexts.{stays_first, target_text, targets_text, value_text, values_text, results_text, action_text}
-use Rattle.flow_print.specs.ReasonTexts.{and_test, and_tests, two_tests, three_tests, reason_text, is_new, reason_comments, reason_before, comments_from}
+use Rattle.flow_print.specs.ReasonTexts.{conjunction_line, and_tests, two_tests, three_tests, reason_text, is_new, reason_comments, reason_before, comments_from}
 use Rattle.flow_print.specs.FlowTexts.{row_comment, test_comment, action_comment, flow_comments, flow_text, AreLines, IsFlowPrintable}
 
 -- ---- names
@@ -179,21 +179,21 @@ module _ (names : NameTable) (lines : AreLines names) where
 row_line : (m : Meaning) (text : List ℕ) → IsComment (plain_name m) → IsComment text → IsComment (row_comment m text)
 row_line m text name is = four_lines (codes " ") (plain_name m) (codes " is ") text (shown_comment (codes " ") refl) name (shown_comment (codes " is ") refl) is
 
-and_line : (k : ℕ) → IsComment (and_test k)
+and_line : (k : ℕ) → IsComment (conjunction_line k)
 and_line k = comment_append (codes " ") (plain_name (Test k)) (shown_comment (codes " ") refl) (plain_test k)
 
 ands_line : (ks : List ℕ) → IsComment (and_tests ks)
 ands_line [] = comment_nil
-ands_line (k ∷ ks) = comment_append (and_test k) (and_tests ks) (and_line k) (ands_line ks)
+ands_line (k ∷ ks) = comment_append (conjunction_line k) (and_tests ks) (and_line k) (ands_line ks)
 
 two_line : (i j : ℕ) → IsComment (two_tests i j)
-two_line i j = comment_append (and_test i) (and_test j) (and_line i) (and_line j)
+two_line i j = comment_append (conjunction_line i) (conjunction_line j) (and_line i) (and_line j)
 
 three_line : (i j k : ℕ) → IsComment (three_tests i j k)
-three_line i j k = three_lines (and_test i) (and_test j) (and_test k) (and_line i) (and_line j) (and_line k)
+three_line i j k = three_lines (conjunction_line i) (conjunction_line j) (conjunction_line k) (and_line i) (and_line j) (and_line k)
 
 reason_line : (rule : FlowRule) → IsComment (reason_text rule)
-reason_line (by_assignment i j) = three_lines (codes "assign ") (plain_name (Action i)) (and_test j) (shown_comment (codes "assign ") refl) (plain_action i) (and_line j)
+reason_line (by_assignment i j) = three_lines (codes "assign ") (plain_name (Action i)) (conjunction_line j) (shown_comment (codes "assign ") refl) (plain_action i) (and_line j)
 reason_line (by_order i j) = comment_append (codes "F2") (two_tests i j) (shown_comment (codes "F2") refl) (two_line i j)
 reason_line (by_equality i j) = comment_append (codes "F3") (two_tests i j) (shown_comment (codes "F3") refl) (two_line i j)
 reason_line (by_three_ways i j k) = comment_append (codes "F6") (three_tests i j k) (shown_comment (codes "F6") refl) (three_line i j k)
@@ -228,7 +228,7 @@ module _ (names : NameTable) (lines : AreLines names) where
 -- ---- the reading
 
 -- the text of a flow problem is read as its problem, if it is within the limits of a text
-pub flow_reads_back : (names : NameTable) (rules : List FlowRule) (p : FlowProblem) → IsFlowPrintable names rules p → AsksEqual (flow_text names rules p) p.problem
+pub flow_reads_back : (names : NameTable) (rules : List FlowRule) (p : FlowProblem) → IsFlowPrintable names rules p → PosesEqual (flow_text names rules p) p.problem
 flow_reads_back names rules p printable =
     commented_reads_back plain_name (flow_comments names rules p) p.problem (record {
       problem = printable.problem;

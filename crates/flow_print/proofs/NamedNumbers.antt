@@ -4,8 +4,8 @@ use Rattle.std.specs.Prelude.{slice_get, String, string_bytes}
 use Rattle.std.specs.Option.{option_map}
 use Rattle.std.specs.declared.alloc.Global.{Global}
 use Rattle.std.proofs.lemmas.Option.{slice_get-map}
-use Rattle.flow_questions.specs.HypothesisViews.{flow_rule}
-use Rattle.flow_questions.specs.declared.hypothesis.FlowRule.{FlowRule as ARule}
+use Rattle.flow_abstraction.specs.HypothesisViews.{flow_rule}
+use Rattle.flow_abstraction.specs.declared.hypothesis.FlowRule.{FlowRule as ARule}
 
 -- the bytes of a name that is there
 pub named : (xs : List (String Global)) (k : ℕ) (name : String Global) → slice_get xs k ≡ Some name → slice_get (map string_bytes xs) k ≡ Some (string_bytes name)

@@ -6,22 +6,22 @@ use Rattle.problem_file.specs.Questions.{plain_name}
 use Rattle.flow_problem.specs.FlowFacts.{FlowRule, by_assignment, by_order, by_equality, by_three_ways, by_intervals, by_next_number}
 
 -- a space and the name of a test
-abbrev pub and_test : ℕ → List ℕ
-and_test k = codes " " ++ plain_name (Test k)
+abbrev pub conjunction_line : ℕ → List ℕ
+conjunction_line k = codes " " ++ plain_name (Test k)
 
 abbrev pub and_tests : List ℕ → List ℕ
 and_tests [] = []
-and_tests (k ∷ ks) = and_test k ++ and_tests ks
+and_tests (k ∷ ks) = conjunction_line k ++ and_tests ks
 
 abbrev pub two_tests : ℕ → ℕ → List ℕ
-two_tests i j = and_test i ++ and_test j
+two_tests i j = conjunction_line i ++ conjunction_line j
 
 abbrev pub three_tests : ℕ → ℕ → ℕ → List ℕ
-three_tests i j k = and_test i ++ and_test j ++ and_test k
+three_tests i j k = conjunction_line i ++ conjunction_line j ++ conjunction_line k
 
 -- the reason for a hypothesis: the assignment, or the fact with its tests
 abbrev pub reason_text : FlowRule → List ℕ
-reason_text (by_assignment i j) = codes "assign " ++ plain_name (Action i) ++ and_test j
+reason_text (by_assignment i j) = codes "assign " ++ plain_name (Action i) ++ conjunction_line j
 reason_text (by_order i j) = codes "F2" ++ two_tests i j
 reason_text (by_equality i j) = codes "F3" ++ two_tests i j
 reason_text (by_three_ways i j k) = codes "F6" ++ three_tests i j k

@@ -2,15 +2,15 @@
 ghost use Rattle.std.specs.Prelude.{◌≡◌, ◌++◌, true, map, IfOk, OnOk};
 ghost use Rattle.flow_ways.specs.ActionTrees.{set_tree};
 ghost use Rattle.flow_ways.specs.WayTrees.{sorted_form};
-ghost use Rattle.flow_tables.specs.EdgeViews.{flow_action};
+ghost use Rattle.flow_edges.specs.EdgeViews.{flow_action};
 ghost use Rattle.flow_print.specs.NameTables.{names_of};
 ghost use Rattle.flow_print.specs.ActionTexts.{stays_first as is_still_first, target_text, targets_text, value_text, values_text, results_text, action_text};
 
 use crate::forms::put_form;
 use crate::names::{FlowNames, put_variable, sort_width, variable_width};
 use crate::writing::put_comma;
+use flow_edges::FlowAction;
 use flow_forms::FlowForm;
-use flow_tables::FlowAction;
 use flow_ways::SortedForm;
 use kat_model::NoMemory;
 use std::alloc::Global;

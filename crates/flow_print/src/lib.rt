@@ -1,5 +1,6 @@
-//! The text of a flow problem: a problem file with comments that give the comparison of each test, the assignment of each
-//! action, and the reason for each hypothesis.
+//! The problem of two flow graphs as a file with comments.
+//!
+//! The comments give the comparison of each test, the assignment of each action, and the reason for each hypothesis.
 #![tactic(auto)]
 
 mod actions;

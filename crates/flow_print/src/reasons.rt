@@ -3,10 +3,10 @@ ghost use Rattle.std.specs.Prelude.{◌≡◌, ◌∷◌, ◌++◌, [], if◌the
 ghost use Rattle.problem_file.specs.CommentedTexts.{comments_text, commented_hyps};
 ghost use Rattle.problem_file.specs.Questions.{plain_name};
 ghost use Rattle.problem_file.specs.Working.Scopes.{IsPlain};
-ghost use Rattle.flow_questions.specs.HypothesisViews.{flow_rule};
+ghost use Rattle.flow_abstraction.specs.HypothesisViews.{flow_rule};
 ghost use Rattle.flow_print.specs.ReasonTexts.{two_tests, three_tests, reason_text, is_same_reason, is_new as is_new_reason, reason_before, comments_before, comments_from};
 
-use flow_questions::FlowRule;
+use flow_abstraction::FlowRule;
 use kat_model::{NoMemory, Problem};
 use problem_file::put_hyp;
 use std::alloc::Global;

@@ -3,15 +3,15 @@ ghost use Rattle.std.specs.Prelude.{◌≡◌, ◌++◌, map, OnOk};
 ghost use Rattle.std.specs.List.{enumerate_from};
 ghost use Rattle.flow_forms.specs.Comparisons.{comparison_tree};
 ghost use Rattle.problem_file.specs.CommentedTexts.{comment_text, comments_text};
-ghost use Rattle.flow_tables.specs.EdgeViews.{flow_action};
+ghost use Rattle.flow_edges.specs.EdgeViews.{flow_action};
 ghost use Rattle.flow_print.specs.NameTables.{names_of};
 ghost use Rattle.flow_print.specs.FlowTexts.{test_comment, action_comment};
 
 use crate::actions::put_action;
 use crate::comparisons::put_comparison;
 use crate::names::FlowNames;
+use flow_edges::FlowAction;
 use flow_forms::FlowComparison;
-use flow_tables::FlowAction;
 use kat_model::NoMemory;
 use problem_file::{put_action_name, put_test_name};
 use std::alloc::Global;

@@ -2,17 +2,17 @@
 ghost use Rattle.std.specs.Prelude.{◌≡◌, map, IfOk};
 ghost use Rattle.flow_forms.specs.Comparisons.{comparison_tree};
 ghost use Rattle.problem_file.specs.Working.Scopes.{IsPlain};
-ghost use Rattle.flow_tables.specs.EdgeViews.{flow_action};
-ghost use Rattle.flow_questions.specs.HypothesisViews.{flow_rule};
+ghost use Rattle.flow_edges.specs.EdgeViews.{flow_action};
+ghost use Rattle.flow_abstraction.specs.HypothesisViews.{flow_rule};
 ghost use Rattle.flow_print.specs.NameTables.{names_of};
 ghost use Rattle.flow_print.specs.FlowTexts.{flow_text};
 
 use crate::names::FlowNames;
 use crate::reasons::put_hyps;
 use crate::rows::{put_action_comments, put_test_comments};
+use flow_abstraction::FlowRule;
+use flow_edges::FlowAction;
 use flow_forms::FlowComparison;
-use flow_questions::FlowRule;
-use flow_tables::FlowAction;
 use kat_model::{NoMemory, Problem};
 use problem_file::{plain_scope, put_actions, put_goal, put_tests};
 use std::alloc::Global;

@@ -81,54 +81,54 @@ module _ (I : Interpretation) (sorts : List Sort) (tests : List FlowComparisonTr
     no_start vs q acts = subst (λ o. ActsAt I sorts o (ended vs) q) action acts
 
     -- the test says before the action what the comparison says after it
-    abbrev Tells : TestTree → Type 0
-    Tells b = (s : State) → IsState sorts s → truth b (truths s) ≡ comparison_holds I (after s) c
+    abbrev Represents : TestTree → Type 0
+    Represents b = (s : State) → IsState sorts s → truth b (truths s) ≡ comparison_holds I (after s) c
 
-    outside : (b : TestTree) → Tells b → RelatesNone frame (product (test b) (ends_in i j))
-    outside b tells = around_action frame b (complement (prim j)) i never
+    outside : (b : TestTree) → Represents b → RelatesNone frame (product (test b) (ends_in i j))
+    outside b gives = around_action frame b (complement (prim j)) i never
       where
         never : (p q : RunPoint) → IsPoint sorts p → IsTrue (truth b (truths (numbers_at p))) → ActsAt I sorts (slice_get actions i) p q → IsTrue (truth (complement (prim j)) (truths (numbers_at q))) → ⊥
         never (at s) q is t acts u =
-            both_ways (comparison_holds I (after s) c) (sym (after_truth s q acts) ∙ not-true (slice_index_or (truths (numbers_at q)) j false) u) (sym (tells s is) ∙ t)
+            both_ways (comparison_holds I (after s) c) (sym (after_truth s q acts) ∙ not-true (slice_index_or (truths (numbers_at q)) j false) u) (sym (gives s is) ∙ t)
         never (ended vs) q is t acts u = no_start vs q acts
 
-    inside : (b : TestTree) → Tells b → RelatesNone frame (product (test (complement b)) (ends_outside i j))
-    inside b tells = around_action frame (complement b) (prim j) i never
+    inside : (b : TestTree) → Represents b → RelatesNone frame (product (test (complement b)) (ends_outside i j))
+    inside b gives = around_action frame (complement b) (prim j) i never
       where
         never : (p q : RunPoint) → IsPoint sorts p → IsTrue (truth (complement b) (truths (numbers_at p))) → ActsAt I sorts (slice_get actions i) p q → IsTrue (truth (prim j) (truths (numbers_at q))) → ⊥
         never (at s) q is t acts u =
-            both_ways (comparison_holds I (after s) c) (sym (tells s is) ∙ not-true (truth b (truths s)) t) (sym (after_truth s q acts) ∙ u)
+            both_ways (comparison_holds I (after s) c) (sym (gives s is) ∙ not-true (truth b (truths s)) t) (sym (after_truth s q acts) ∙ u)
         never (ended vs) q is t acts u = no_start vs q acts
 
-    both_hold : (b : TestTree) → Tells b → Hold (keeps_test i j b)
-    both_hold b tells =
-        two_hold (by_assignment i j) (product (test b) (ends_in i j)) (product (test (complement b)) (ends_outside i j)) (outside b tells) (inside b tells)
+    both_hold : (b : TestTree) → Represents b → Hold (keeps_test i j b)
+    both_hold b gives =
+        two_hold (by_assignment i j) (product (test b) (ends_in i j)) (product (test (complement b)) (ends_outside i j)) (outside b gives) (inside b gives)
 
     -- a comparison that is decided after the action
     decided_holds : (b : Bool) → ((s : State) → IsState sorts s → b ≡ comparison_holds I (after s) c) → RelatesNone frame (if b then ends_in i j else ends_outside i j)
-    decided_holds true tells = then_test i (complement (prim j)) never
+    decided_holds true gives = then_test i (complement (prim j)) never
       where
         never : (p q : RunPoint) → IsPoint sorts p → ActsAt I sorts (slice_get actions i) p q → IsTrue (truth (complement (prim j)) (truths (numbers_at q))) → ⊥
-        never (at s) q is acts u = both_ways (comparison_holds I (after s) c) (sym (after_truth s q acts) ∙ not-true (slice_index_or (truths (numbers_at q)) j false) u) (sym (tells s is))
+        never (at s) q is acts u = both_ways (comparison_holds I (after s) c) (sym (after_truth s q acts) ∙ not-true (slice_index_or (truths (numbers_at q)) j false) u) (sym (gives s is))
         never (ended vs) q is acts u = no_start vs q acts
-    decided_holds false tells = then_test i (prim j) never
+    decided_holds false gives = then_test i (prim j) never
       where
         never : (p q : RunPoint) → IsPoint sorts p → ActsAt I sorts (slice_get actions i) p q → IsTrue (truth (prim j) (truths (numbers_at q))) → ⊥
-        never (at s) q is acts u = both_ways (comparison_holds I (after s) c) (sym (tells s is)) (sym (after_truth s q acts) ∙ u)
+        never (at s) q is acts u = both_ways (comparison_holds I (after s) c) (sym (gives s is)) (sym (after_truth s q acts) ∙ u)
         never (ended vs) q is acts u = no_start vs q acts
 
     prim_holds : (d : FlowComparisonTree) → ((s : State) → IsState sorts s → comparison_holds I s d ≡ comparison_holds I (after s) c) → (o : Option ℕ) → prim_of tests d ≡ o → Hold (keeps_prim i j o)
-    prim_holds d tells None e = hold_none
-    prim_holds d tells (Some k) e = both_hold (prim k) (λ s is. prim_truth I s tests d k e ∙ tells s is)
+    prim_holds d gives None e = hold_none
+    prim_holds d gives (Some k) e = both_hold (prim k) (λ s is. prim_truth I s tests d k e ∙ gives s is)
 
     complement_holds : (d : FlowComparisonTree) → ((s : State) → IsState sorts s → not (comparison_holds I s d) ≡ comparison_holds I (after s) c) → (o : Option ℕ) → prim_of tests d ≡ o → Hold (keeps_complement i j o)
-    complement_holds d tells None e = hold_none
-    complement_holds d tells (Some k) e = both_hold (complement_of k) (λ s is. ap not (prim_truth I s tests d k e) ∙ tells s is)
+    complement_holds d gives None e = hold_none
+    complement_holds d gives (Some k) e = both_hold (complement_of k) (λ s is. ap not (prim_truth I s tests d k e) ∙ gives s is)
 
     literal_hold : (l : FlowLiteralTree) → ((s : State) → IsState sorts s → literal_holds I s l ≡ comparison_holds I (after s) c) → Hold (keeps_literal tests i j l)
-    literal_hold (decided b) tells = one_holds (by_assignment i j) (if b then ends_in i j else ends_outside i j) (decided_holds b tells)
-    literal_hold (holding d) tells = prim_holds d tells (prim_of tests d) refl
-    literal_hold (failing d) tells = complement_holds d tells (prim_of tests d) refl
+    literal_hold (decided b) gives = one_holds (by_assignment i j) (if b then ends_in i j else ends_outside i j) (decided_holds b gives)
+    literal_hold (holding d) gives = prim_holds d gives (prim_of tests d) refl
+    literal_hold (failing d) gives = complement_holds d gives (prim_of tests d) refl
 
     known_hold : (o : Option FlowLiteralTree) → literal_after sorts os c ≡ o → Hold (keeps_if_known tests i j o)
     known_hold None e = hold_none

@@ -3,7 +3,7 @@ use Rattle.std.proofs.Common.{◌≡◌, ℕ, zero, suc, ◌<◌, ◌⊎◌, inl
 use Rattle.std.proofs.lemmas.Bool.{cases_lt}
 use Rattle.kat_model.specs.Trees.{Term, zero as nought, one, sum, product, star}
 use Rattle.kat_model.specs.Relations.{Frame, Along, RelatesIn}
-use Rattle.flow_problem.specs.Elimination.{is_nought, is_unit, plus, times, repeated, around_place, steps_without, ends_without, eliminated}
+use Rattle.flow_places.specs.Elimination.{is_nought, is_unit, plus, times, repeated, around_place, steps_without, ends_without, eliminated}
 
 nought_is : (e : Term) → is_nought e ≡ true → e ≡ nought
 nought_is nought h = refl

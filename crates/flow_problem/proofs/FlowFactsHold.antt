@@ -25,7 +25,7 @@ use Rattle.kat_model.proofs.RelatesNothing.{RelatesNone, two_tests, three_tests}
 use Rattle.flow_problem.specs.Edges.{FlowActionTree}
 use Rattle.flow_problem.specs.Points.{RunPoint, numbers_at, point_frame}
 use Rattle.flow_problem.specs.Substitutions.{complement_of}
-use Rattle.flow_problem.specs.FlowFacts.{FlowRule, NumberedTest, by_order, by_equality, by_three_ways, by_next_number, fact_where, never_both, is_one_form, are_turned, is_comparison, says_equal, says_less, none_of_three, order_fact, equality_fact, three_way_fact, next_number_fact}
+use Rattle.flow_problem.specs.FlowFacts.{FlowRule, NumberedTest, by_order, by_equality, by_three_ways, by_next_number, fact_where, never_both, is_one_form, are_turned, is_comparison, denotes_equal, denotes_less, none_of_three, order_fact, equality_fact, three_way_fact, next_number_fact}
 use Rattle.flow_forms.proofs.SameComparisons.{one_form, one_comparison}
 use Rattle.flow_problem.proofs.EdgeRelations.{test_there}
 use Rattle.flow_problem.proofs.AssignmentsHold.{Hold, hold_none, one_holds}
@@ -43,8 +43,8 @@ record Turned (v : Width) (d e : FlowFormTree) (w : Width) (f g : FlowFormTree) 
   first : d ≡ g
   second : e ≡ f
 
-turned : (v : Width) (d e : FlowFormTree) (w : Width) (f g : FlowFormTree) → are_turned v d e w f g ≡ true → Turned v d e w f g
-turned v d e w f g h =
+converse : (v : Width) (d e : FlowFormTree) (w : Width) (f g : FlowFormTree) → are_turned v d e w f g ≡ true → Turned v d e w f g
+converse v d e w f g h =
     let a = and_parts (is_same_width v w) (is_one_form d g && is_one_form e f) h in
     let b = and_parts (is_one_form d g) (is_one_form e f) a.1 in
     record { width = same_bits v w a.0; first = one_form d g b.0; second = one_form e f b.1 }
@@ -60,12 +60,12 @@ comparison_is (decided b) c e = absurd cc
 comparison_is (holding d) c e = ap holding (one_comparison d c e)
 comparison_is (failing d) c e = absurd cc
 
-equal_holds : (I : Interpretation) (s : List ℕ) (w : Width) (f g : FlowFormTree) (c : FlowComparisonTree) → says_equal w f g c ≡ true →
+equal_holds : (I : Interpretation) (s : List ℕ) (w : Width) (f g : FlowFormTree) (c : FlowComparisonTree) → denotes_equal w f g c ≡ true →
     comparison_holds I s c ≡ nat_eq (number_at I s w f) (number_at I s w g)
 equal_holds I s w f g c e =
     ap (literal_holds I s) (sym (comparison_is (compared_numbers w Eq f g) c e)) ∙ holds-compared_numbers I s w Eq f g
 
-less_holds : (I : Interpretation) (s : List ℕ) (w : Width) (f g : FlowFormTree) (c : FlowComparisonTree) → says_less w f g c ≡ true →
+less_holds : (I : Interpretation) (s : List ℕ) (w : Width) (f g : FlowFormTree) (c : FlowComparisonTree) → denotes_less w f g c ≡ true →
     comparison_holds I s c ≡ nat_lt (number_at I s w f) (number_at I s w g)
 less_holds I s w f g c e =
     ap (literal_holds I s) (sym (comparison_is (compared_numbers w Lt f g) c e)) ∙ holds-compared_numbers I s w Lt f g
@@ -103,7 +103,7 @@ module _ (I : Interpretation) (sorts : List Sort) (tests : List FlowComparisonTr
     where
       never : (nat_lt i j && are_turned v d e w f g) ≡ true → RelatesNone frame (never_both i j)
       never h =
-          let t = turned v d e w f g (and_parts (nat_lt i j) (are_turned v d e w f g) h).1 in
+          let t = converse v d e w f g (and_parts (nat_lt i j) (are_turned v d e w f g) h).1 in
           two_tests frame (prim i) (prim j)
           (λ x a b.
           let first = ltb-true (number_at I (numbers_at x) w g) (number_at I (numbers_at x) w f) (sym (turned_holds I (numbers_at x) v d e w f g t) ∙ true_at i (less_form v d e) p x a) in
@@ -115,9 +115,9 @@ module _ (I : Interpretation) (sorts : List Sort) (tests : List FlowComparisonTr
   order_fact_holds (i, same_form d e) b p q = hold_none I sorts tests actions
 
   pub equality_fact_holds : (a b : NumberedTest) → IsRow a → IsRow b → Hold I sorts tests actions (equality_fact a b)
-  equality_fact_holds (i, less_form w f g) (j, c) p q = if_holds (says_equal w f g c) (by_equality i j) (never_both i j) never
+  equality_fact_holds (i, less_form w f g) (j, c) p q = if_holds (denotes_equal w f g c) (by_equality i j) (never_both i j) never
     where
-      never : says_equal w f g c ≡ true → RelatesNone frame (never_both i j)
+      never : denotes_equal w f g c ≡ true → RelatesNone frame (never_both i j)
       never h =
           two_tests frame (prim i) (prim j)
           (λ x a b.
@@ -129,12 +129,12 @@ module _ (I : Interpretation) (sorts : List Sort) (tests : List FlowComparisonTr
 
   pub three_way_fact_holds : (a b c : NumberedTest) → IsRow a → IsRow b → IsRow c → Hold I sorts tests actions (three_way_fact a b c)
   three_way_fact_holds (i, less_form v d e) (j, less_form w f g) (k, c) p q r =
-      if_holds ((nat_lt i j && are_turned v d e w f g) && says_equal w f g c) (by_three_ways i j k) (none_of_three (complement_of i) (complement_of j) (complement_of k)) never
+      if_holds ((nat_lt i j && are_turned v d e w f g) && denotes_equal w f g c) (by_three_ways i j k) (none_of_three (complement_of i) (complement_of j) (complement_of k)) never
     where
-      never : ((nat_lt i j && are_turned v d e w f g) && says_equal w f g c) ≡ true → RelatesNone frame (none_of_three (complement_of i) (complement_of j) (complement_of k))
+      never : ((nat_lt i j && are_turned v d e w f g) && denotes_equal w f g c) ≡ true → RelatesNone frame (none_of_three (complement_of i) (complement_of j) (complement_of k))
       never h =
-          let parts = and_parts (nat_lt i j && are_turned v d e w f g) (says_equal w f g c) h in
-          let t = turned v d e w f g (and_parts (nat_lt i j) (are_turned v d e w f g) parts.0).1 in
+          let parts = and_parts (nat_lt i j && are_turned v d e w f g) (denotes_equal w f g c) h in
+          let t = converse v d e w f g (and_parts (nat_lt i j) (are_turned v d e w f g) parts.0).1 in
           three_tests frame (complement (prim i)) (complement (prim j)) (complement (prim k))
           (λ x a b z.
           let first = ltb-false (number_at I (numbers_at x) w g) (number_at I (numbers_at x) w f) (sym (turned_holds I (numbers_at x) v d e w f g t) ∙ false_at i (less_form v d e) p x a) in
@@ -148,11 +148,11 @@ module _ (I : Interpretation) (sorts : List Sort) (tests : List FlowComparisonTr
 
   pub next_number_fact_holds : (a b c : NumberedTest) → IsRow a → IsRow b → IsRow c → Hold I sorts tests actions (next_number_fact a b c)
   next_number_fact_holds (i, less_form w f g) (j, c) (k, d) p q r =
-      if_holds (says_less w (form_sum (modulus w) f (constant 1)) g c && says_equal w (form_sum (modulus w) f (constant 1)) g d) (by_next_number i j k) (none_of_three (prim i) (complement_of j) (complement_of k)) never
+      if_holds (denotes_less w (form_sum (modulus w) f (constant 1)) g c && denotes_equal w (form_sum (modulus w) f (constant 1)) g d) (by_next_number i j k) (none_of_three (prim i) (complement_of j) (complement_of k)) never
     where
-      never : (says_less w (form_sum (modulus w) f (constant 1)) g c && says_equal w (form_sum (modulus w) f (constant 1)) g d) ≡ true → RelatesNone frame (none_of_three (prim i) (complement_of j) (complement_of k))
+      never : (denotes_less w (form_sum (modulus w) f (constant 1)) g c && denotes_equal w (form_sum (modulus w) f (constant 1)) g d) ≡ true → RelatesNone frame (none_of_three (prim i) (complement_of j) (complement_of k))
       never h =
-          let parts = and_parts (says_less w (form_sum (modulus w) f (constant 1)) g c) (says_equal w (form_sum (modulus w) f (constant 1)) g d) h in
+          let parts = and_parts (denotes_less w (form_sum (modulus w) f (constant 1)) g c) (denotes_equal w (form_sum (modulus w) f (constant 1)) g d) h in
           three_tests frame (prim i) (complement (prim j)) (complement (prim k))
           (λ x a b z.
           let first = ltb-true (number_at I (numbers_at x) w f) (number_at I (numbers_at x) w g) (true_at i (less_form w f g) p x a) in

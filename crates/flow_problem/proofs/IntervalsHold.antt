@@ -64,14 +64,14 @@ module _ (I : Interpretation) (s : List ℕ) where
       ap (λ g. polynomial I s g % modulus w) (canonical_other (modulus w) f e) ∙ polynomial-negative I s (modulus w) f (positive w)
 
   -- the interval says what the comparison says
-  abbrev Says : Width → ℕ → ℕ → Interval → Type 0
-  Says w n d x = nat_lt n d ≡ lies_in (modulus x.width) x.arc (number_at I s x.width x.form)
+  abbrev Denotes : Width → ℕ → ℕ → Interval → Type 0
+  Denotes w n d x = nat_lt n d ≡ lies_in (modulus x.width) x.arc (number_at I s x.width x.form)
 
-  sum_says : (w : Width) (f : FlowFormTree) (c d : ℕ) → c < modulus w → d < modulus w → Says w ((number_at I s w f + c) % modulus w) d (interval_of_sum w f c d)
-  sum_says w f c d hc hd = by_test (is_one_form f (canonical (modulus w) f)) refl
+  sum_denotes : (w : Width) (f : FlowFormTree) (c d : ℕ) → c < modulus w → d < modulus w → Denotes w ((number_at I s w f + c) % modulus w) d (interval_of_sum w f c d)
+  sum_denotes w f c d hc hd = by_test (is_one_form f (canonical (modulus w) f)) refl
     where
       by_test : (b : Bool) → is_one_form f (canonical (modulus w) f) ≡ b →
-          Says w ((number_at I s w f + c) % modulus w) d
+          Denotes w ((number_at I s w f + c) % modulus w) d
           (if b
           then record { width = w; form = f; arc = record { start = (modulus w - c) % modulus w; size = d } }
           else record { width = w; form = canonical (modulus w) f; arc = record { start = (c + 1 + (modulus w - d)) % modulus w; size = d } })
@@ -98,31 +98,31 @@ sum_is_arc w f c d hd = by_test (is_one_form f (canonical (modulus w) f))
     by_test false = record { start = mod_below (c + 1 + (modulus w - d)) (modulus w) (positive w); size = below }
 
 -- a comparison that says that a form lies in an arc, in every state
-record Tells (c : FlowComparisonTree) (w : Width) (f : FlowFormTree) (arc : Arc) : Type 0 where
+record Represents (c : FlowComparisonTree) (w : Width) (f : FlowFormTree) (arc : Arc) : Type 0 where
   is_arc : IsArc (modulus w) arc
-  says : (I : Interpretation) (s : List ℕ) → comparison_holds I s c ≡ lies_in (modulus w) arc (number_at I s w f)
+  denotes : (I : Interpretation) (s : List ℕ) → comparison_holds I s c ≡ lies_in (modulus w) arc (number_at I s w f)
 
 abbrev sum_interval : Width → FlowFormTree → ℕ → Interval
 sum_interval w f d = interval_of_sum w (varying_part f) (constant_part f % modulus w) d
 
-below_tells : (w : Width) (f : FlowFormTree) (d : ℕ) (c : FlowComparisonTree) (x : Interval) →
+below_shows : (w : Width) (f : FlowFormTree) (d : ℕ) (c : FlowComparisonTree) (x : Interval) →
     ((I : Interpretation) (s : List ℕ) → d < modulus w → comparison_holds I s c ≡ nat_lt (number_at I s w f) d) →
-    interval_below w f d ≡ Some x → Tells c x.width x.form x.arc
-below_tells w f d c x holds e = by_test (nat_lt d (modulus w)) refl e
+    interval_below w f d ≡ Some x → Represents c x.width x.form x.arc
+below_shows w f d c x holds e = by_test (nat_lt d (modulus w)) refl e
   where
-    tells : d < modulus w → Tells c (sum_interval w f d).width (sum_interval w f d).form (sum_interval w f d).arc
-    tells h = record {
+    gives : d < modulus w → Represents c (sum_interval w f d).width (sum_interval w f d).form (sum_interval w f d).arc
+    gives h = record {
       is_arc = sum_is_arc w (varying_part f) (constant_part f % modulus w) d h;
-      says = λ I s.
+      denotes = λ I s.
           holds I s h
           ∙ ap (λ n. nat_lt n d) (number_parts I s w f)
-          ∙ sum_says I s w (varying_part f) (constant_part f % modulus w) d (mod_below (constant_part f) (modulus w) (positive w)) h;
+          ∙ sum_denotes I s w (varying_part f) (constant_part f % modulus w) d (mod_below (constant_part f) (modulus w) (positive w)) h;
     }
 
-    by_test : (b : Bool) → nat_lt d (modulus w) ≡ b → (if b then Some (sum_interval w f d) else None) ≡ Some x → Tells c x.width x.form x.arc
+    by_test : (b : Bool) → nat_lt d (modulus w) ≡ b → (if b then Some (sum_interval w f d) else None) ≡ Some x → Represents c x.width x.form x.arc
     by_test true h q =
         let same : sum_interval w f d ≡ x = cc in
-        subst (λ (y : Interval). Tells c y.width y.form y.arc) same (tells (ltb-true d (modulus w) h))
+        subst (λ (y : Interval). Represents c y.width y.form y.arc) same (gives (ltb-true d (modulus w) h))
     by_test false h q = absurd cc
 
 zero_below : (n : ℕ) → nat_eq n 0 ≡ nat_lt n 1
@@ -132,26 +132,26 @@ zero_below n = by_cases (cases_Bool (nat_eq n 0))
     by_cases (inl e) = let t : nat_lt n 1 ≡ true = grind (arith, nat_tests) in e ∙ sym t
     by_cases (inr e) = let t : nat_lt n 1 ≡ false = grind (arith, nat_tests) in e ∙ sym t
 
-interval_tells : (c : FlowComparisonTree) (x : Interval) → interval_of c ≡ Some x → Tells c x.width x.form x.arc
-interval_tells (zero_form w f) x e = below_tells w f 1 (zero_form w f) x (λ I s h. zero_below (number_at I s w f)) e
-interval_tells (less_form w f (constant d)) x e =
-    below_tells w f d (less_form w f (constant d)) x (λ I s h. ap (λ n. nat_lt (number_at I s w f) n) (mod-eq_of_lt h)) e
-interval_tells (less_form w f (term t p rest)) x e = absurd cc
-interval_tells (less_form w f one) x e = absurd cc
-interval_tells (less_form w f (factor c rest)) x e = absurd cc
-interval_tells (less_form w f (variable k)) x e = absurd cc
-interval_tells (less_form w f (applied g result args)) x e = absurd cc
-interval_tells (less_form w f (converted signed from to g)) x e = absurd cc
-interval_tells (less_form w f no_arguments) x e = absurd cc
-interval_tells (less_form w f (argument sort g rest)) x e = absurd cc
-interval_tells (same_form f g) x e = absurd cc
+interval_shows : (c : FlowComparisonTree) (x : Interval) → interval_of c ≡ Some x → Represents c x.width x.form x.arc
+interval_shows (zero_form w f) x e = below_shows w f 1 (zero_form w f) x (λ I s h. zero_below (number_at I s w f)) e
+interval_shows (less_form w f (constant d)) x e =
+    below_shows w f d (less_form w f (constant d)) x (λ I s h. ap (λ n. nat_lt (number_at I s w f) n) (mod-eq_of_lt h)) e
+interval_shows (less_form w f (term t p rest)) x e = absurd cc
+interval_shows (less_form w f one) x e = absurd cc
+interval_shows (less_form w f (factor c rest)) x e = absurd cc
+interval_shows (less_form w f (variable k)) x e = absurd cc
+interval_shows (less_form w f (applied g result args)) x e = absurd cc
+interval_shows (less_form w f (converted signed from to g)) x e = absurd cc
+interval_shows (less_form w f no_arguments) x e = absurd cc
+interval_shows (less_form w f (argument sort g rest)) x e = absurd cc
+interval_shows (same_form f g) x e = absurd cc
 
 -- an interval of the same form
-same_tells : (c : FlowComparisonTree) (x y : Interval) → is_same_interval_form x y ≡ true → Tells c y.width y.form y.arc → Tells c x.width x.form y.arc
-same_tells c x y h t =
+same_shows : (c : FlowComparisonTree) (x y : Interval) → is_same_interval_form x y ≡ true → Represents c y.width y.form y.arc → Represents c x.width x.form y.arc
+same_shows c x y h t =
     let parts = and_parts (is_same_width x.width y.width) (is_one_form x.form y.form) h in
-    subst (λ w. Tells c w x.form y.arc) (sym (same_bits x.width y.width parts.0))
-    (subst (λ f. Tells c y.width f y.arc) (sym (one_form x.form y.form parts.1)) t)
+    subst (λ w. Represents c w x.form y.arc) (sym (same_bits x.width y.width parts.0))
+    (subst (λ f. Represents c y.width f y.arc) (sym (one_form x.form y.form parts.1)) t)
 
 -- ---- facts
 
@@ -163,16 +163,16 @@ module _ (I : Interpretation) (sorts : List Sort) (tests : List FlowComparisonTr
   AllHold hs = Hold I sorts tests actions hs
 
   -- a literal that is true at a point puts the number of the form into its arc
-  literal_lies : (i : ℕ) (c : FlowComparisonTree) (w : Width) (f : FlowFormTree) (arc : Arc) (b : Bool) → slice_get tests i ≡ Some c → Tells c w f arc → (p : RunPoint) → IsTrue (truth (literal_test i b) (frame.atom p)) →
+  literal_lies : (i : ℕ) (c : FlowComparisonTree) (w : Width) (f : FlowFormTree) (arc : Arc) (b : Bool) → slice_get tests i ≡ Some c → Represents c w f arc → (p : RunPoint) → IsTrue (truth (literal_test i b) (frame.atom p)) →
       IsArc (modulus w) (literal_arc (modulus w) arc b) × (lies_in (modulus w) (literal_arc (modulus w) arc b) (number_at I (numbers_at p) w f) ≡ true)
-  literal_lies i c w f arc b row tells p t = (
-    literal_is_arc (modulus w) arc b (positive w) tells.is_arc,
-    in_literal (modulus w) arc (number_at I (numbers_at p) w f) b tells.is_arc (number_below I (numbers_at p) w f) (sym (tells.says I (numbers_at p)) ∙ told b t),
+  literal_lies i c w f arc b row gives p t = (
+    literal_is_arc (modulus w) arc b (positive w) gives.is_arc,
+    in_literal (modulus w) arc (number_at I (numbers_at p) w f) b gives.is_arc (number_below I (numbers_at p) w f) (sym (gives.denotes I (numbers_at p)) ∙ given b t),
   )
     where
-      told : (b : Bool) → IsTrue (truth (literal_test i b) (frame.atom p)) → comparison_holds I (numbers_at p) c ≡ b
-      told true t = sym (test_there I (numbers_at p) tests i c row) ∙ t
-      told false t = sym (test_there I (numbers_at p) tests i c row) ∙ not-true (slice_index_or (map (comparison_holds I (numbers_at p)) tests) i false) t
+      given : (b : Bool) → IsTrue (truth (literal_test i b) (frame.atom p)) → comparison_holds I (numbers_at p) c ≡ b
+      given true t = sym (test_there I (numbers_at p) tests i c row) ∙ t
+      given false t = sym (test_there I (numbers_at p) tests i c row) ∙ not-true (slice_index_or (map (comparison_holds I (numbers_at p)) tests) i false) t
 
   abbrev Lies : ℕ → ℕ → Arc → Type 0
   Lies m n arc = IsArc m arc × (lies_in m arc n ≡ true)
@@ -194,7 +194,7 @@ module _ (I : Interpretation) (sorts : List Sort) (tests : List FlowComparisonTr
       each x (inr (inr (inl e))) = subst (Lies m n) e r
       each x (inr (inr (inr k))) = absurd k
 
-  module _ (w : Width) (f : FlowFormTree) (i j : ℕ) (c d : FlowComparisonTree) (a b : Arc) (row_i : slice_get tests i ≡ Some c) (row_j : slice_get tests j ≡ Some d) (tells_c : Tells c w f a) (tells_d : Tells d w f b) where
+  module _ (w : Width) (f : FlowFormTree) (i j : ℕ) (c d : FlowComparisonTree) (a b : Arc) (row_i : slice_get tests i ≡ Some c) (row_j : slice_get tests j ≡ Some d) (shows_c : Represents c w f a) (shows_d : Represents d w f b) where
     pair_holds : (p q : Bool) → AllHold (two_arc_fact (modulus w) i j a b p q)
     pair_holds p q =
         if_holds I sorts tests actions (not (have_common (modulus w) (literal_arc (modulus w) a p ∷ literal_arc (modulus w) b q ∷ []))) (by_intervals (i ∷ j ∷ []))
@@ -206,7 +206,7 @@ module _ (I : Interpretation) (sorts : List Sort) (tests : List FlowComparisonTr
             (λ x s t.
             both_ways (have_common (modulus w) (literal_arc (modulus w) a p ∷ literal_arc (modulus w) b q ∷ [])) (not-true _ h)
             (two_lie (modulus w) (number_at I (numbers_at x) w f) (literal_arc (modulus w) a p) (literal_arc (modulus w) b q) (number_below I (numbers_at x) w f)
-            (literal_lies i c w f a p row_i tells_c x s) (literal_lies j d w f b q row_j tells_d x t)))
+            (literal_lies i c w f a p row_i shows_c x s) (literal_lies j d w f b q row_j shows_d x t)))
 
     pairs_hold : AllHold (two_arc_facts (modulus w) i j a b)
     pairs_hold =
@@ -217,7 +217,7 @@ module _ (I : Interpretation) (sorts : List Sort) (tests : List FlowComparisonTr
         (pair_holds false true))
         (pair_holds false false)
 
-    module _ (k : ℕ) (e : FlowComparisonTree) (z : Arc) (row_k : slice_get tests k ≡ Some e) (tells_e : Tells e w f z) where
+    module _ (k : ℕ) (e : FlowComparisonTree) (z : Arc) (row_k : slice_get tests k ≡ Some e) (shows_e : Represents e w f z) where
       triple_holds : (p q r : Bool) → AllHold (three_arc_fact (modulus w) i j k a b z p q r)
       triple_holds p q r =
           if_holds I sorts tests actions (is_least (modulus w) (literal_arc (modulus w) a p) (literal_arc (modulus w) b q) (literal_arc (modulus w) z r)) (by_intervals (i ∷ j ∷ k ∷ []))
@@ -233,7 +233,7 @@ module _ (I : Interpretation) (sorts : List Sort) (tests : List FlowComparisonTr
               (λ o s t v.
               both_ways (have_common m (literal_arc (modulus w) a p ∷ literal_arc (modulus w) b q ∷ literal_arc (modulus w) z r ∷ [])) (not-true _ third.1)
               (three_lie m (number_at I (numbers_at o) w f) (literal_arc (modulus w) a p) (literal_arc (modulus w) b q) (literal_arc (modulus w) z r) (number_below I (numbers_at o) w f)
-              (literal_lies i c w f a p row_i tells_c o s) (literal_lies j d w f b q row_j tells_d o t) (literal_lies k e w f z r row_k tells_e o v)))
+              (literal_lies i c w f a p row_i shows_c o s) (literal_lies j d w f b q row_j shows_d o t) (literal_lies k e w f z r row_k shows_e o v)))
 
       abbrev at_signs : Bool → Bool → Bool → List FlowHypothesis
       at_signs p q r = three_arc_fact (modulus w) i j k a b z p q r
@@ -276,7 +276,7 @@ module _ (I : Interpretation) (sorts : List Sort) (tests : List FlowComparisonTr
   two_intervals i j c d p q (Some x) None e f = hold_none I sorts tests actions
   two_intervals i j c d p q (Some x) (Some y) e f =
       when (is_same_interval_form x y) (two_arc_facts (modulus x.width) i j x.arc y.arc)
-      (λ h. pairs_hold x.width x.form i j c d x.arc y.arc p q (interval_tells c x e) (same_tells d x y h (interval_tells d y f)))
+      (λ h. pairs_hold x.width x.form i j c d x.arc y.arc p q (interval_shows c x e) (same_shows d x y h (interval_shows d y f)))
 
   pub two_interval_fact_holds : (a b : NumberedTest) → IsRow a → IsRow b → AllHold (two_interval_fact a b)
   two_interval_fact_holds (i, c) (j, d) p q =
@@ -291,7 +291,7 @@ module _ (I : Interpretation) (sorts : List Sort) (tests : List FlowComparisonTr
       when (is_same_interval_form x y && is_same_interval_form x z) (three_arc_facts (modulus x.width) i j k x.arc y.arc z.arc)
       (λ t.
       let parts = and_parts (is_same_interval_form x y) (is_same_interval_form x z) t in
-      triples_hold x.width x.form i j c d x.arc y.arc p q (interval_tells c x f) (same_tells d x y parts.0 (interval_tells d y g)) k e z.arc r (same_tells e x z parts.1 (interval_tells e z h)))
+      triples_hold x.width x.form i j c d x.arc y.arc p q (interval_shows c x f) (same_shows d x y parts.0 (interval_shows d y g)) k e z.arc r (same_shows e x z parts.1 (interval_shows e z h)))
 
   pub three_interval_fact_holds : (a b c : NumberedTest) → IsRow a → IsRow b → IsRow c → AllHold (three_interval_fact a b c)
   three_interval_fact_holds (i, c) (j, d) (k, e) p q r =

@@ -1,16 +1,3 @@
-pub mod RowTerms
-pub mod TermShapes
-pub mod Rounds
-pub mod Walked
-pub mod Reaching
-pub mod CutRuns
-pub mod LiveTests
-pub mod Walks
-pub mod PlaceMarks
-pub mod Marks
-pub mod NodeReads
-pub mod LiveRows
-pub mod Sweeps
 pub mod Eliminations
 pub mod Agreements
 pub mod SameActions

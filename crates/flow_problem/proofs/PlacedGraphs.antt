@@ -3,15 +3,15 @@ use Rattle.std.proofs.Common.{◌≡◌, ℕ, ◌<◌, Bool, true, false, ◌||�
 use Rattle.std.specs.List.{range_with_len}
 use Rattle.std.proofs.lemmas.Bool.{and_from}
 use Rattle.flow_model.specs.Graphs.{Graph}
-use Rattle.flow_problem.specs.Places.{is_reached, is_cut, is_place, places}
-use Rattle.flow_problem.specs.Loops.{entry, HasUncutLoop}
-use Rattle.flow_problem.proofs.CutRuns.{comes_to_end}
-use Rattle.flow_problem.proofs.Reaching.{reached_exactly, place_has}
-use Rattle.flow_problem.proofs.LiveTests.{live_exactly}
-use Rattle.flow_problem.specs.Points.{FlowProblem, AsksOf}
+use Rattle.flow_places.specs.Places.{is_reached, is_cut, is_place, places}
+use Rattle.flow_places.specs.Loops.{entry, HasUncutLoop}
+use Rattle.flow_places.proofs.CutRuns.{comes_to_end}
+use Rattle.flow_places.proofs.Reaching.{reached_exactly, place_has}
+use Rattle.flow_places.proofs.LiveTests.{live_exactly}
+use Rattle.flow_problem.specs.Points.{FlowProblem, IsAbout}
 use Rattle.flow_problem.specs.FlowProblems.{FlowQuestion, MarksGraph, HasMarks}
 use Rattle.flow_problem.specs.PlacedProblems.{graph_marks, pair_marks, IsFlowPair, IsFlowProblem}
-use Rattle.flow_problem.proofs.WholeProblems.{problem_asks}
+use Rattle.flow_problem.proofs.WholeProblems.{problem_is_about}
 
 entry_place : (g : Graph) → 0 < length g → is_place g 0 ≡ true
 entry_place [] h = absurd (omega arith)
@@ -42,5 +42,5 @@ flow_marks q p pair problem = record {
   after_marked = graph_marked q.pair.after pair.after_blocks problem.after_cut;
 }
 
-pub flow_asks : (q : FlowQuestion) (p : FlowProblem) → IsFlowPair q.pair → IsFlowProblem q p → AsksOf q.pair p
-flow_asks q p pair problem = problem_asks q (pair_marks q.pair) p (flow_marks q p pair problem) problem.problem
+pub flow_is_about : (q : FlowQuestion) (p : FlowProblem) → IsFlowPair q.pair → IsFlowProblem q p → IsAbout q.pair p
+flow_is_about q p pair problem = problem_is_about q (pair_marks q.pair) p (flow_marks q p pair problem) problem.problem

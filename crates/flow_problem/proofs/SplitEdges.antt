@@ -96,7 +96,7 @@ module _ (I : Interpretation) (sorts : List Sort) (s : State) where
       first_tests = all_append I s e.tests bs h k;
       second_tests = h;
       target = refl;
-      point = action_same I s sorts is x (test.says I s is (ap (comparison_holds I s) (sym test.comparison) ∙ t)) test.small e.action;
+      point = action_same I s sorts is x (test.denotes I s is (ap (comparison_holds I s) (sym test.comparison) ∙ t)) test.small e.action;
     }
 
     other_edge : (bs : List FlowCondTree) → AllHold I s e.tests → AllHold I s bs → SameEdge I sorts s (edge_where_other bs e) e

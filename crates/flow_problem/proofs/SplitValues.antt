@@ -210,7 +210,7 @@ minus_zero m x d hx z =
 pub record IsTestOf (sorts : List Sort) (c : FlowComparisonTree) (x : CellTest) : Type 0 where
   pub comparison : x.comparison ≡ c
   pub small : x.number < modulus x.width
-  pub says : (I : Interpretation) (s : State) → IsState sorts s → comparison_holds I s c ≡ true → polynomial I s x.cell ≡ x.number
+  pub denotes : (I : Interpretation) (s : State) → IsState sorts s → comparison_holds I s c ≡ true → polynomial I s x.cell ≡ x.number
 
 if_test : (sorts : List Sort) (c : FlowComparisonTree) (b : Bool) (w : Width) (f : FlowFormTree) (d : FlowFormTree) (n : ℕ) (x : CellTest) → Has (cell_test_if b w f d n) x →
     (b ≡ true → IsTestOf sorts c (record { comparison = zero_form w f; width = w; cell = d; number = n })) → IsTestOf sorts c x
@@ -227,7 +227,7 @@ signed_test sorts w t c d x h = by_sign (nat_eq t 1) refl h
     plus e cell = record {
       comparison = refl;
       small = mod_below (modulus w - d % modulus w) (modulus w) (positive w);
-      says = λ I s is z.
+      denotes = λ I s is z.
           let same : polynomial I s c + d ≡ t * (polynomial I s c * 1) + d = rw (e) (omega arith) in
           plus_zero (modulus w) (polynomial I s c) d (cell_below I s sorts w c is cell) (ap (λ n. n % modulus w) same ∙ eqb-true ((t * (polynomial I s c * 1) + d) % modulus w) 0 z);
     }
@@ -237,7 +237,7 @@ signed_test sorts w t c d x h = by_sign (nat_eq t 1) refl h
     minus e cell = record {
       comparison = refl;
       small = mod_below d (modulus w) (positive w);
-      says = λ I s is z.
+      denotes = λ I s is z.
           let same : (modulus w - 1) * polynomial I s c + d ≡ t * (polynomial I s c * 1) + d = ap₂ (λ a b. a * b + d) (sym e) (sym (mul-one (polynomial I s c))) in
           minus_zero (modulus w) (polynomial I s c) d (cell_below I s sorts w c is cell) (ap (λ n. n % modulus w) same ∙ eqb-true ((t * (polynomial I s c * 1) + d) % modulus w) 0 z);
     }

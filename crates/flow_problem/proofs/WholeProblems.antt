@@ -14,7 +14,7 @@ use Rattle.flow_forms.specs.Comparisons.{FlowComparisonTree, is_same_comparison}
 use Rattle.flow_ways.specs.Ways.{Way, ways, AllHold}
 use Rattle.kat_model.proofs.RelatesNothing.{RelatesNone}
 use Rattle.flow_problem.specs.Edges.{FlowActionTree, Edge, Marks, is_idle, is_same_action, edge_of, way_edges}
-use Rattle.flow_problem.specs.Points.{FlowProblem, point_frame, AsksOf}
+use Rattle.flow_problem.specs.Points.{FlowProblem, point_frame, IsAbout}
 use Rattle.flow_problem.specs.EdgeTerms.{edge_comparisons, edge_actions, all_edges}
 use Rattle.flow_problem.specs.Splits.{cell_tests}
 use Rattle.flow_problem.specs.FlowFacts.{FlowHypothesis, NumberedTest, order_fact, equality_fact, three_way_fact, two_interval_fact, three_interval_fact, next_number_fact, for_pairs, for_triples, action_facts, facts_between, flow_hypotheses}
@@ -213,8 +213,8 @@ module _ (q : FlowQuestion) (marks : PairMarks) (has : HasMarks q.pair marks) wh
       refined_ways I sorts s marks.after (ways q.pair.after sorts marks.after.is_place k) (ways_after k) (edges_after q marks k)
       (ways_are I q.pair.after sorts marks.after k s) (edges_refine I sorts s is q.splits table (ways_after k))
 
-  whole_asks : AsksOf q.pair (whole_problem q marks)
-  whole_asks = record {
+  whole_is_about : IsAbout q.pair (whole_problem q marks)
+  whole_is_about = record {
     tests = refl;
     actions = refl;
     hypotheses = λ I h m. terms_relate_none I sorts tests actions h m;
@@ -222,5 +222,5 @@ module _ (q : FlowQuestion) (marks : PairMarks) (has : HasMarks q.pair marks) wh
     right = λ I s is vs. term_of_runs I q.pair.after sorts marks.after has.after_sorted has.after_marked tests actions (edges_after q marks) listed_after (are_after I) s is vs;
   }
 
-pub problem_asks : (q : FlowQuestion) (marks : PairMarks) (p : FlowProblem) → HasMarks q.pair marks → problem_by q marks ≡ Ok p → AsksOf q.pair p
-problem_asks q marks p has e = subst (AsksOf q.pair) (whole_is q marks p e) (whole_asks q marks has)
+pub problem_is_about : (q : FlowQuestion) (marks : PairMarks) (p : FlowProblem) → HasMarks q.pair marks → problem_by q marks ≡ Ok p → IsAbout q.pair p
+problem_is_about q marks p has e = subst (IsAbout q.pair) (whole_is q marks p e) (whole_is_about q marks has)

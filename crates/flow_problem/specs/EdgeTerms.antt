@@ -5,7 +5,7 @@ use Rattle.kat_model.specs.Balanced.{sum_of, product_of}
 use Rattle.flow_forms.specs.Comparisons.{FlowComparisonTree, is_same_comparison}
 use Rattle.flow_ways.specs.Conditions.{FlowCondTree, constantly, atom, negation, both, either}
 use Rattle.flow_problem.specs.Edges.{FlowActionTree, Edge, is_idle, is_same_action}
-use Rattle.flow_problem.specs.Elimination.{eliminated}
+use Rattle.flow_places.specs.Elimination.{eliminated}
 
 -- the comparisons of a condition, from left to right
 abbrev pub comparisons_of : FlowCondTree → List FlowComparisonTree

@@ -100,15 +100,15 @@ is_comparison (holding d) c = is_same_comparison d c
 is_comparison (failing d) c = false
 
 -- whether a test says that two forms of a width are equal
-abbrev pub says_equal : Width → FlowFormTree → FlowFormTree → FlowComparisonTree → Bool
-says_equal w f g c = is_comparison (compared_numbers w Eq f g) c
+abbrev pub denotes_equal : Width → FlowFormTree → FlowFormTree → FlowComparisonTree → Bool
+denotes_equal w f g c = is_comparison (compared_numbers w Eq f g) c
 
-abbrev pub says_less : Width → FlowFormTree → FlowFormTree → FlowComparisonTree → Bool
-says_less w f g c = is_comparison (compared_numbers w Lt f g) c
+abbrev pub denotes_less : Width → FlowFormTree → FlowFormTree → FlowComparisonTree → Bool
+denotes_less w f g c = is_comparison (compared_numbers w Lt f g) c
 
 -- F3: f < g and f == g do not both hold
 abbrev pub equality_fact : NumberedTest → NumberedTest → List FlowHypothesis
-equality_fact (i, less_form w f g) (j, c) = fact_where (says_equal w f g c) (by_equality i j) (never_both i j)
+equality_fact (i, less_form w f g) (j, c) = fact_where (denotes_equal w f g c) (by_equality i j) (never_both i j)
 equality_fact a b = []
 
 abbrev pub none_of_three : TestTree → TestTree → TestTree → Term
@@ -117,14 +117,14 @@ none_of_three a b c = product (test a) (product (test b) (test c))
 -- F6: one of f < g, g < f and f == g holds
 abbrev pub three_way_fact : NumberedTest → NumberedTest → NumberedTest → List FlowHypothesis
 three_way_fact (i, less_form v d e) (j, less_form w f g) (k, c) =
-    fact_where ((nat_lt i j && are_turned v d e w f g) && says_equal w f g c) (by_three_ways i j k)
+    fact_where ((nat_lt i j && are_turned v d e w f g) && denotes_equal w f g c) (by_three_ways i j k)
     (none_of_three (complement_of i) (complement_of j) (complement_of k))
 three_way_fact a b c = []
 
 -- F10: f < g and not f + 1 < g give f + 1 == g
 abbrev pub next_number_fact : NumberedTest → NumberedTest → NumberedTest → List FlowHypothesis
 next_number_fact (i, less_form w f g) (j, c) (k, d) =
-    fact_where (says_less w (form_sum (modulus w) f (constant 1)) g c && says_equal w (form_sum (modulus w) f (constant 1)) g d) (by_next_number i j k)
+    fact_where (denotes_less w (form_sum (modulus w) f (constant 1)) g c && denotes_equal w (form_sum (modulus w) f (constant 1)) g d) (by_next_number i j k)
     (none_of_three (prim i) (complement_of j) (complement_of k))
 next_number_fact a b c = []
 

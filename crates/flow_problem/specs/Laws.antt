@@ -3,18 +3,18 @@ use Rattle.std.specs.Prelude.{◌≡◌, Ok}
 use Rattle.kat_model.specs.Relations.{Same}
 use Rattle.flow_model.specs.Graphs.{Pair}
 use Rattle.flow_model.specs.Agreement.{AgreeAlways}
-use Rattle.flow_problem.specs.Points.{FlowProblem, AsksOf}
+use Rattle.flow_problem.specs.Points.{FlowProblem, IsAbout}
 use Rattle.flow_problem.specs.FlowProblems.{FlowQuestion, PairMarks, HasMarks, problem_by}
 use Rattle.flow_problem.specs.PlacedProblems.{IsFlowPair, IsFlowProblem}
 
 -- where both sides of a problem about two graphs are the same, the graphs always return the same
 abbrev pub SameAgree : Type 0
-SameAgree = (pair : Pair) (p : FlowProblem) → AsksOf pair p → Same p.problem → AgreeAlways pair
+SameAgree = (pair : Pair) (p : FlowProblem) → IsAbout pair p → Same p.problem → AgreeAlways pair
 
 -- the problem of a question is about its graphs
-abbrev pub ProblemsAsk : Type 0
-ProblemsAsk =
-    (q : FlowQuestion) (marks : PairMarks) (p : FlowProblem) → HasMarks q.pair marks → problem_by q marks ≡ Ok p → AsksOf q.pair p
+abbrev pub ProblemsAreAbout : Type 0
+ProblemsAreAbout =
+    (q : FlowQuestion) (marks : PairMarks) (p : FlowProblem) → HasMarks q.pair marks → problem_by q marks ≡ Ok p → IsAbout q.pair p
 
 -- where both sides of a problem with such marks are the same, the graphs always return the same
 abbrev pub MarkedAgree : Type 0

@@ -1,15 +1,5 @@
-pub mod Rows
-pub mod Shapes
-pub mod Walks
-pub mod Places
-pub mod Loops
-pub mod Live
-pub mod Reads
-pub mod Tables
-pub mod PlaceLaws
 pub mod Edges
 pub mod Points
-pub mod Elimination
 pub mod EdgeTerms
 pub mod Substitutions
 pub mod FlowFacts

@@ -2,9 +2,9 @@
 use Rattle.std.specs.Prelude.{◌≡◌, ◌<◌, length, Ok}
 use Rattle.flow_model.specs.Graphs.{Graph, Pair}
 use Rattle.flow_ways.specs.Sorted.{IsSortedGraph}
-use Rattle.flow_problem.specs.Places.{is_place, places}
-use Rattle.flow_problem.specs.Loops.{HasUncutLoop}
-use Rattle.flow_problem.specs.Live.{live}
+use Rattle.flow_places.specs.Places.{is_place, places}
+use Rattle.flow_places.specs.Loops.{HasUncutLoop}
+use Rattle.flow_places.specs.Live.{live}
 use Rattle.flow_problem.specs.Edges.{Marks}
 use Rattle.flow_problem.specs.Points.{FlowProblem}
 use Rattle.flow_problem.specs.FlowProblems.{FlowQuestion, PairMarks, problem_by}

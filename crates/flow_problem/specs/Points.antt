@@ -69,7 +69,7 @@ pub record FlowProblem : Type 0 where
 
 -- the problem asks whether two graphs return the same: its hypotheses hold of all states under all interpretations, and
 -- its sides are terms of the graphs
-pub record AsksOf (pair : Pair) (p : FlowProblem) : Type 0 where
+pub record IsAbout (pair : Pair) (p : FlowProblem) : Type 0 where
   pub tests : p.problem.tests ≡ length p.tests
   pub actions : p.problem.actions ≡ length p.actions
   pub hypotheses : (I : Interpretation) (h : Term) → Has p.problem.hyps h → (s t : RunPoint) → IsPoint pair.sorts s → IsPoint pair.sorts t →

@@ -23,16 +23,16 @@ first_terminal [] = END_OF_TEXT
 first_terminal (m ∷ ms) = if nat_eq m.terminal WIDE_NUMBER then NUMBER else m.terminal
 
 -- the tokens after the matching parenthesis, with n + 1 parentheses open, or none
-abbrev pub after_close : ℕ → List Mark → List Mark
-after_close n [] = []
-after_close zero (m ∷ ms) =
-    if nat_eq m.terminal OPEN_ROUND then after_close 1 ms
+abbrev pub index_after_matching : ℕ → List Mark → List Mark
+index_after_matching n [] = []
+index_after_matching zero (m ∷ ms) =
+    if nat_eq m.terminal OPEN_ROUND then index_after_matching 1 ms
     else if nat_eq m.terminal CLOSE_ROUND then ms
-    else after_close 0 ms
-after_close (suc n) (m ∷ ms) =
-    if nat_eq m.terminal OPEN_ROUND then after_close (suc (suc n)) ms
-    else if nat_eq m.terminal CLOSE_ROUND then after_close n ms
-    else after_close (suc n) ms
+    else index_after_matching 0 ms
+index_after_matching (suc n) (m ∷ ms) =
+    if nat_eq m.terminal OPEN_ROUND then index_after_matching (suc (suc n)) ms
+    else if nat_eq m.terminal CLOSE_ROUND then index_after_matching n ms
+    else index_after_matching (suc n) ms
 
 -- whether a rule begins with a token of terminal `t`
 abbrev pub starts_with : ℕ → Start → Bool
@@ -50,7 +50,7 @@ begins (rule_parts phrase start parts ∷ rules) n t = (nat_eq phrase n && start
 abbrev pub suits : List RuleParts → Start → List Mark → Bool
 suits rules (Take t) ms = nat_eq (first_terminal ms) t
 suits rules (Open t) ms = nat_eq (first_terminal ms) t
-suits rules (Group g) ms = nat_eq (first_terminal ms) OPEN_ROUND && not (begins rules g (first_terminal (after_close 0 (drop 1 ms))))
+suits rules (Group g) ms = nat_eq (first_terminal ms) OPEN_ROUND && not (begins rules g (first_terminal (index_after_matching 0 (drop 1 ms))))
 suits rules Otherwise ms = true
 
 abbrev pub applies : List RuleParts → ℕ → List Mark → RuleParts → Bool

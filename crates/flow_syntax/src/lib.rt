@@ -1,4 +1,6 @@
-//! The syntax of flow graphs: its grammar as data, what its productions mean, and the items that a text spells.
+//! Reads the items of a flow file by a grammar as data.
+//!
+//! The crate has the grammar, what its productions mean, and the items that a text spells.
 //!
 //! The reader takes any such grammar: rules with their first tokens and their parts. It predicts each rule from the next
 //! token (LL(1) parsing, Lewis and Stearns 1968), or, at an opening parenthesis, from the token after the matching one, and

@@ -1,6 +1,6 @@
 //! The reader.
 ghost use Rattle.std.specs.Prelude.{◌≡◌, ◌+◌, List, [], ◌∷◌, ◌++◌, drop, reverse, None, Some, IfOk, IfErr, IfSome, IfNone, OnOk};
-ghost use Rattle.flow_syntax.specs.Rules.{parts_of_rule, parts_of_rules, first_terminal, after_close, starts_with, begins, suits, applies, chosen};
+ghost use Rattle.flow_syntax.specs.Rules.{parts_of_rule, parts_of_rules, first_terminal, index_after_matching, starts_with, begins, suits, applies, chosen};
 ghost use Rattle.flow_syntax.specs.Moves.{state, place_of, mismatch, taking, opening, stepped, move, predicted};
 ghost use Rattle.flow_syntax.specs.Derivations.{Derives, IsReaderFault};
 ghost use Rattle.flow_syntax.specs.Weights.{AreLight};
@@ -49,8 +49,8 @@ fn first_terminal(marks: &[Mark], i: usize) -> usize
 
 // Returns the index after the parenthesis that matches one just before `from`, or the number of tokens if there is none.
 #[tactic(auto, using(crate::proofs::Parentheses::next_drop))]
-fn after_close(marks: &[Mark], from: usize) -> usize
-    ensures { drop result marks.now ≡ after_close 0 (drop from marks.now) }
+fn index_after_matching(marks: &[Mark], from: usize) -> usize
+    ensures { drop result marks.now ≡ index_after_matching 0 (drop from marks.now) }
 {
     let mut open: usize = 0;
     for i in from..marks.len() {
@@ -71,8 +71,8 @@ fn starts_with(terminal: usize, start: Start) -> bool
     ensures { result ≡ starts_with terminal start }
 {
     match start {
-        Start::Take(wanted) => terminal == wanted,
-        Start::Open(wanted) => terminal == wanted,
+        Start::Take(expected) => terminal == expected,
+        Start::Open(expected) => terminal == expected,
         Start::Group(_) => terminal == OPEN_ROUND,
         Start::Otherwise => false,
     }
@@ -91,12 +91,12 @@ fn begins(rules: &[Rule], phrase: usize, terminal: usize) -> bool
 }
 
 fn suits_group(rules: &[Rule], phrase: usize, marks: &[Mark], at: usize) -> bool
-    ensures { result ≡ begins (parts_of_rules rules.now) phrase (first_terminal (after_close 0 (drop 1 (drop at marks.now)))) }
+    ensures { result ≡ begins (parts_of_rules rules.now) phrase (first_terminal (index_after_matching 0 (drop 1 (drop at marks.now)))) }
 {
     match mark_at(marks, at) {
         None => begins(rules, phrase, END_OF_TEXT),
         Some(_) => {
-            let after = after_close(marks, at + 1);
+            let after = index_after_matching(marks, at + 1);
             begins(rules, phrase, first_terminal(marks, after))
         }
     }
@@ -107,8 +107,8 @@ fn suits(rules: &[Rule], start: Start, marks: &[Mark], at: usize) -> bool
     ensures { result ≡ suits (parts_of_rules rules.now) start (drop at marks.now) }
 {
     match start {
-        Start::Take(wanted) => first_terminal(marks, at) == wanted,
-        Start::Open(wanted) => first_terminal(marks, at) == wanted,
+        Start::Take(expected) => first_terminal(marks, at) == expected,
+        Start::Open(expected) => first_terminal(marks, at) == expected,
         Start::Group(phrase) => {
             first_terminal(marks, at) == OPEN_ROUND && !suits_group(rules, phrase, marks, at)
         }
@@ -140,10 +140,10 @@ fn chosen<'a>(
     None
 }
 
-fn mismatch(wanted: usize, mark: Mark) -> TextFault
-    ensures { result ≡ mismatch wanted mark }
+fn mismatch(expected: usize, mark: Mark) -> TextFault
+    ensures { result ≡ mismatch expected mark }
 {
-    if wanted == NUMBER && mark.terminal == WIDE_NUMBER {
+    if expected == NUMBER && mark.terminal == WIDE_NUMBER {
         return TextFault::NumberTooWide(mark.at);
     }
     TextFault::Syntax(mark.at)
@@ -154,17 +154,17 @@ fn take(
     step: Step,
     marks: &[Mark],
     at: usize,
-    wanted: usize,
+    expected: usize,
     depth: usize,
     end: usize,
 ) -> Result<(Step, usize, usize), TextFault>
-    ensures { (ps : List Part) → Makes marks.now ps result (stepped step (λ rest. state depth ps rest) (taking end wanted (drop at marks.now))) }
+    ensures { (ps : List Part) → Makes marks.now ps result (stepped step (λ rest. state depth ps rest) (taking end expected (drop at marks.now))) }
 {
     match mark_at(marks, at) {
         None => Err(TextFault::Syntax(end)),
         Some(mark) => {
-            if mark.terminal != wanted {
-                return Err(mismatch(wanted, mark));
+            if mark.terminal != expected {
+                return Err(mismatch(expected, mark));
             }
             Ok((step, at + 1, depth))
         }
@@ -176,17 +176,17 @@ fn take_opening(
     step: Step,
     marks: &[Mark],
     at: usize,
-    wanted: usize,
+    expected: usize,
     depth: usize,
     end: usize,
 ) -> Result<(Step, usize, usize), TextFault>
-    ensures { (ps : List Part) → Makes marks.now ps result (stepped step (λ rest. state (depth + 1) ps rest) (opening end depth wanted (drop at marks.now))) }
+    ensures { (ps : List Part) → Makes marks.now ps result (stepped step (λ rest. state (depth + 1) ps rest) (opening end depth expected (drop at marks.now))) }
 {
     match mark_at(marks, at) {
         None => Err(TextFault::Syntax(end)),
         Some(mark) => {
-            if mark.terminal != wanted {
-                return Err(mismatch(wanted, mark));
+            if mark.terminal != expected {
+                return Err(mismatch(expected, mark));
             }
             if depth >= MAX_OPEN {
                 return Err(TextFault::TooDeep(mark.at));
@@ -235,8 +235,8 @@ fn start(
 {
     let shift = Step::Shift(number);
     match rule.start {
-        Start::Take(wanted) => take(shift, marks, at, wanted, depth, end),
-        Start::Open(wanted) => take_opening(shift, marks, at, wanted, depth, end),
+        Start::Take(expected) => take(shift, marks, at, expected, depth, end),
+        Start::Open(expected) => take_opening(shift, marks, at, expected, depth, end),
         Start::Group(_) => take_opening(shift, marks, at, OPEN_ROUND, depth, end),
         Start::Otherwise => Ok((Step::Apply(number), at, depth)),
     }
@@ -272,8 +272,8 @@ fn advance(
     ensures value { Makes marks.now (reverse stack.new.items) result (move (parts_of_rules rules.now) end (state depth (part ∷ reverse stack.old.items) (drop at marks.now))) }
 {
     match part {
-        Part::Token(wanted) => take(Step::Match, marks, at, wanted, depth, end),
-        Part::Opening(wanted) => take_opening(Step::Match, marks, at, wanted, depth, end),
+        Part::Token(expected) => take(Step::Match, marks, at, expected, depth, end),
+        Part::Opening(expected) => take_opening(Step::Match, marks, at, expected, depth, end),
         Part::Closing => Ok((Step::Close, at, depth.saturating_sub(1))),
         Part::Phrase(phrase) => match chosen(rules, phrase, marks, at) {
             None => Err(TextFault::Syntax(place_at(marks, at, end))),

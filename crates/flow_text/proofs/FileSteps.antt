@@ -50,8 +50,8 @@ pub ruleset graphs = (graph_made, graph_refused)
 
 -- the file of all items, with their names
 pub file_made : (is : List ItemSyntax) (k : Known) (goal : ℕ × ℕ) (vs fs : List (List ℕ)) (r : Result FlowFile TextFault) → items_known nothing_known is ≡ Ok k → k.goal ≡ Some goal → vs ≡ variable_names is → fs ≡ function_names is → Makes (Unit {0}) file_parts r (with_goal vs fs k (Some goal)) → Makes (Unit {0}) file_parts r (file_of is)
-file_made is k goal vs fs r known wanted variables functions makes =
+file_made is k goal vs fs r known expected variables functions makes =
     subst (Makes (Unit {0}) file_parts r)
-    (ap (with_goal vs fs k) (sym wanted) ∙ ap (λ v. with_goal v fs k k.goal) variables ∙ ap (λ f. with_goal (variable_names is) f k k.goal) functions
+    (ap (with_goal vs fs k) (sym expected) ∙ ap (λ v. with_goal v fs k k.goal) variables ∙ ap (λ f. with_goal (variable_names is) f k k.goal) functions
     ∙ sym (ap (λ (m : Result Known TextFault). m >>= λ l. with_goal (variable_names is) (function_names is) l l.goal) known))
     makes

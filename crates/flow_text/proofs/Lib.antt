@@ -3,7 +3,7 @@ pub mod ScopeLists
 pub mod LastTaken
 pub mod MappedLists
 pub mod Declared
-pub mod WantedStacks
+pub mod ExpectedStacks
 pub mod ResolvedSteps
 pub mod ProgramResults
 pub mod CondSteps

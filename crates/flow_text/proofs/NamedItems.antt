@@ -23,7 +23,7 @@ use Rattle.flow_syntax.specs.Terminals.{spelled_number}
 use Rattle.flow_syntax.proofs.NamedSyntax.{if_named}
 use Rattle.flow_syntax.specs.Syntax.{NodeSyntax, numeral, named, called, converted, operation, ExprSyntax, CondNodeSyntax, always, never, compared, compared_signed, negation, both, either, CondSyntax, StatementSyntax, assign, claim, JumpSyntax, goto, branch, return, abort, BlockSyntax, a_block, ItemSyntax, sorts, function, variables, graph, rounds, split, equal}
 use Rattle.flow_text.specs.Scopes.{FunctionParts, function_parts, ScopeParts, meaning, meaning_in, may_declare, with_sort, with_variable, sorts_declared, variables_declared, sort_meant, sort_or_width, sort_named, width_named, few_parameters, next_parameter, parameters_after, same_sort, may_have_function, may_have_graph, scope_before}
-use Rattle.flow_text.specs.Resolving.{Wanted, operand, second_operand, number_of_width, number_in, with_sort_wanted, variable_in, application_of, function_in, conversion_in, sort_or_u64, sort_of_first, sort_of_sides, node_in, sort_wanted, next_node, nodes_after, expression_of, relation_on, rel_named, width_of_sort, comparison_of, signed_comparison_of, part_of, parts_after, condition_of}
+use Rattle.flow_text.specs.Resolving.{Expected, operand, second_operand, number_of_width, number_in, with_expected_sort, variable_in, application_of, function_in, conversion_in, sort_or_u64, sort_of_first, sort_of_sides, node_in, sort_expected, next_node, nodes_after, expression_of, relation_on, rel_named, width_of_sort, comparison_of, signed_comparison_of, part_of, parts_after, condition_of}
 use Rattle.flow_syntax.specs.Sizes.{nodes_with}
 use Rattle.flow_text.specs.Checking.{is_set, target_of, target_meant, next_target, targets_after, expressions_after, expressions_of, seconds, assigned, statement_of, statements_after, block_or_fault, found, block_names, block_name, returned, jump_of, may_have_block, block_of, next_block, blocks_after, graph_of, GraphSyntax, a_graph, Known, nothing_known, graph_meant, at_most_once, with_nodes, few_rounds, item_known, items_known, sorts_returned, shared_sorts, whole_graph, next_graph, graphs_after, with_goal, file_of}
 
@@ -71,46 +71,46 @@ number_named : (sort : Sort) (t : TokenParts) → IsNamed (number_in sort t)
 number_named (Opaque k) t = tt
 number_named (Number w) t = number_of_width_named w t (spelled_number t)
 
-with_sort_named : (wanted : Sort) (t : TokenParts) (n : ExprNode) (sort : Option Sort) → IsNamed (with_sort_wanted wanted t n sort)
-with_sort_named wanted t n None = tt
-with_sort_named wanted t n (Some sort) = if_named (same_sort sort wanted) _ _ tt tt
+with_sort_named : (expected : Sort) (t : TokenParts) (n : ExprNode) (sort : Option Sort) → IsNamed (with_expected_sort expected t n sort)
+with_sort_named expected t n None = tt
+with_sort_named expected t n (Some sort) = if_named (same_sort sort expected) _ _ tt tt
 
-variable_named : (s : ScopeParts) (wanted : Sort) (t : TokenParts) (m : Option Meaning) → IsNamed (variable_in s wanted t m)
-variable_named s wanted t None = tt
-variable_named s wanted t (Some (Variable k)) = with_sort_named wanted t (node.Variable k) _
-variable_named s wanted t (Some other) = tt
+variable_named : (s : ScopeParts) (expected : Sort) (t : TokenParts) (m : Option Meaning) → IsNamed (variable_in s expected t m)
+variable_named s expected t None = tt
+variable_named s expected t (Some (Variable k)) = with_sort_named expected t (node.Variable k) _
+variable_named s expected t (Some other) = tt
 
-application_named : (wanted : Sort) (t : TokenParts) (count k : ℕ) (f : Option FunctionParts) → IsNamed (application_of wanted t count k f)
-application_named wanted t count k None = tt
-application_named wanted t count k (Some (function_parts result parameters)) = if_named (same_sort result wanted && nat_eq count (length parameters)) _ _ tt tt
+application_named : (expected : Sort) (t : TokenParts) (count k : ℕ) (f : Option FunctionParts) → IsNamed (application_of expected t count k f)
+application_named expected t count k None = tt
+application_named expected t count k (Some (function_parts result parameters)) = if_named (same_sort result expected && nat_eq count (length parameters)) _ _ tt tt
 
-function_named : (s : ScopeParts) (wanted : Sort) (t : TokenParts) (count : ℕ) (m : Option Meaning) → IsNamed (function_in s wanted t count m)
-function_named s wanted t count None = tt
-function_named s wanted t count (Some (Function k)) = application_named wanted t count k _
-function_named s wanted t count (Some other) = tt
+function_named : (s : ScopeParts) (expected : Sort) (t : TokenParts) (count : ℕ) (m : Option Meaning) → IsNamed (function_in s expected t count m)
+function_named s expected t count None = tt
+function_named s expected t count (Some (Function k)) = application_named expected t count k _
+function_named s expected t count (Some other) = tt
 
-conversion_named : (wanted : Sort) (word : TokenParts) (x : Option (Bool × Width)) (sort : Sort) → IsNamed (conversion_in wanted word x sort)
+conversion_named : (expected : Sort) (word : TokenParts) (x : Option (Bool × Width)) (sort : Sort) → IsNamed (conversion_in expected word x sort)
 conversion_named (Number v) word (Some x) (Number from) = if_named (same_sort (Number x.1) (Number v)) _ _ tt tt
-conversion_named wanted word x sort = tt
+conversion_named expected word x sort = tt
 
-node_named : (s : ScopeParts) (wanted : Sort) (ws : List Wanted) (n : NodeSyntax) → IsNamed (node_in s wanted ws n)
-node_named s wanted ws (numeral t) = then_named (number_in wanted t) _ (number_named wanted t) (λ n. tt)
-node_named s wanted ws (named t) = then_named (variable_in s wanted t (meaning_in s t)) _ (variable_named s wanted t (meaning_in s t)) (λ n. tt)
-node_named s wanted ws (called t count) = then_named (function_in s wanted t count (meaning_in s t)) _ (function_named s wanted t count (meaning_in s t)) (λ n. tt)
-node_named s wanted ws (converted word first) =
+node_named : (s : ScopeParts) (expected : Sort) (ws : List Expected) (n : NodeSyntax) → IsNamed (node_in s expected ws n)
+node_named s expected ws (numeral t) = then_named (number_in expected t) _ (number_named expected t) (λ n. tt)
+node_named s expected ws (named t) = then_named (variable_in s expected t (meaning_in s t)) _ (variable_named s expected t (meaning_in s t)) (λ n. tt)
+node_named s expected ws (called t count) = then_named (function_in s expected t count (meaning_in s t)) _ (function_named s expected t count (meaning_in s t)) (λ n. tt)
+node_named s expected ws (converted word first) =
     let sort : Sort = sort_or_u64 (sort_of_first s first) in
-    then_named (conversion_in wanted word (width_named (bytes_of word)) sort) _ (conversion_named wanted word (width_named (bytes_of word)) sort) (λ c. tt)
-node_named s wanted ws (operation o) = tt
+    then_named (conversion_in expected word (width_named (bytes_of word)) sort) _ (conversion_named expected word (width_named (bytes_of word)) sort) (λ c. tt)
+node_named s expected ws (operation o) = tt
 
-sort_wanted_named : (w : Wanted) → IsNamed (sort_wanted w)
-sort_wanted_named (operand sort) = tt
-sort_wanted_named (second_operand o (Opaque k)) = tt
-sort_wanted_named (second_operand o (Number w)) = tt
+sort_expected_named : (w : Expected) → IsNamed (sort_expected w)
+sort_expected_named (operand sort) = tt
+sort_expected_named (second_operand o (Opaque k)) = tt
+sort_expected_named (second_operand o (Number w)) = tt
 
-next_node_named : (s : ScopeParts) (w : Wanted) (ws : List Wanted) (n : NodeSyntax) → IsNamed (next_node s w ws n)
-next_node_named s w ws n = then_named (sort_wanted w) _ (sort_wanted_named w) (λ sort. node_named s sort ws n)
+next_node_named : (s : ScopeParts) (w : Expected) (ws : List Expected) (n : NodeSyntax) → IsNamed (next_node s w ws n)
+next_node_named s w ws n = then_named (sort_expected w) _ (sort_expected_named w) (λ sort. node_named s sort ws n)
 
-nodes_named : (s : ScopeParts) (made : List ExprNode) (ws : List Wanted) (e : ExprSyntax) → IsNamed (nodes_after s made ws e)
+nodes_named : (s : ScopeParts) (made : List ExprNode) (ws : List Expected) (e : ExprSyntax) → IsNamed (nodes_after s made ws e)
 nodes_named s made ws [] = tt
 nodes_named s made [] (n ∷ ns) = tt
 nodes_named s made (w ∷ ws) (n ∷ ns) = then_named (next_node s w ws n) _ (next_node_named s w ws n) (λ x. nodes_named s (made ++ x.0 ∷ []) x.1 ns)
@@ -173,10 +173,10 @@ targets_named : (s : ScopeParts) (made : List (ℕ × Sort)) (ts : List TokenPar
 targets_named s made [] = tt
 targets_named s made (t ∷ ts) = then_named (next_target s made t) _ (target_meant_named s made t (meaning_in s t)) (λ x. targets_named s (made ++ x ∷ []) ts)
 
-expressions_named : (s : ScopeParts) (made : List ExprTree) (wanted : List Sort) (es : List ExprSyntax) → IsNamed (expressions_after s made wanted es)
+expressions_named : (s : ScopeParts) (made : List ExprTree) (expected : List Sort) (es : List ExprSyntax) → IsNamed (expressions_after s made expected es)
 expressions_named s made [] es = tt
-expressions_named s made (sort ∷ wanted) [] = tt
-expressions_named s made (sort ∷ wanted) (e ∷ es) = then_named (expression_of s sort e) _ (expression_named s sort e) (λ x. expressions_named s (made ++ x ∷ []) wanted es)
+expressions_named s made (sort ∷ expected) [] = tt
+expressions_named s made (sort ∷ expected) (e ∷ es) = then_named (expression_of s sort e) _ (expression_named s sort e) (λ x. expressions_named s (made ++ x ∷ []) expected es)
 
 assigned_named : (s : ScopeParts) (targets : List TokenParts) (becomes : TokenParts) (es : List ExprSyntax) → IsNamed (assigned s targets becomes es)
 assigned_named s targets becomes es =
@@ -198,9 +198,9 @@ module _ (s : ScopeParts) (results : Option (List Sort)) (find : List ℕ → Op
   block_or_fault_named t None = tt
   block_or_fault_named t (Some k) = tt
 
-  returned_named : (wanted : Option (List Sort)) (word : TokenParts) (es : List ExprSyntax) → IsNamed (returned s wanted word es)
+  returned_named : (expected : Option (List Sort)) (word : TokenParts) (es : List ExprSyntax) → IsNamed (returned s expected word es)
   returned_named None word es = tt
-  returned_named (Some wanted) word es = if_named (nat_eq (length wanted) (length es)) _ _ (then_named (expressions_of s wanted es) _ (expressions_named s [] wanted es) (λ vs. tt)) tt
+  returned_named (Some expected) word es = if_named (nat_eq (length expected) (length es)) _ _ (then_named (expressions_of s expected es) _ (expressions_named s [] expected es) (λ vs. tt)) tt
 
   jump_named : (j : JumpSyntax) → IsNamed (jump_of s results find j)
   jump_named (goto t) = then_named (block_or_fault t (find (bytes_of t))) _ (block_or_fault_named t (find (bytes_of t))) (λ k. tt)

@@ -14,7 +14,7 @@ use Rattle.flow_syntax.proofs.Leading as leading
 use Rattle.flow_syntax.proofs.Ending.{some_end}
 use Rattle.problem_file.specs.FirstFaults as base
 use Rattle.problem_file.specs.Laws.{HaveOneAnswer}
-use Rattle.problem_file.proofs.TextAnswers.{Tells, one_answer}
+use Rattle.problem_file.proofs.TextAnswers.{Represents, one_answer}
 use Rattle.flow_syntax.specs.declared.phrase.TheConstants.{FILE}
 use Rattle.flow_text.specs.declared.reading.FlowFile.{FlowFile}
 use Rattle.flow_syntax.specs.Terminals.{mark_of}
@@ -36,7 +36,7 @@ pub passing : List Lexeme → Result (Unit {0}) TextFault
 passing ts = Ok tt
 
 abbrev pub HaveTokens : List ℕ → Unit {0} → Type 0
-HaveTokens bytes u = Tells passing bytes u
+HaveTokens bytes u = Represents passing bytes u
 
 pub with_tokens : (bytes : List ℕ) (ms : List TokenParts) → Lexes bytes ms → HaveTokens bytes tt
 unfolding passing
@@ -44,7 +44,7 @@ with_tokens bytes ms lexes = record { parts_of_tokens = ms; lexes = lexes; tests
 
 tokens_or_fault : HaveOneAnswer HaveTokens (base.IsFirstFault passing)
 unfolding passing
-tokens_or_fault = one_answer passing HaveTokens (λ u. u) (record { told = λ bytes u t. t; pass = λ bytes u s. (u, s, refl); named = λ ts. tt })
+tokens_or_fault = one_answer passing HaveTokens (λ u. u) (record { given = λ bytes u t. t; pass = λ bytes u s. (u, s, refl); named = λ ts. tt })
 
 -- ---- tokens spell one list of items
 
@@ -96,7 +96,7 @@ no_early_fault bytes e t f = tokens_or_fault.either bytes tt e t f
 
 pub never_both : (bytes : List ℕ) (f : FlowFileParts) (e : TextFault) → IsFlowText bytes f → FirstFault bytes e → ⊥
 never_both bytes f e t (no_text early) = no_early_fault bytes e (text_has_tokens bytes t.spelled t.spells) (base.no_text early)
-never_both bytes f e t (bad_token at told bad) = no_early_fault bytes e (text_has_tokens bytes t.spelled t.spells) (base.bad_token at told bad)
+never_both bytes f e t (bad_token at given bad) = no_early_fault bytes e (text_has_tokens bytes t.spelled t.spells) (base.bad_token at given bad)
 never_both bytes f e t (wrong_syntax refused) = spells_or_fails bytes t.spelled e t.spells refused
 never_both bytes f e t (wrong_item item) =
     let same : t.spelled ≡ item.spelled = spells_once bytes t.spelled item.spelled t.spells item.spells in
@@ -112,19 +112,19 @@ one_file bytes f g s t =
 
 early_fault : (bytes : List ℕ) (d e : TextFault) → base.IsFirstFault passing bytes d → FirstFault bytes e → d ≡ e
 early_fault bytes d e a (no_text early) = tokens_or_fault.faults bytes d e a (base.no_text early)
-early_fault bytes d e a (bad_token at told bad) = tokens_or_fault.faults bytes d e a (base.bad_token at told bad)
+early_fault bytes d e a (bad_token at given bad) = tokens_or_fault.faults bytes d e a (base.bad_token at given bad)
 early_fault bytes d e a (wrong_syntax refused) = absurd (no_early_fault bytes d (fault_has_tokens bytes e refused) a)
 early_fault bytes d e a (wrong_item item) = absurd (no_early_fault bytes d (text_has_tokens bytes item.spelled item.spells) a)
 
 syntax_fault : (bytes : List ℕ) (d e : TextFault) → HasSyntaxFault bytes d → FirstFault bytes e → d ≡ e
 syntax_fault bytes d e a (no_text early) = sym (early_fault bytes e d (base.no_text early) (wrong_syntax a))
-syntax_fault bytes d e a (bad_token at told bad) = sym (early_fault bytes e d (base.bad_token at told bad) (wrong_syntax a))
+syntax_fault bytes d e a (bad_token at given bad) = sym (early_fault bytes e d (base.bad_token at given bad) (wrong_syntax a))
 syntax_fault bytes d e a (wrong_syntax refused) = fails_once bytes d e a refused
 syntax_fault bytes d e a (wrong_item item) = absurd (spells_or_fails bytes item.spelled d item.spells a)
 
 item_fault : (bytes : List ℕ) (d e : TextFault) → HasItemFault bytes d → FirstFault bytes e → d ≡ e
 item_fault bytes d e a (no_text early) = sym (early_fault bytes e d (base.no_text early) (wrong_item a))
-item_fault bytes d e a (bad_token at told bad) = sym (early_fault bytes e d (base.bad_token at told bad) (wrong_item a))
+item_fault bytes d e a (bad_token at given bad) = sym (early_fault bytes e d (base.bad_token at given bad) (wrong_item a))
 item_fault bytes d e a (wrong_syntax refused) = absurd (spells_or_fails bytes a.spelled e a.spells refused)
 item_fault bytes d e a (wrong_item item) =
     let same : a.spelled ≡ item.spelled = spells_once bytes a.spelled item.spelled a.spells item.spells in
@@ -132,7 +132,7 @@ item_fault bytes d e a (wrong_item item) =
 
 pub one_fault : (bytes : List ℕ) (d e : TextFault) → FirstFault bytes d → FirstFault bytes e → d ≡ e
 one_fault bytes d e (no_text early) y = early_fault bytes d e (base.no_text early) y
-one_fault bytes d e (bad_token at told bad) y = early_fault bytes d e (base.bad_token at told bad) y
+one_fault bytes d e (bad_token at given bad) y = early_fault bytes d e (base.bad_token at given bad) y
 one_fault bytes d e (wrong_syntax refused) y = syntax_fault bytes d e refused y
 one_fault bytes d e (wrong_item item) y = item_fault bytes d e item y
 
@@ -158,7 +158,7 @@ tokens_end bytes ms lexes =
 early_end : (bytes : List ℕ) (e : TextFault) → base.IsFirstFault passing bytes e → FileOrFault bytes
 unfolding passing
 early_end bytes e (base.no_text early) = inr (e, no_text early)
-early_end bytes e (base.bad_token at told bad) = inr (e, bad_token at told bad)
+early_end bytes e (base.bad_token at given bad) = inr (e, bad_token at given bad)
 early_end bytes e (base.refused r) = absurd (no_refusal (length bytes) e r.tests_fail)
   where
     no_refusal : (len : ℕ) (e : TextFault) → base.placing {X = Unit {0}} len (Ok tt) ≡ Err e → ⊥
@@ -175,7 +175,7 @@ file_or_fault bytes =
 
 pub fault_named : (bytes : List ℕ) → FirstFault bytes NoMemory → ⊥
 fault_named bytes (no_text early) = tokens_or_fault.named bytes (base.no_text early)
-fault_named bytes (bad_token at told bad) = tokens_or_fault.named bytes (base.bad_token at told bad)
+fault_named bytes (bad_token at given bad) = tokens_or_fault.named bytes (base.bad_token at given bad)
 fault_named bytes (wrong_syntax refused) = syntax_named rules FILE (map mark_of refused.tokens) (length bytes) refused.refused
 fault_named bytes (wrong_item item) = subst IsNamed item.refused (file_named item.spelled)
 
@@ -184,19 +184,19 @@ have_one_answer = record { some = file_or_fault; either = never_both; values = o
 
 -- ---- the answers of the program
 
-pub bad_told : (bytes : List ℕ) (e : TextFault) → IsFault bytes e → (e ≡ NoMemory) ⊎ FirstFault bytes e
-bad_told bytes NoMemory h = inl refl
-bad_told bytes (BadToken at) h = inr (bad_token at refl h)
-bad_told bytes e h = absurd h
+pub bad_given : (bytes : List ℕ) (e : TextFault) → IsFault bytes e → (e ≡ NoMemory) ⊎ FirstFault bytes e
+bad_given bytes NoMemory h = inl refl
+bad_given bytes (BadToken at) h = inr (bad_token at refl h)
+bad_given bytes e h = absurd h
 
-pub syntax_told : (bytes : List ℕ) (ms : List TokenParts) (e : TextFault) → Lexes bytes ms → IsReaderFault rules FILE (map mark_of ms) (length bytes) e → (e ≡ NoMemory) ⊎ FirstFault bytes e
-syntax_told bytes ms NoMemory lexes h = inl refl
-syntax_told bytes ms e lexes h = inr (wrong_syntax (record { tokens = ms; lexed = lexes; refused = h }))
+pub syntax_given : (bytes : List ℕ) (ms : List TokenParts) (e : TextFault) → Lexes bytes ms → IsReaderFault rules FILE (map mark_of ms) (length bytes) e → (e ≡ NoMemory) ⊎ FirstFault bytes e
+syntax_given bytes ms NoMemory lexes h = inl refl
+syntax_given bytes ms e lexes h = inr (wrong_syntax (record { tokens = ms; lexed = lexes; refused = h }))
 
-pub file_told : (bytes : List ℕ) (ms : List TokenParts) (is : List ItemSyntax) (r : Result FlowFile TextFault) → Lexes bytes ms → AreSpelled ms (length bytes) is → Makes (Unit {0}) file_parts r (file_of is) → Answers bytes r
-file_told bytes ms is (Ok f) lexes s h = record { spelled = is; spells = record { tokens = ms; lexed = lexes; spelled = s }; file = h }
-file_told bytes ms is (Err NoMemory) lexes s h = inl refl
-file_told bytes ms is (Err e) lexes s h = inr (wrong_item (record { spelled = is; spells = record { tokens = ms; lexed = lexes; spelled = s }; refused = h }))
+pub file_given : (bytes : List ℕ) (ms : List TokenParts) (is : List ItemSyntax) (r : Result FlowFile TextFault) → Lexes bytes ms → AreSpelled ms (length bytes) is → Makes (Unit {0}) file_parts r (file_of is) → Answers bytes r
+file_given bytes ms is (Ok f) lexes s h = record { spelled = is; spells = record { tokens = ms; lexed = lexes; spelled = s }; file = h }
+file_given bytes ms is (Err NoMemory) lexes s h = inl refl
+file_given bytes ms is (Err e) lexes s h = inr (wrong_item (record { spelled = is; spells = record { tokens = ms; lexed = lexes; spelled = s }; refused = h }))
 
 -- the text of a file has no first fault
 pub only_memory : (bytes : List ℕ) (f : FlowFileParts) (r : Result FlowFile TextFault) → IsFlowText bytes f → Answers bytes r → IfErr r (λ e. e ≡ NoMemory)

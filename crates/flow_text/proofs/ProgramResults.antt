@@ -36,9 +36,9 @@ pub fault_done : (S T X Y : Type 0) (s : S) (t : T) (r : Result Y TextFault) (fa
 fault_done S T X Y s t r fault m whole is done fails = rw is (at_fault_done S T X Y s t fault m whole done fails)
 
 -- a fault of a program that changes a state, in one that makes a value
-at_fault_told : (T X : Type 0) {V W : Type 0} (f : V → W) (t : T) (fault : TextFault) (m : Result T TextFault) (whole : Result W TextFault) → Does {S = T} {X = X} (Unit {0}) (Err fault) t m → (m ≡ Err fault → whole ≡ Err fault) → Makes (Unit {0}) f (Err fault) whole
-at_fault_told T X f t NoMemory m whole done fails = tt
-at_fault_told T X f t fault m whole done fails = fails done
+at_fault_given : (T X : Type 0) {V W : Type 0} (f : V → W) (t : T) (fault : TextFault) (m : Result T TextFault) (whole : Result W TextFault) → Does {S = T} {X = X} (Unit {0}) (Err fault) t m → (m ≡ Err fault → whole ≡ Err fault) → Makes (Unit {0}) f (Err fault) whole
+at_fault_given T X f t NoMemory m whole done fails = tt
+at_fault_given T X f t fault m whole done fails = fails done
 
-pub fault_told : (T X : Type 0) {V W : Type 0} (f : V → W) (t : T) (r : Result V TextFault) (fault : TextFault) (m : Result T TextFault) (whole : Result W TextFault) → r ≡ Err fault → Does {S = T} {X = X} (Unit {0}) (Err fault) t m → (m ≡ Err fault → whole ≡ Err fault) → Makes (Unit {0}) f r whole
-fault_told T X f t r fault m whole is done fails = rw is (at_fault_told T X f t fault m whole done fails)
+pub fault_given : (T X : Type 0) {V W : Type 0} (f : V → W) (t : T) (r : Result V TextFault) (fault : TextFault) (m : Result T TextFault) (whole : Result W TextFault) → r ≡ Err fault → Does {S = T} {X = X} (Unit {0}) (Err fault) t m → (m ≡ Err fault → whole ≡ Err fault) → Makes (Unit {0}) f r whole
+fault_given T X f t r fault m whole is done fails = rw is (at_fault_given T X f t fault m whole done fails)

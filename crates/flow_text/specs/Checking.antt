@@ -52,11 +52,11 @@ targets_after s before (t ∷ ts) = next_target s before t >>= λ x. targets_aft
 -- the expressions before, and expressions of the sorts that are left, one for each
 abbrev pub expressions_after : ScopeParts → List ExprTree → List Sort → List ExprSyntax → Result (List ExprTree) TextFault
 expressions_after s before [] es = Ok before
-expressions_after s before (sort ∷ wanted) [] = Ok before
-expressions_after s before (sort ∷ wanted) (e ∷ es) = expression_of s sort e >>= λ x. expressions_after s (before ++ x ∷ []) wanted es
+expressions_after s before (sort ∷ expected) [] = Ok before
+expressions_after s before (sort ∷ expected) (e ∷ es) = expression_of s sort e >>= λ x. expressions_after s (before ++ x ∷ []) expected es
 
 abbrev pub expressions_of : ScopeParts → List Sort → List ExprSyntax → Result (List ExprTree) TextFault
-expressions_of s wanted es = expressions_after s [] wanted es
+expressions_of s expected es = expressions_after s [] expected es
 
 abbrev pub firsts : {X Y : Type 0} → List (X × Y) → List X
 firsts xs = map (λ x. x.0) xs

@@ -60,9 +60,9 @@ sort_of_sides s e f = sort_or_u64 (sort_of_first s (first_of (first_name e) (fir
 -- ---- nodes of expressions
 
 -- what is wanted next: an operand of a sort, which is the second one of an operator, or not
-pub data Wanted : Type 0 where
-  operand : (sort : Sort) → Wanted
-  second_operand : (operator : TokenParts) → (sort : Sort) → Wanted
+pub data Expected : Type 0 where
+  operand : (sort : Sort) → Expected
+  second_operand : (operator : TokenParts) → (sort : Sort) → Expected
 
 -- a number where a sort is wanted
 abbrev pub number_of_width : Width → TokenParts → Option ℕ → Result ExprNode TextFault
@@ -73,25 +73,25 @@ abbrev pub number_in : Sort → TokenParts → Result ExprNode TextFault
 number_in (Opaque k) t = sort_fault t
 number_in (Number w) t = number_of_width w t (spelled_number t)
 
-abbrev pub with_sort_wanted : Sort → TokenParts → ExprNode → Option Sort → Result ExprNode TextFault
-with_sort_wanted wanted t n None = unknown t
-with_sort_wanted wanted t n (Some sort) = if same_sort sort wanted then Ok n else sort_fault t
+abbrev pub with_expected_sort : Sort → TokenParts → ExprNode → Option Sort → Result ExprNode TextFault
+with_expected_sort expected t n None = unknown t
+with_expected_sort expected t n (Some sort) = if same_sort sort expected then Ok n else sort_fault t
 
 abbrev pub variable_in : ScopeParts → Sort → TokenParts → Option Meaning → Result ExprNode TextFault
-variable_in s wanted t None = unknown t
-variable_in s wanted t (Some (Variable k)) = with_sort_wanted wanted t (node.Variable k) (slice_get s.variables k)
-variable_in s wanted t (Some other) = sort_fault t
+variable_in s expected t None = unknown t
+variable_in s expected t (Some (Variable k)) = with_expected_sort expected t (node.Variable k) (slice_get s.variables k)
+variable_in s expected t (Some other) = sort_fault t
 
 -- the function of a call with `count` arguments, and the sorts of its parameters
 abbrev pub application_of : Sort → TokenParts → ℕ → ℕ → Option FunctionParts → Result (ExprNode × List Sort) TextFault
-application_of wanted t count k None = unknown t
-application_of wanted t count k (Some (function_parts result parameters)) =
-    if same_sort result wanted && nat_eq count (length parameters) then Ok (node.Applied k result count, parameters) else sort_fault t
+application_of expected t count k None = unknown t
+application_of expected t count k (Some (function_parts result parameters)) =
+    if same_sort result expected && nat_eq count (length parameters) then Ok (node.Applied k result count, parameters) else sort_fault t
 
 abbrev pub function_in : ScopeParts → Sort → TokenParts → ℕ → Option Meaning → Result (ExprNode × List Sort) TextFault
-function_in s wanted t count None = unknown t
-function_in s wanted t count (Some (Function k)) = application_of wanted t count k (slice_get s.functions k)
-function_in s wanted t count (Some other) = sort_fault t
+function_in s expected t count None = unknown t
+function_in s expected t count (Some (Function k)) = application_of expected t count k (slice_get s.functions k)
+function_in s expected t count (Some other) = sort_fault t
 
 -- a conversion of an operand of sort `from`, and the width of the operand
 abbrev pub conversion_in : Sort → TokenParts → Option (Bool × Width) → Sort → Result (ExprNode × Width) TextFault
@@ -110,33 +110,33 @@ operator_in (Number w) text = operator_on w text
 operator_in (Opaque k) text = operator_on W64 text
 
 -- a call with its parameters wanted before `ws`
-abbrev pub with_parameters : List Wanted → Result (ExprNode × List Sort) TextFault → Result (ExprNode × List Wanted) TextFault
+abbrev pub with_parameters : List Expected → Result (ExprNode × List Sort) TextFault → Result (ExprNode × List Expected) TextFault
 with_parameters ws m = m >>= λ f. Ok (f.0, map operand f.1 ++ ws)
 
 -- a conversion with its operand wanted before `ws`
-abbrev pub with_operand : List Wanted → Result (ExprNode × Width) TextFault → Result (ExprNode × List Wanted) TextFault
+abbrev pub with_operand : List Expected → Result (ExprNode × Width) TextFault → Result (ExprNode × List Expected) TextFault
 with_operand ws m = m >>= λ c. Ok (c.0, operand (Number c.1) ∷ ws)
 
 -- a node where a sort is wanted; `ws` is what is wanted after it, and its operands are wanted before that
-abbrev pub node_in : ScopeParts → Sort → List Wanted → NodeSyntax → Result (ExprNode × List Wanted) TextFault
-node_in s wanted ws (numeral t) = number_in wanted t >>= λ n. Ok (n, ws)
-node_in s wanted ws (named t) = variable_in s wanted t (meaning_in s t) >>= λ n. Ok (n, ws)
-node_in s wanted ws (called t count) = with_parameters ws (function_in s wanted t count (meaning_in s t))
-node_in s wanted ws (converted word first) = with_operand ws (conversion_in wanted word (width_named (bytes_of word)) (sort_or_u64 (sort_of_first s first)))
-node_in s wanted ws (operation o) = Ok (operator_in wanted (bytes_of o), operand wanted ∷ second_operand o wanted ∷ ws)
+abbrev pub node_in : ScopeParts → Sort → List Expected → NodeSyntax → Result (ExprNode × List Expected) TextFault
+node_in s expected ws (numeral t) = number_in expected t >>= λ n. Ok (n, ws)
+node_in s expected ws (named t) = variable_in s expected t (meaning_in s t) >>= λ n. Ok (n, ws)
+node_in s expected ws (called t count) = with_parameters ws (function_in s expected t count (meaning_in s t))
+node_in s expected ws (converted word first) = with_operand ws (conversion_in expected word (width_named (bytes_of word)) (sort_or_u64 (sort_of_first s first)))
+node_in s expected ws (operation o) = Ok (operator_in expected (bytes_of o), operand expected ∷ second_operand o expected ∷ ws)
 
 -- the sort that is wanted; before a second operand, an opaque sort has no operators
-abbrev pub sort_wanted : Wanted → Result Sort TextFault
-sort_wanted (operand sort) = Ok sort
-sort_wanted (second_operand o (Opaque k)) = sort_fault o
-sort_wanted (second_operand o (Number w)) = Ok (Number w)
+abbrev pub sort_expected : Expected → Result Sort TextFault
+sort_expected (operand sort) = Ok sort
+sort_expected (second_operand o (Opaque k)) = sort_fault o
+sort_expected (second_operand o (Number w)) = Ok (Number w)
 
 -- the next node, where `w` is wanted
-abbrev pub next_node : ScopeParts → Wanted → List Wanted → NodeSyntax → Result (ExprNode × List Wanted) TextFault
-next_node s w ws n = sort_wanted w >>= λ sort. node_in s sort ws n
+abbrev pub next_node : ScopeParts → Expected → List Expected → NodeSyntax → Result (ExprNode × List Expected) TextFault
+next_node s w ws n = sort_expected w >>= λ sort. node_in s sort ws n
 
 -- the nodes before, and those of an expression for each operand that is wanted
-abbrev pub nodes_after : ScopeParts → List ExprNode → List Wanted → ExprSyntax → Result (List ExprNode) TextFault
+abbrev pub nodes_after : ScopeParts → List ExprNode → List Expected → ExprSyntax → Result (List ExprNode) TextFault
 nodes_after s before ws [] = Ok before
 nodes_after s before [] (n ∷ ns) = Ok before
 nodes_after s before (w ∷ ws) (n ∷ ns) = next_node s w ws n >>= λ x. nodes_after s (before ++ x.0 ∷ []) x.1 ns

@@ -8,7 +8,7 @@ use Rattle.flow_text.specs.declared.meaning.Meaning.{Meaning}
 use Rattle.flow_text.specs.declared.names.Names.{Names}
 use Rattle.flow_text.specs.declared.scope.Function.{Function}
 use Rattle.flow_text.specs.declared.scope.Scope.{Scope}
-use Rattle.flow_text.specs.declared.sight.Sight.{Sight}
+use Rattle.flow_text.specs.declared.visible_names.VisibleNames.{VisibleNames}
 use Rattle.flow_text.specs.Scopes.{FunctionParts, function_parts, ScopeParts}
 
 abbrev pub meanings_of : List (String Global × Meaning) → FinMap (slice_cmp nat_cmp) Meaning
@@ -26,5 +26,5 @@ functions_of fs = map function_of fs
 abbrev pub scope_parts : Scope → ScopeParts
 scope_parts s = record { meanings = names_of s.names; sorts = s.sorts; functions = functions_of s.functions.items; variables = s.variables.items; graphs = s.graphs }
 
-abbrev pub sight_parts : Sight → ScopeParts
+abbrev pub sight_parts : VisibleNames → ScopeParts
 sight_parts s = record { meanings = names_of s.scope.now.names; sorts = s.sorts; functions = functions_of s.functions.now; variables = s.variables.now; graphs = s.graphs }

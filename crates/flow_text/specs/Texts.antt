@@ -42,7 +42,7 @@ pub record HasItemFault (text : List ℕ) (fault : TextFault) : Type 0 where
 -- the first fault of the bytes, in the order in which faults are reported
 pub data FirstFault (bytes : List ℕ) (e : TextFault) : Type 0 where
   no_text : (no : IsNoText bytes e) → FirstFault bytes e
-  bad_token : (at : ℕ) → (told : e ≡ BadToken at) → (bad : FirstBad bytes at) → FirstFault bytes e
+  bad_token : (at : ℕ) → (given : e ≡ BadToken at) → (bad : FirstBad bytes at) → FirstFault bytes e
   wrong_syntax : (refused : HasSyntaxFault bytes e) → FirstFault bytes e
   wrong_item : (refused : HasItemFault bytes e) → FirstFault bytes e
 

@@ -14,7 +14,7 @@ use crate::faults::{name_fault, repeat_fault, sort_fault};
 use crate::meaning::Meaning;
 use crate::resolve_cond::resolve_cond;
 use crate::resolve_expr::resolve_expr;
-use crate::sight::{Sight, sort_at};
+use crate::visible_names::{VisibleNames, sort_at};
 use flow_model::{ExprNode, Sort};
 use flow_syntax::{CondNode, Node, Statement};
 use kat_model::{NoMemory, append};
@@ -49,16 +49,16 @@ fn target_of(
 }
 
 fn next_target(
-    sight: &Sight,
+    visible_names: &VisibleNames,
     before: &[(usize, Sort)],
     name: &Token,
 ) -> Result<(usize, Sort), TextFault>
-    ensures { result ≡ next_target (sight_parts sight.now) before.now (parts_of_token name.now) }
+    ensures { result ≡ next_target (sight_parts visible_names.now) before.now (parts_of_token name.now) }
 {
-    match sight.meaning(name) {
+    match visible_names.meaning(name) {
         None => name_fault(name),
         Some(meaning) => match meaning {
-            Meaning::Variable(k) => target_of(before, name, k, sort_at(sight.variables, k)),
+            Meaning::Variable(k) => target_of(before, name, k, sort_at(visible_names.variables, k)),
             Meaning::SortName(_) => sort_fault(name),
             Meaning::Function(_) => sort_fault(name),
             Meaning::GraphName(_) => sort_fault(name),
@@ -68,13 +68,17 @@ fn next_target(
 
 // Returns the variables that an assignment sets, with their sorts.
 #[tactic(auto, using(flow_syntax::proofs::Stacked::pushes, crate::proofs::Checked::targets, crate::proofs::LastTaken::last))]
-fn targets(alloc: Global, sight: &Sight, names: &[Token]) -> Result<Vec<(usize, Sort)>, TextFault>
-    ensures { Makes (Unit {0}) (λ v. v.items) result (targets_after (sight_parts sight.now) [] (tokens_syntax names.now)) }
+fn targets(
+    alloc: Global,
+    visible_names: &VisibleNames,
+    names: &[Token],
+) -> Result<Vec<(usize, Sort)>, TextFault>
+    ensures { Makes (Unit {0}) (λ v. v.items) result (targets_after (sight_parts visible_names.now) [] (tokens_syntax names.now)) }
 {
     let mut targets = Vec::new(alloc);
     let mut rest = names;
     'names: while let Some((name, _)) = rest.split_last() {
-        let target = next_target(sight, &targets, name)?;
+        let target = next_target(visible_names, &targets, name)?;
         append(&mut targets, target)?;
         rest = &rest[..rest.len() - 1];
     }
@@ -85,11 +89,11 @@ fn targets(alloc: Global, sight: &Sight, names: &[Token]) -> Result<Vec<(usize, 
 #[tactic(auto, using(flow_syntax::proofs::Stacked::pushes, crate::proofs::Checked::expressions, crate::proofs::LastTaken::last))]
 pub(crate) fn resolve_all(
     alloc: Global,
-    sight: &Sight,
+    visible_names: &VisibleNames,
     sorts: &[Sort],
     exprs: &[Vec<Node>],
 ) -> Result<Vec<Vec<ExprNode>>, TextFault>
-    ensures { Makes (Unit {0}) (λ v. values_of v.items) result (expressions_of (sight_parts sight.now) sorts.now (exprs_syntax exprs.now)) }
+    ensures { Makes (Unit {0}) (λ v. values_of v.items) result (expressions_of (sight_parts visible_names.now) sorts.now (exprs_syntax exprs.now)) }
 {
     let mut values = Vec::new(alloc);
     let mut rest = exprs;
@@ -97,7 +101,7 @@ pub(crate) fn resolve_all(
         let Some((expr, _)) = rest.split_last() else {
             return Ok(values);
         };
-        let value = resolve_expr(alloc, sight, *sort, expr)?;
+        let value = resolve_expr(alloc, visible_names, *sort, expr)?;
         append(&mut values, value)?;
         rest = &rest[..rest.len() - 1];
     }
@@ -127,14 +131,14 @@ fn sorts_of(alloc: Global, targets: &[(usize, Sort)]) -> Result<Vec<Sort>, NoMem
 // Returns the assignment of expressions to variables of these sorts.
 fn assignment(
     alloc: Global,
-    sight: &Sight,
+    visible_names: &VisibleNames,
     targets: &[(usize, Sort)],
     exprs: &[Vec<Node>],
 ) -> Result<flow_model::Statement, TextFault>
-    ensures { Makes (Unit {0}) statement_of result (assignment_of (sight_parts sight.now) targets.now (exprs_syntax exprs.now)) }
+    ensures { Makes (Unit {0}) statement_of result (assignment_of (sight_parts visible_names.now) targets.now (exprs_syntax exprs.now)) }
 {
     let sorts = sorts_of(alloc, targets)?;
-    let values = resolve_all(alloc, sight, &sorts, exprs)?;
+    let values = resolve_all(alloc, visible_names, &sorts, exprs)?;
     let variables = variables_of(alloc, targets)?;
     Ok(flow_model::Statement::Assign(variables, values))
 }
@@ -142,41 +146,47 @@ fn assignment(
 #[tactic(auto, using(crate::proofs::Checked::tokens_length, flow_syntax::proofs::NodeLists::exprs_length))]
 fn assign(
     alloc: Global,
-    sight: &Sight,
+    visible_names: &VisibleNames,
     names: &[Token],
     becomes: &Token,
     exprs: &[Vec<Node>],
 ) -> Result<flow_model::Statement, TextFault>
-    ensures { Makes (Unit {0}) statement_of result (assigned (sight_parts sight.now) (tokens_syntax names.now) (parts_of_token becomes.now) (exprs_syntax exprs.now)) }
+    ensures { Makes (Unit {0}) statement_of result (assigned (sight_parts visible_names.now) (tokens_syntax names.now) (parts_of_token becomes.now) (exprs_syntax exprs.now)) }
 {
-    let targets = targets(alloc, sight, names)?;
+    let targets = targets(alloc, visible_names, names)?;
     if names.len() != exprs.len() {
         return sort_fault(becomes);
     }
-    assignment(alloc, sight, &targets, exprs)
+    assignment(alloc, visible_names, &targets, exprs)
 }
 
 fn claim(
     alloc: Global,
-    sight: &Sight,
+    visible_names: &VisibleNames,
     cond: &[CondNode],
 ) -> Result<flow_model::Statement, TextFault>
-    ensures { Makes (Unit {0}) statement_of result (checking.statement_of (sight_parts sight.now) (spelled.claim (cond_syntax cond.now))) }
+    ensures { Makes (Unit {0}) statement_of result (checking.statement_of (sight_parts visible_names.now) (spelled.claim (cond_syntax cond.now))) }
 {
-    let cond = resolve_cond(alloc, sight, cond)?;
+    let cond = resolve_cond(alloc, visible_names, cond)?;
     Ok(flow_model::Statement::Claim(cond))
 }
 
 fn check_statement(
     alloc: Global,
-    sight: &Sight,
+    visible_names: &VisibleNames,
     statement: &Statement,
 ) -> Result<flow_model::Statement, TextFault>
-    ensures { Makes (Unit {0}) statement_of result (checking.statement_of (sight_parts sight.now) (statement_syntax statement.now)) }
+    ensures { Makes (Unit {0}) statement_of result (checking.statement_of (sight_parts visible_names.now) (statement_syntax statement.now)) }
 {
     match statement {
-        Statement::Assign(names, becomes, exprs) => assign(alloc, sight, names, becomes, exprs),
-        Statement::Claim(cond) => claim(alloc, sight, cond),
+        Statement::Assign(names, becomes, exprs) => assign(
+            alloc,
+            visible_names,
+            names,
+            becomes,
+            exprs,
+        ),
+        Statement::Claim(cond) => claim(alloc, visible_names, cond),
     }
 }
 
@@ -184,15 +194,15 @@ fn check_statement(
 #[tactic(auto, using(flow_syntax::proofs::Stacked::pushes, crate::proofs::Checked::statements, crate::proofs::LastTaken::last))]
 pub(crate) fn check_statements(
     alloc: Global,
-    sight: &Sight,
+    visible_names: &VisibleNames,
     statements: &[Statement],
 ) -> Result<Vec<flow_model::Statement>, TextFault>
-    ensures { Makes (Unit {0}) (λ v. map statement_of v.items) result (statements_after (sight_parts sight.now) [] (statements_syntax statements.now)) }
+    ensures { Makes (Unit {0}) (λ v. map statement_of v.items) result (statements_after (sight_parts visible_names.now) [] (statements_syntax statements.now)) }
 {
     let mut checked = Vec::new(alloc);
     let mut rest = statements;
     'statements: while let Some((statement, _)) = rest.split_last() {
-        let statement = check_statement(alloc, sight, statement)?;
+        let statement = check_statement(alloc, visible_names, statement)?;
         append(&mut checked, statement)?;
         rest = &rest[..rest.len() - 1];
     }

@@ -14,7 +14,7 @@ use crate::check::{check_statements, resolve_all};
 use crate::faults::{limit_fault, name_fault, repeat_fault, sort_fault};
 use crate::limits::MAX_BLOCKS;
 use crate::resolve_cond::resolve_cond;
-use crate::sight::Sight;
+use crate::visible_names::VisibleNames;
 use flow_model::{Jump as CheckedJump, Sort};
 use flow_syntax::{Block, CondNode, Jump, Node};
 use kat_model::{NoMemory, append};
@@ -86,33 +86,33 @@ fn may_have_block(names: &BTreeMap<String, usize>, k: usize, name: &Token) -> Re
 #[tactic(auto, using(flow_syntax::proofs::NodeLists::exprs_length))]
 fn return_of(
     alloc: Global,
-    sight: &Sight,
+    visible_names: &VisibleNames,
     sorts: &[Sort],
     word: &Token,
     exprs: &[Vec<Node>],
 ) -> Result<CheckedJump, TextFault>
-    ensures { Makes (Unit {0}) jump_of result (returned (sight_parts sight.now) (Some sorts.now) (parts_of_token word.now) (exprs_syntax exprs.now)) }
+    ensures { Makes (Unit {0}) jump_of result (returned (sight_parts visible_names.now) (Some sorts.now) (parts_of_token word.now) (exprs_syntax exprs.now)) }
 {
     if sorts.len() != exprs.len() {
         return sort_fault(word);
     }
-    let values = resolve_all(alloc, sight, sorts, exprs)?;
+    let values = resolve_all(alloc, visible_names, sorts, exprs)?;
     Ok(CheckedJump::Return(values))
 }
 
 // `results` are the sorts of the results, once they are known.
 fn check_return(
     alloc: Global,
-    sight: &Sight,
+    visible_names: &VisibleNames,
     results: Option<&[Sort]>,
     word: &Token,
     exprs: &[Vec<Node>],
 ) -> Result<CheckedJump, TextFault>
-    ensures { Makes (Unit {0}) jump_of result (returned (sight_parts sight.now) (option_map (λ s. s.now) results.entry) (parts_of_token word.now) (exprs_syntax exprs.now)) }
+    ensures { Makes (Unit {0}) jump_of result (returned (sight_parts visible_names.now) (option_map (λ s. s.now) results.entry) (parts_of_token word.now) (exprs_syntax exprs.now)) }
 {
     match results {
         None => Ok(CheckedJump::Return(Vec::new(alloc))),
-        Some(sorts) => return_of(alloc, sight, sorts, word, exprs),
+        Some(sorts) => return_of(alloc, visible_names, sorts, word, exprs),
     }
 }
 
@@ -125,15 +125,15 @@ fn check_goto(names: &BTreeMap<String, usize>, name: &Token) -> Result<CheckedJu
 
 fn check_branch(
     alloc: Global,
-    sight: &Sight,
+    visible_names: &VisibleNames,
     names: &BTreeMap<String, usize>,
     cond: &[CondNode],
     name: &Token,
     other: &Token,
 ) -> Result<CheckedJump, TextFault>
-    ensures { Makes (Unit {0}) jump_of result (branched (sight_parts sight.now) (get_by_text names.now) (cond_syntax cond.now) (parts_of_token name.now) (parts_of_token other.now)) }
+    ensures { Makes (Unit {0}) jump_of result (branched (sight_parts visible_names.now) (get_by_text names.now) (cond_syntax cond.now) (parts_of_token name.now) (parts_of_token other.now)) }
 {
-    let cond = resolve_cond(alloc, sight, cond)?;
+    let cond = resolve_cond(alloc, visible_names, cond)?;
     let block = block_named(names, name)?;
     let other = block_named(names, other)?;
     Ok(CheckedJump::Branch(cond, block, other))
@@ -141,32 +141,39 @@ fn check_branch(
 
 fn check_jump(
     alloc: Global,
-    sight: &Sight,
+    visible_names: &VisibleNames,
     results: Option<&[Sort]>,
     names: &BTreeMap<String, usize>,
     jump: &Jump,
 ) -> Result<CheckedJump, TextFault>
-    ensures { Makes (Unit {0}) jump_of result (checking.jump_of (sight_parts sight.now) (option_map (λ s. s.now) results.entry) (get_by_text names.now) (jump_syntax jump.now)) }
+    ensures { Makes (Unit {0}) jump_of result (checking.jump_of (sight_parts visible_names.now) (option_map (λ s. s.now) results.entry) (get_by_text names.now) (jump_syntax jump.now)) }
 {
     match jump {
         Jump::Goto(name) => check_goto(names, name),
-        Jump::Branch(cond, name, other) => check_branch(alloc, sight, names, cond, name, other),
-        Jump::Return(word, exprs) => check_return(alloc, sight, results, word, exprs),
+        Jump::Branch(cond, name, other) => check_branch(
+            alloc,
+            visible_names,
+            names,
+            cond,
+            name,
+            other,
+        ),
+        Jump::Return(word, exprs) => check_return(alloc, visible_names, results, word, exprs),
         Jump::Abort => Ok(CheckedJump::Abort),
     }
 }
 
 fn check_block(
     alloc: Global,
-    sight: &Sight,
+    visible_names: &VisibleNames,
     results: Option<&[Sort]>,
     names: &BTreeMap<String, usize>,
     block: &Block,
 ) -> Result<flow_model::Block, TextFault>
-    ensures { Makes (Unit {0}) block_of result (checking.block_of (sight_parts sight.now) (option_map (λ s. s.now) results.entry) (get_by_text names.now) (block_syntax block.now)) }
+    ensures { Makes (Unit {0}) block_of result (checking.block_of (sight_parts visible_names.now) (option_map (λ s. s.now) results.entry) (get_by_text names.now) (block_syntax block.now)) }
 {
-    let statements = check_statements(alloc, sight, &block.statements)?;
-    let jump = check_jump(alloc, sight, results, names, &block.jump)?;
+    let statements = check_statements(alloc, visible_names, &block.statements)?;
+    let jump = check_jump(alloc, visible_names, results, names, &block.jump)?;
     Ok(flow_model::Block {
         is_cut: block.is_cut,
         statements,
@@ -177,32 +184,32 @@ fn check_block(
 // Returns block `k` of a graph.
 fn next_block(
     alloc: Global,
-    sight: &Sight,
+    visible_names: &VisibleNames,
     results: Option<&[Sort]>,
     names: &BTreeMap<String, usize>,
     k: usize,
     block: &Block,
 ) -> Result<flow_model::Block, TextFault>
-    ensures { Makes (Unit {0}) block_of result (next_block (sight_parts sight.now) (option_map (λ s. s.now) results.entry) (get_by_text names.now) k (block_syntax block.now)) }
+    ensures { Makes (Unit {0}) block_of result (next_block (sight_parts visible_names.now) (option_map (λ s. s.now) results.entry) (get_by_text names.now) k (block_syntax block.now)) }
 {
     may_have_block(names, k, &block.name)?;
-    check_block(alloc, sight, results, names, block)
+    check_block(alloc, visible_names, results, names, block)
 }
 
 #[tactic(auto, using(flow_syntax::proofs::Stacked::pushes, crate::proofs::GraphSteps::blocks, crate::proofs::LastTaken::last))]
 fn check_blocks(
     alloc: Global,
-    sight: &Sight,
+    visible_names: &VisibleNames,
     results: Option<&[Sort]>,
     names: &BTreeMap<String, usize>,
     blocks: &[Block],
 ) -> Result<Vec<flow_model::Block>, TextFault>
-    ensures { Makes (Unit {0}) (λ v. graph_of v.items) result (blocks_after (sight_parts sight.now) (option_map (λ s. s.now) results.entry) (get_by_text names.now) [] (blocks_syntax blocks.now)) }
+    ensures { Makes (Unit {0}) (λ v. graph_of v.items) result (blocks_after (sight_parts visible_names.now) (option_map (λ s. s.now) results.entry) (get_by_text names.now) [] (blocks_syntax blocks.now)) }
 {
     let mut checked = Vec::new(alloc);
     let mut rest = blocks;
     'each: while let Some((block, _)) = rest.split_last() {
-        let block = next_block(alloc, sight, results, names, checked.len(), block)?;
+        let block = next_block(alloc, visible_names, results, names, checked.len(), block)?;
         append(&mut checked, block)?;
         rest = &rest[..rest.len() - 1];
     }
@@ -213,12 +220,12 @@ fn check_blocks(
 /// sorts are not known.
 pub(crate) fn check_graph(
     alloc: Global,
-    sight: &Sight,
+    visible_names: &VisibleNames,
     results: Option<&[Sort]>,
     blocks: &[Block],
 ) -> Result<Vec<flow_model::Block>, TextFault>
-    ensures { Makes (Unit {0}) (λ v. graph_of v.items) result (checking.graph_of (sight_parts sight.now) (option_map (λ s. s.now) results.entry) (blocks_syntax blocks.now)) }
+    ensures { Makes (Unit {0}) (λ v. graph_of v.items) result (checking.graph_of (sight_parts visible_names.now) (option_map (λ s. s.now) results.entry) (blocks_syntax blocks.now)) }
 {
     let names = block_names(alloc, blocks)?;
-    check_blocks(alloc, sight, results, &names.numbers, blocks)
+    check_blocks(alloc, visible_names, results, &names.numbers, blocks)
 }

@@ -14,7 +14,7 @@ use crate::faults::{limit_fault, name_fault, repeat_fault, sort_fault};
 use crate::limits::MAX_PARAMETERS;
 use crate::meaning::Meaning;
 use crate::scope::Scope;
-use crate::sight::{sight_of_all, width_named};
+use crate::visible_names::{sight_of_all, width_named};
 use flow_model::Sort;
 use flow_syntax::{Block, Item, nodes_with, spelled_number};
 use kat_model::{MAX_ROUNDS, append};
@@ -198,8 +198,8 @@ impl<'a> Known<'a> {
         ensures { Does (Unit {0}) result (known_parts self.new) (graph_known (known_parts self.old) (parts_of_token word.entry) (parts_of_token name.entry) (blocks_syntax blocks.entry.items)) }
     {
         self.scope.may_have_graph(&name)?;
-        let sight = sight_of_all(&self.scope);
-        let _ = check_graph(self.alloc, &sight, None, &blocks)?;
+        let visible_names = sight_of_all(&self.scope);
+        let _ = check_graph(self.alloc, &visible_names, None, &blocks)?;
         let Some(nodes) = nodes_with(self.nodes, &blocks) else {
             return Err(TextFault::TooLarge(word.at));
         };

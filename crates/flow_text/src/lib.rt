@@ -1,4 +1,6 @@
-//! The text of flow graphs: names, sorts and declarations, and the graphs of a text or its first fault.
+//! The graphs of a flow file with names resolved and sorts checked.
+//!
+//! The result of reading is the graphs of a text with its declarations, or its first fault.
 #![tactic(auto)]
 
 mod check;
@@ -16,7 +18,7 @@ mod resolve_cond;
 mod resolve_expr;
 mod results;
 mod scope;
-mod sight;
+mod visible_names;
 
 pub use laws::have_one_answer;
 pub use limits::{MAX_BLOCKS, MAX_FUNCTIONS, MAX_PARAMETERS, MAX_SORTS, MAX_VARIABLES};

@@ -97,8 +97,8 @@ fn whole_graph(
 ) -> Result<Vec<Block>, TextFault>
     ensures { Makes (Unit {0}) (λ v. graph_of v.items) result (whole_graph (scope_parts scope.now) results.now (graph_syntax graph.now)) }
 {
-    let sight = sight_of(scope, graph);
-    check_graph(alloc, &sight, Some(results), &graph.blocks)
+    let visible_names = sight_of(scope, graph);
+    check_graph(alloc, &visible_names, Some(results), &graph.blocks)
 }
 
 fn next_graph(

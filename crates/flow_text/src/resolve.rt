@@ -2,16 +2,16 @@
 ghost use Rattle.std.specs.Prelude.{◌≡◌, [], ◌∷◌, ◌++◌, map, Ok, Some, IfSome, IfNone, OnOk};
 ghost use Rattle.text_parser.specs.TokenParts.{parts_of_token};
 ghost use Rattle.text_parser.specs.Parsed.{Makes};
-ghost use Rattle.flow_text.specs.Resolving.{operand, second_operand, number_in, number_of_width, with_sort_wanted, application_of, function_in, variable_in, conversion_in, operator_on, operator_in, with_parameters, with_operand, node_in, sort_wanted, next_node, resolved};
+ghost use Rattle.flow_text.specs.Resolving.{operand, second_operand, number_in, number_of_width, with_expected_sort, application_of, function_in, variable_in, conversion_in, operator_on, operator_in, with_parameters, with_operand, node_in, sort_expected, next_node, resolved};
 ghost use Rattle.flow_text.specs.Scopes.{meaning_in, width_named};
 ghost use Rattle.flow_text.specs.ScopeViews.{function_of, sight_parts};
 ghost use Rattle.flow_syntax.specs.SyntaxViews.{node_syntax, expr_syntax};
-ghost use Rattle.flow_text.specs.Working.Wanting.{wanted_syntax, wanted_stack, Gives};
+ghost use Rattle.flow_text.specs.Working.Wanting.{expected_syntax, expected_stack, Gives};
 
 use crate::faults::{name_fault, sort_fault, width_fault};
 use crate::meaning::Meaning;
 use crate::scope::Function;
-use crate::sight::{Sight, function_at, sort_at, sort_or_u64, width_named};
+use crate::visible_names::{VisibleNames, function_at, sort_at, sort_or_u64, width_named};
 use flow_model::{ExprNode, Sort};
 use flow_syntax::{Node, spelled_number};
 use kat_model::{NoMemory, Width, append};
@@ -20,35 +20,35 @@ use text_parser::{TextFault, Token};
 
 /// What is wanted next: an operand of a sort, which is the second one of an operator, or not.
 #[derive(Clone, Copy)]
-pub(crate) enum Wanted<'a> {
+pub(crate) enum Expected<'a> {
     Operand(Sort),
     SecondOperand(Token<'a>, Sort),
 }
 
-#[tactic(auto, using(crate::proofs::WantedStacks::wants))]
-fn push_wanted<'a>(stack: &mut Vec<Wanted<'a>>, wanted: Wanted<'a>) -> Result<(), NoMemory>
-    ensures { OnOk result (wanted_stack stack.new.items ≡ wanted_syntax wanted.entry ∷ wanted_stack stack.old.items) }
+#[tactic(auto, using(crate::proofs::ExpectedStacks::expects))]
+fn push_expected<'a>(stack: &mut Vec<Expected<'a>>, expected: Expected<'a>) -> Result<(), NoMemory>
+    ensures { OnOk result (expected_stack stack.new.items ≡ expected_syntax expected.entry ∷ expected_stack stack.old.items) }
 {
-    append(stack, wanted)
+    append(stack, expected)
 }
 
-fn push_operand(stack: &mut Vec<Wanted>, sort: Sort) -> Result<(), NoMemory>
-    ensures { OnOk result (wanted_stack stack.new.items ≡ operand sort ∷ wanted_stack stack.old.items) }
+fn push_operand(stack: &mut Vec<Expected>, sort: Sort) -> Result<(), NoMemory>
+    ensures { OnOk result (expected_stack stack.new.items ≡ operand sort ∷ expected_stack stack.old.items) }
 {
-    push_wanted(stack, Wanted::Operand(sort))
+    push_expected(stack, Expected::Operand(sort))
 }
 
-#[tactic(auto, using(crate::proofs::WantedStacks::wants))]
-fn pop_wanted<'a>(stack: &mut Vec<Wanted<'a>>) -> Option<Wanted<'a>>
-    ensures some { IfSome result (λ wanted. wanted_stack stack.old.items ≡ wanted_syntax wanted ∷ wanted_stack stack.new.items) }
-    ensures none { IfNone result (wanted_stack stack.old.items ≡ []) }
+#[tactic(auto, using(crate::proofs::ExpectedStacks::expects))]
+fn pop_expected<'a>(stack: &mut Vec<Expected<'a>>) -> Option<Expected<'a>>
+    ensures some { IfSome result (λ expected. expected_stack stack.old.items ≡ expected_syntax expected ∷ expected_stack stack.new.items) }
+    ensures none { IfNone result (expected_stack stack.old.items ≡ []) }
 {
     stack.pop()
 }
 
 // Pushes operands of these sorts, of which the first is wanted next.
-fn push_operands(stack: &mut Vec<Wanted>, sorts: &[Sort]) -> Result<(), NoMemory>
-    ensures { OnOk result (wanted_stack stack.new.items ≡ map operand sorts.now ++ wanted_stack stack.old.items) }
+fn push_operands(stack: &mut Vec<Expected>, sorts: &[Sort]) -> Result<(), NoMemory>
+    ensures { OnOk result (expected_stack stack.new.items ≡ map operand sorts.now ++ expected_stack stack.old.items) }
 {
     let mut left = sorts.len();
     'sorts: while left > 0 {
@@ -58,12 +58,12 @@ fn push_operands(stack: &mut Vec<Wanted>, sorts: &[Sort]) -> Result<(), NoMemory
     Ok(())
 }
 
-fn sort_wanted(wanted: Wanted) -> Result<Sort, TextFault>
-    ensures { result ≡ sort_wanted (wanted_syntax wanted.entry) }
+fn sort_expected(expected: Expected) -> Result<Sort, TextFault>
+    ensures { result ≡ sort_expected (expected_syntax expected.entry) }
 {
-    match wanted {
-        Wanted::Operand(sort) => Ok(sort),
-        Wanted::SecondOperand(operator, sort) => match sort {
+    match expected {
+        Expected::Operand(sort) => Ok(sort),
+        Expected::SecondOperand(operator, sort) => match sort {
             Sort::Opaque(_) => sort_fault(&operator),
             Sort::Number(width) => Ok(Sort::Number(width)),
         },
@@ -85,28 +85,28 @@ fn number_of_width(width: Width, token: &Token, number: Option<u64>) -> Result<E
     }
 }
 
-fn number_in(wanted: Sort, token: &Token) -> Result<ExprNode, TextFault>
-    ensures { result ≡ number_in wanted (parts_of_token token.now) }
+fn number_in(expected: Sort, token: &Token) -> Result<ExprNode, TextFault>
+    ensures { result ≡ number_in expected (parts_of_token token.now) }
 {
-    match wanted {
+    match expected {
         Sort::Opaque(_) => sort_fault(token),
         Sort::Number(width) => number_of_width(width, token, spelled_number(token)),
     }
 }
 
 // Returns a variable, which has a sort if it is declared.
-fn with_sort_wanted(
-    wanted: Sort,
+fn with_expected_sort(
+    expected: Sort,
     token: &Token,
     variable: usize,
     sort: Option<Sort>,
 ) -> Result<ExprNode, TextFault>
-    ensures { result ≡ with_sort_wanted wanted (parts_of_token token.now) (ExprNode.Variable variable) sort }
+    ensures { result ≡ with_expected_sort expected (parts_of_token token.now) (ExprNode.Variable variable) sort }
 {
     match sort {
         None => name_fault(token),
         Some(sort) => {
-            if sort == wanted {
+            if sort == expected {
                 Ok(ExprNode::Variable(variable))
             } else {
                 sort_fault(token)
@@ -115,13 +115,22 @@ fn with_sort_wanted(
     }
 }
 
-fn variable_in(sight: &Sight, wanted: Sort, token: &Token) -> Result<ExprNode, TextFault>
-    ensures { result ≡ variable_in (sight_parts sight.now) wanted (parts_of_token token.now) (meaning_in (sight_parts sight.now) (parts_of_token token.now)) }
+fn variable_in(
+    visible_names: &VisibleNames,
+    expected: Sort,
+    token: &Token,
+) -> Result<ExprNode, TextFault>
+    ensures { result ≡ variable_in (sight_parts visible_names.now) expected (parts_of_token token.now) (meaning_in (sight_parts visible_names.now) (parts_of_token token.now)) }
 {
-    match sight.meaning(token) {
+    match visible_names.meaning(token) {
         None => name_fault(token),
         Some(meaning) => match meaning {
-            Meaning::Variable(k) => with_sort_wanted(wanted, token, k, sort_at(sight.variables, k)),
+            Meaning::Variable(k) => with_expected_sort(
+                expected,
+                token,
+                k,
+                sort_at(visible_names.variables, k),
+            ),
             Meaning::SortName(_) => sort_fault(token),
             Meaning::Function(_) => sort_fault(token),
             Meaning::GraphName(_) => sort_fault(token),
@@ -131,16 +140,16 @@ fn variable_in(sight: &Sight, wanted: Sort, token: &Token) -> Result<ExprNode, T
 
 // Returns the call of a function with `count` arguments, and pushes its parameters.
 fn apply_function(
-    wanted: Sort,
+    expected: Sort,
     token: &Token,
     count: usize,
     k: usize,
     function: &Function,
-    stack: &mut Vec<Wanted>,
+    stack: &mut Vec<Expected>,
 ) -> Result<ExprNode, TextFault>
-    ensures { Gives result (wanted_stack stack.new.items) (with_parameters (wanted_stack stack.old.items) (application_of wanted (parts_of_token token.now) count k (Some (function_of function.now)))) }
+    ensures { Gives result (expected_stack stack.new.items) (with_parameters (expected_stack stack.old.items) (application_of expected (parts_of_token token.now) count k (Some (function_of function.now)))) }
 {
-    if function.result_sort == wanted && count == function.parameters.len() {
+    if function.result_sort == expected && count == function.parameters.len() {
         push_operands(stack, &function.parameters)?;
         return Ok(ExprNode::Applied(k, function.result_sort, count));
     }
@@ -148,20 +157,20 @@ fn apply_function(
 }
 
 fn function_in(
-    sight: &Sight,
-    wanted: Sort,
+    visible_names: &VisibleNames,
+    expected: Sort,
     token: &Token,
     count: usize,
-    stack: &mut Vec<Wanted>,
+    stack: &mut Vec<Expected>,
 ) -> Result<ExprNode, TextFault>
-    ensures { Gives result (wanted_stack stack.new.items) (with_parameters (wanted_stack stack.old.items) (function_in (sight_parts sight.now) wanted (parts_of_token token.now) count (meaning_in (sight_parts sight.now) (parts_of_token token.now)))) }
+    ensures { Gives result (expected_stack stack.new.items) (with_parameters (expected_stack stack.old.items) (function_in (sight_parts visible_names.now) expected (parts_of_token token.now) count (meaning_in (sight_parts visible_names.now) (parts_of_token token.now)))) }
 {
-    match sight.meaning(token) {
+    match visible_names.meaning(token) {
         None => name_fault(token),
         Some(meaning) => match meaning {
-            Meaning::Function(k) => match function_at(sight.functions, k) {
+            Meaning::Function(k) => match function_at(visible_names.functions, k) {
                 None => name_fault(token),
-                Some(function) => apply_function(wanted, token, count, k, function, stack),
+                Some(function) => apply_function(expected, token, count, k, function, stack),
             },
             Meaning::SortName(_) => sort_fault(token),
             Meaning::Variable(_) => sort_fault(token),
@@ -172,19 +181,19 @@ fn function_in(
 
 // Returns the conversion and the width of its operand.
 fn conversion_in(
-    wanted: Sort,
+    expected: Sort,
     token: &Token,
     word: Option<(bool, Width)>,
     operand: Sort,
 ) -> Result<(ExprNode, Width), TextFault>
-    ensures { result ≡ conversion_in wanted (parts_of_token token.now) word operand }
+    ensures { result ≡ conversion_in expected (parts_of_token token.now) word operand }
 {
     match word {
         None => sort_fault(token),
         Some((signed, to)) => match operand {
             Sort::Opaque(_) => sort_fault(token),
             Sort::Number(from) => {
-                if Sort::Number(to) == wanted {
+                if Sort::Number(to) == expected {
                     Ok((ExprNode::Converted(signed, from, to), from))
                 } else {
                     sort_fault(token)
@@ -204,10 +213,10 @@ fn operator_on(width: Width, text: &str) -> ExprNode
     }
 }
 
-fn operator_in(wanted: Sort, text: &str) -> ExprNode
-    ensures { result ≡ operator_in wanted text.now }
+fn operator_in(expected: Sort, text: &str) -> ExprNode
+    ensures { result ≡ operator_in expected text.now }
 {
-    match wanted {
+    match expected {
         Sort::Number(width) => operator_on(width, text),
         Sort::Opaque(_) => operator_on(Width::W64, text),
     }
@@ -215,83 +224,83 @@ fn operator_in(wanted: Sort, text: &str) -> ExprNode
 
 // Returns the conversion of an operand of this sort, and pushes the operand.
 fn convert(
-    wanted: Sort,
+    expected: Sort,
     word: &Token,
     sort: Sort,
-    stack: &mut Vec<Wanted>,
+    stack: &mut Vec<Expected>,
 ) -> Result<ExprNode, TextFault>
-    ensures { Gives result (wanted_stack stack.new.items) (with_operand (wanted_stack stack.old.items) (conversion_in wanted (parts_of_token word.now) (width_named word.now.text.now) sort)) }
+    ensures { Gives result (expected_stack stack.new.items) (with_operand (expected_stack stack.old.items) (conversion_in expected (parts_of_token word.now) (width_named word.now.text.now) sort)) }
 {
-    let (made, from) = conversion_in(wanted, word, width_named(word.text), sort)?;
+    let (made, from) = conversion_in(expected, word, width_named(word.text), sort)?;
     push_operand(stack, Sort::Number(from))?;
     Ok(made)
 }
 
 // Returns the operator, and pushes its operands.
 fn operate<'a>(
-    wanted: Sort,
+    expected: Sort,
     operator: &Token<'a>,
-    stack: &mut Vec<Wanted<'a>>,
+    stack: &mut Vec<Expected<'a>>,
 ) -> Result<ExprNode, TextFault>
-    ensures { Gives result (wanted_stack stack.new.items) (Ok (operator_in wanted operator.now.text.now, operand wanted ∷ second_operand (parts_of_token operator.now) wanted ∷ wanted_stack stack.old.items)) }
+    ensures { Gives result (expected_stack stack.new.items) (Ok (operator_in expected operator.now.text.now, operand expected ∷ second_operand (parts_of_token operator.now) expected ∷ expected_stack stack.old.items)) }
 {
-    push_wanted(stack, Wanted::SecondOperand(*operator, wanted))?;
-    push_operand(stack, wanted)?;
-    Ok(operator_in(wanted, operator.text))
+    push_expected(stack, Expected::SecondOperand(*operator, expected))?;
+    push_operand(stack, expected)?;
+    Ok(operator_in(expected, operator.text))
 }
 
 // Returns the node where a sort is wanted, and pushes what is wanted of its operands.
 fn node_in<'a>(
-    sight: &Sight,
-    wanted: Sort,
+    visible_names: &VisibleNames,
+    expected: Sort,
     node: &Node<'a>,
-    stack: &mut Vec<Wanted<'a>>,
+    stack: &mut Vec<Expected<'a>>,
 ) -> Result<ExprNode, TextFault>
-    ensures { Gives result (wanted_stack stack.new.items) (node_in (sight_parts sight.now) wanted (wanted_stack stack.old.items) (node_syntax node.now)) }
+    ensures { Gives result (expected_stack stack.new.items) (node_in (sight_parts visible_names.now) expected (expected_stack stack.old.items) (node_syntax node.now)) }
 {
     match node {
-        Node::Numeral(token) => number_in(wanted, token),
-        Node::Named(name) => variable_in(sight, wanted, name),
-        Node::Called(name, count) => function_in(sight, wanted, name, *count, stack),
+        Node::Numeral(token) => number_in(expected, token),
+        Node::Named(name) => variable_in(visible_names, expected, name),
+        Node::Called(name, count) => function_in(visible_names, expected, name, *count, stack),
         Node::Converted(word, first) => {
-            let sort = sort_or_u64(sight.sort_of_first(first));
-            convert(wanted, word, sort, stack)
+            let sort = sort_or_u64(visible_names.sort_of_first(first));
+            convert(expected, word, sort, stack)
         }
-        Node::Operation(operator) => operate(wanted, operator, stack),
+        Node::Operation(operator) => operate(expected, operator, stack),
     }
 }
 
 fn next_node<'a>(
-    sight: &Sight,
-    wanted: Wanted<'a>,
+    visible_names: &VisibleNames,
+    expected: Expected<'a>,
     node: &Node<'a>,
-    stack: &mut Vec<Wanted<'a>>,
+    stack: &mut Vec<Expected<'a>>,
 ) -> Result<ExprNode, TextFault>
-    ensures { Gives result (wanted_stack stack.new.items) (next_node (sight_parts sight.now) (wanted_syntax wanted.entry) (wanted_stack stack.old.items) (node_syntax node.now)) }
+    ensures { Gives result (expected_stack stack.new.items) (next_node (sight_parts visible_names.now) (expected_syntax expected.entry) (expected_stack stack.old.items) (node_syntax node.now)) }
 {
-    let sort = sort_wanted(wanted)?;
-    node_in(sight, sort, node, stack)
+    let sort = sort_expected(expected)?;
+    node_in(visible_names, sort, node, stack)
 }
 
 /// Returns the expression with its names resolved, where a sort is wanted, or its first fault in text order.
-#[tactic(auto, using(flow_syntax::proofs::Stacked::pushes, crate::proofs::WantedStacks::wants, crate::proofs::ResolvedSteps::steps, crate::proofs::LastTaken::last))]
+#[tactic(auto, using(flow_syntax::proofs::Stacked::pushes, crate::proofs::ExpectedStacks::expects, crate::proofs::ResolvedSteps::steps, crate::proofs::LastTaken::last))]
 pub(crate) fn resolve<'a>(
     alloc: Global,
-    sight: &Sight,
-    wanted: Sort,
+    visible_names: &VisibleNames,
+    expected: Sort,
     expr: &[Node<'a>],
 ) -> Result<Vec<ExprNode>, TextFault>
-    ensures { Makes (Unit {0}) (λ v. v.items) result (resolved (sight_parts sight.now) wanted (expr_syntax expr.now)) }
+    ensures { Makes (Unit {0}) (λ v. v.items) result (resolved (sight_parts visible_names.now) expected (expr_syntax expr.now)) }
 {
     let mut stack = Vec::new(alloc);
-    push_operand(&mut stack, wanted)?;
+    push_operand(&mut stack, expected)?;
     let mut nodes = Vec::new(alloc);
     let mut rest = expr;
     'nodes: while let Some((node, _)) = rest.split_last() {
-        let Some(next) = pop_wanted(&mut stack) else {
+        let Some(next) = pop_expected(&mut stack) else {
             return Ok(nodes);
         };
-        let made = next_node(sight, next, node, &mut stack)?;
+        let made = next_node(visible_names, next, node, &mut stack)?;
         append(&mut nodes, made)?;
         rest = &rest[..rest.len() - 1];
     }

@@ -10,7 +10,7 @@ ghost use Rattle.flow_syntax.specs.SyntaxViews.{cond_node_syntax, cond_syntax, e
 
 use crate::faults::sort_fault;
 use crate::resolve_expr::resolve_expr;
-use crate::sight::Sight;
+use crate::visible_names::VisibleNames;
 use flow_model::Sort;
 use flow_syntax::{CondNode, Node};
 use kat_model::{Rel, Width, append};
@@ -76,49 +76,55 @@ fn width_of_sort(sort: Sort, token: &Token) -> Result<Width, TextFault>
 
 fn compare(
     alloc: Global,
-    sight: &Sight,
+    visible_names: &VisibleNames,
     relation: &Token,
     left: &[Node],
     right: &[Node],
 ) -> Result<flow_model::CondNode, TextFault>
-    ensures { Makes (Unit {0}) cond_part result (comparison_of (sight_parts sight.now) (sort_of_sides (sight_parts sight.now) (expr_syntax left.now) (expr_syntax right.now)) (parts_of_token relation.now) (expr_syntax left.now) (expr_syntax right.now)) }
+    ensures { Makes (Unit {0}) cond_part result (comparison_of (sight_parts visible_names.now) (sort_of_sides (sight_parts visible_names.now) (expr_syntax left.now) (expr_syntax right.now)) (parts_of_token relation.now) (expr_syntax left.now) (expr_syntax right.now)) }
 {
-    let sort = sight.sort_of_sides(left, right);
-    let left = resolve_expr(alloc, sight, sort, left)?;
+    let sort = visible_names.sort_of_sides(left, right);
+    let left = resolve_expr(alloc, visible_names, sort, left)?;
     let rel = relation_on(sort, relation, rel_named(relation.text))?;
-    let right = resolve_expr(alloc, sight, sort, right)?;
+    let right = resolve_expr(alloc, visible_names, sort, right)?;
     Ok(flow_model::CondNode::Compared(rel, left, right))
 }
 
 fn compare_signed(
     alloc: Global,
-    sight: &Sight,
+    visible_names: &VisibleNames,
     word: &Token,
     left: &[Node],
     right: &[Node],
 ) -> Result<flow_model::CondNode, TextFault>
-    ensures { Makes (Unit {0}) cond_part result (signed_comparison_of (sight_parts sight.now) (sort_of_sides (sight_parts sight.now) (expr_syntax left.now) (expr_syntax right.now)) (parts_of_token word.now) (expr_syntax left.now) (expr_syntax right.now)) }
+    ensures { Makes (Unit {0}) cond_part result (signed_comparison_of (sight_parts visible_names.now) (sort_of_sides (sight_parts visible_names.now) (expr_syntax left.now) (expr_syntax right.now)) (parts_of_token word.now) (expr_syntax left.now) (expr_syntax right.now)) }
 {
-    let width = width_of_sort(sight.sort_of_sides(left, right), word)?;
-    let left = resolve_expr(alloc, sight, Sort::Number(width), left)?;
-    let right = resolve_expr(alloc, sight, Sort::Number(width), right)?;
+    let width = width_of_sort(visible_names.sort_of_sides(left, right), word)?;
+    let left = resolve_expr(alloc, visible_names, Sort::Number(width), left)?;
+    let right = resolve_expr(alloc, visible_names, Sort::Number(width), right)?;
     let rel = signed_rel_named(word.text);
     Ok(flow_model::CondNode::ComparedSigned(rel, width, left, right))
 }
 
 fn resolve_node(
     alloc: Global,
-    sight: &Sight,
+    visible_names: &VisibleNames,
     node: &CondNode,
 ) -> Result<flow_model::CondNode, TextFault>
-    ensures { Makes (Unit {0}) cond_part result (part_of (sight_parts sight.now) (cond_node_syntax node.now)) }
+    ensures { Makes (Unit {0}) cond_part result (part_of (sight_parts visible_names.now) (cond_node_syntax node.now)) }
 {
     match node {
         CondNode::Always => Ok(flow_model::CondNode::Always),
         CondNode::Never => Ok(flow_model::CondNode::Never),
-        CondNode::Compared(relation, left, right) => compare(alloc, sight, relation, left, right),
+        CondNode::Compared(relation, left, right) => compare(
+            alloc,
+            visible_names,
+            relation,
+            left,
+            right,
+        ),
         CondNode::ComparedSigned(word, left, right) => {
-            compare_signed(alloc, sight, word, left, right)
+            compare_signed(alloc, visible_names, word, left, right)
         }
         CondNode::Negation => Ok(flow_model::CondNode::Negation),
         CondNode::Both => Ok(flow_model::CondNode::Both),
@@ -129,15 +135,15 @@ fn resolve_node(
 #[tactic(auto, using(flow_syntax::proofs::Stacked::pushes, crate::proofs::CondSteps::nodes, crate::proofs::LastTaken::last))]
 fn resolve_nodes(
     alloc: Global,
-    sight: &Sight,
+    visible_names: &VisibleNames,
     cond: &[CondNode],
 ) -> Result<Vec<flow_model::CondNode>, TextFault>
-    ensures { Makes (Unit {0}) (λ v. map cond_part v.items) result (parts_after (sight_parts sight.now) [] (cond_syntax cond.now)) }
+    ensures { Makes (Unit {0}) (λ v. map cond_part v.items) result (parts_after (sight_parts visible_names.now) [] (cond_syntax cond.now)) }
 {
     let mut nodes = Vec::new(alloc);
     let mut rest = cond;
     'nodes: while let Some((node, _)) = rest.split_last() {
-        let node = resolve_node(alloc, sight, node)?;
+        let node = resolve_node(alloc, visible_names, node)?;
         append(&mut nodes, node)?;
         rest = &rest[..rest.len() - 1];
     }
@@ -147,10 +153,10 @@ fn resolve_nodes(
 /// Returns the condition with its names resolved, or its first fault in text order.
 pub(crate) fn resolve_cond(
     alloc: Global,
-    sight: &Sight,
+    visible_names: &VisibleNames,
     cond: &[CondNode],
 ) -> Result<Vec<flow_model::CondNode>, TextFault>
-    ensures { Makes (Unit {0}) (λ v. cond_of v.items) result (condition_of (sight_parts sight.now) (cond_syntax cond.now)) }
+    ensures { Makes (Unit {0}) (λ v. cond_of v.items) result (condition_of (sight_parts visible_names.now) (cond_syntax cond.now)) }
 {
-    resolve_nodes(alloc, sight, cond)
+    resolve_nodes(alloc, visible_names, cond)
 }

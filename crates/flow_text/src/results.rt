@@ -10,7 +10,7 @@ ghost use Rattle.flow_syntax.specs.SyntaxViews.{exprs_syntax, jump_syntax, block
 
 use crate::known::WrittenGraph;
 use crate::scope::Scope;
-use crate::sight::{Sight, sort_or_u64};
+use crate::visible_names::{VisibleNames, sort_or_u64};
 use flow_model::Sort;
 use flow_syntax::{Block, Jump, Node, first_name};
 use kat_model::{NoMemory, append};
@@ -34,10 +34,10 @@ impl Drop for Results {
 
 /// Returns what a graph may name.
 #[tactic(auto, using(std::proofs::lemmas::List::take_min, crate::proofs::ScopeLists::functions_before))]
-pub(crate) fn sight_of<'s>(scope: &'s Scope, graph: &WrittenGraph) -> Sight<'s>
+pub(crate) fn sight_of<'s>(scope: &'s Scope, graph: &WrittenGraph) -> VisibleNames<'s>
     ensures { sight_parts result ≡ scope_before (scope_parts scope.now) (counts graph.now.sorts graph.now.functions graph.now.variables graph.now.graphs) }
 {
-    Sight {
+    VisibleNames {
         scope,
         sorts: graph.sorts,
         functions: &scope.functions[..graph.functions.min(scope.functions.len())],
@@ -56,15 +56,15 @@ fn first_sort(sort: Option<Sort>, other: Option<Sort>) -> Option<Sort>
 }
 
 // Gives each place that has no sort yet the sort of the first name of the expression there.
-fn first_sorts(sorts: &mut [Option<Sort>], sight: &Sight, exprs: &[Vec<Node>])
-    ensures { sorts.new ≡ first_sorts (sight_parts sight.now) sorts.old (exprs_syntax exprs.now) }
+fn first_sorts(sorts: &mut [Option<Sort>], visible_names: &VisibleNames, exprs: &[Vec<Node>])
+    ensures { sorts.new ≡ first_sorts (sight_parts visible_names.now) sorts.old (exprs_syntax exprs.now) }
 {
     let mut rest = exprs;
     for sort in sorts.iter_mut() {
         let Some((expr, _)) = rest.split_last() else {
             return;
         };
-        *sort = first_sort(*sort, sight.sort_of_first(&first_name(expr)));
+        *sort = first_sort(*sort, visible_names.sort_of_first(&first_name(expr)));
         rest = &rest[..rest.len() - 1];
     }
 }
@@ -73,15 +73,15 @@ fn first_sorts(sorts: &mut [Option<Sort>], sight: &Sight, exprs: &[Vec<Node>])
 #[tactic(auto, using(flow_syntax::proofs::Stacked::pushes, crate::proofs::LastTaken::last))]
 fn named_sorts(
     alloc: Global,
-    sight: &Sight,
+    visible_names: &VisibleNames,
     exprs: &[Vec<Node>],
 ) -> Result<Vec<Option<Sort>>, NoMemory>
-    ensures { IfOk result (λ v. v.items ≡ named_sorts (sight_parts sight.now) (exprs_syntax exprs.now)) }
+    ensures { IfOk result (λ v. v.items ≡ named_sorts (sight_parts visible_names.now) (exprs_syntax exprs.now)) }
 {
     let mut known = Vec::new(alloc);
     let mut rest = exprs;
     'exprs: while let Some((expr, _)) = rest.split_last() {
-        append(&mut known, sight.sort_of_first(&first_name(expr)))?;
+        append(&mut known, visible_names.sort_of_first(&first_name(expr)))?;
         rest = &rest[..rest.len() - 1];
     }
     Ok(known)
@@ -91,15 +91,15 @@ fn named_sorts(
 fn with_return(
     alloc: Global,
     sorts: Option<Vec<Option<Sort>>>,
-    sight: &Sight,
+    visible_names: &VisibleNames,
     exprs: &[Vec<Node>],
 ) -> Result<Vec<Option<Sort>>, NoMemory>
-    ensures { IfOk result (λ v. Some v.items ≡ with_return (sight_parts sight.now) (option_map (λ w. w.items) sorts) (exprs_syntax exprs.now)) }
+    ensures { IfOk result (λ v. Some v.items ≡ with_return (sight_parts visible_names.now) (option_map (λ w. w.items) sorts) (exprs_syntax exprs.now)) }
 {
     match sorts {
-        None => named_sorts(alloc, sight, exprs),
+        None => named_sorts(alloc, visible_names, exprs),
         Some(mut sorts) => {
-            first_sorts(&mut sorts, sight, exprs);
+            first_sorts(&mut sorts, visible_names, exprs);
             Ok(sorts)
         }
     }
@@ -122,38 +122,42 @@ impl Results {
         Results { alloc, sorts: None }
     }
 
-    fn add_return(&mut self, sight: &Sight, exprs: &[Vec<Node>]) -> Result<(), NoMemory>
-        ensures { OnOk result (result_sorts self.new ≡ with_return (sight_parts sight.now) (result_sorts self.old) (exprs_syntax exprs.now)) }
+    fn add_return(
+        &mut self,
+        visible_names: &VisibleNames,
+        exprs: &[Vec<Node>],
+    ) -> Result<(), NoMemory>
+        ensures { OnOk result (result_sorts self.new ≡ with_return (sight_parts visible_names.now) (result_sorts self.old) (exprs_syntax exprs.now)) }
     {
-        let sorts = with_return(self.alloc, self.sorts.take(), sight, exprs)?;
+        let sorts = with_return(self.alloc, self.sorts.take(), visible_names, exprs)?;
         self.sorts = Some(sorts);
         Ok(())
     }
 
-    fn add_jump(&mut self, sight: &Sight, jump: &Jump) -> Result<(), NoMemory>
-        ensures { OnOk result (result_sorts self.new ≡ with_jump (sight_parts sight.now) (result_sorts self.old) (jump_syntax jump.now)) }
+    fn add_jump(&mut self, visible_names: &VisibleNames, jump: &Jump) -> Result<(), NoMemory>
+        ensures { OnOk result (result_sorts self.new ≡ with_jump (sight_parts visible_names.now) (result_sorts self.old) (jump_syntax jump.now)) }
     {
         match jump {
             Jump::Goto(_) => Ok(()),
             Jump::Branch(_, _, _) => Ok(()),
-            Jump::Return(_, exprs) => self.add_return(sight, exprs),
+            Jump::Return(_, exprs) => self.add_return(visible_names, exprs),
             Jump::Abort => Ok(()),
         }
     }
 
-    fn add_block(&mut self, sight: &Sight, block: &Block) -> Result<(), NoMemory>
-        ensures { OnOk result (result_sorts self.new ≡ with_results (sight_parts sight.now) (result_sorts self.old) (block_syntax block.now)) }
+    fn add_block(&mut self, visible_names: &VisibleNames, block: &Block) -> Result<(), NoMemory>
+        ensures { OnOk result (result_sorts self.new ≡ with_results (sight_parts visible_names.now) (result_sorts self.old) (block_syntax block.now)) }
     {
-        self.add_jump(sight, &block.jump)
+        self.add_jump(visible_names, &block.jump)
     }
 
     #[tactic(auto, using(flow_syntax::proofs::Stacked::pushes, crate::proofs::ResultSteps::results, crate::proofs::LastTaken::last))]
-    fn add_blocks(&mut self, sight: &Sight, blocks: &[Block]) -> Result<(), NoMemory>
-        ensures { OnOk result (result_sorts self.new ≡ with_all_results (sight_parts sight.now) (result_sorts self.old) (blocks_syntax blocks.now)) }
+    fn add_blocks(&mut self, visible_names: &VisibleNames, blocks: &[Block]) -> Result<(), NoMemory>
+        ensures { OnOk result (result_sorts self.new ≡ with_all_results (sight_parts visible_names.now) (result_sorts self.old) (blocks_syntax blocks.now)) }
     {
         let mut rest = blocks;
         'each: while let Some((block, _)) = rest.split_last() {
-            self.add_block(sight, block)?;
+            self.add_block(visible_names, block)?;
             rest = &rest[..rest.len() - 1];
         }
         Ok(())
@@ -163,8 +167,8 @@ impl Results {
     pub(crate) fn add_graph(&mut self, scope: &Scope, graph: &WrittenGraph) -> Result<(), NoMemory>
         ensures { OnOk result (result_sorts self.new ≡ with_graph_results (scope_parts scope.now) (result_sorts self.old) (graph_syntax graph.now)) }
     {
-        let sight = sight_of(scope, graph);
-        self.add_blocks(&sight, &graph.blocks)
+        let visible_names = sight_of(scope, graph);
+        self.add_blocks(&visible_names, &graph.blocks)
     }
 
     /// Adds the results of the graph with this number, if the goal names it.

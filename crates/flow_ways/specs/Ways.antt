@@ -11,7 +11,7 @@ use Rattle.flow_forms.specs.Expressions.{sort_of, form_of, form_of_cell}
 use Rattle.flow_ways.specs.Conditions.{FlowCondTree, constantly, cond_holds, opposite_cond, Fact, simplified, facts_of, cond_form}
 
 -- a run with forms: the forms of the variables, what is known of comparisons, and the tests so far
-pub record Course : Type 0 where
+pub record SymbolicRun : Type 0 where
   pub forms : List FlowFormTree
   pub facts : List Fact
   pub tests : List FlowCondTree
@@ -27,18 +27,18 @@ pub record Way : Type 0 where
   pub end : WayEnd
 
 -- the course with an additional test
-abbrev pub with_asked : Course → FlowCondTree → Course
-with_asked course b = record { forms = course.forms; facts = course.facts ++ facts_of b true; tests = course.tests ++ b ∷ [] }
+abbrev pub with_queried : SymbolicRun → FlowCondTree → SymbolicRun
+with_queried symbolic_run b = record { forms = symbolic_run.forms; facts = symbolic_run.facts ++ facts_of b true; tests = symbolic_run.tests ++ b ∷ [] }
 
 -- the course on which a condition holds, or `None` if it is known not to hold
-abbrev pub with_test : Course → FlowCondTree → Option Course
-with_test course (constantly true) = Some course
-with_test course (constantly false) = None
-with_test course b = Some (with_asked course b)
+abbrev pub with_test : SymbolicRun → FlowCondTree → Option SymbolicRun
+with_test symbolic_run (constantly true) = Some symbolic_run
+with_test symbolic_run (constantly false) = None
+with_test symbolic_run b = Some (with_queried symbolic_run b)
 
-abbrev pub and_then : Option Course → (Course → Option Course) → Option Course
+abbrev pub and_then : Option SymbolicRun → (SymbolicRun → Option SymbolicRun) → Option SymbolicRun
 and_then None go = None
-and_then (Some course) go = go course
+and_then (Some symbolic_run) go = go symbolic_run
 
 -- forms with some set, first to last
 abbrev pub with_forms : List FlowFormTree → List ℕ → List FlowFormTree → List FlowFormTree
@@ -46,48 +46,48 @@ with_forms env (k ∷ ks) (f ∷ fs) = with_forms (set env k f) ks fs
 with_forms env ks fs = env
 
 -- a condition over the forms of the course, with what is known left out
-abbrev pub condition_on : List Sort → Course → CondTree → FlowCondTree
-condition_on sorts course b = simplified course.facts (cond_form sorts course.forms b)
+abbrev pub condition_on : List Sort → SymbolicRun → CondTree → FlowCondTree
+condition_on sorts symbolic_run b = simplified symbolic_run.facts (cond_form sorts symbolic_run.forms b)
 
 -- the course after the statements of a block, or `None` if an assertion is known not to hold
-abbrev pub after_statements : List Sort → List StatementTree → Course → Option Course
-after_statements sorts [] course = Some course
-after_statements sorts (assign targets es ∷ rest) course =
-    after_statements sorts rest (record course { forms = with_forms course.forms targets (map (form_of sorts course.forms) es) })
-after_statements sorts (claim b ∷ rest) course =
-    and_then (with_test course (condition_on sorts course b)) (after_statements sorts rest)
+abbrev pub after_statements : List Sort → List StatementTree → SymbolicRun → Option SymbolicRun
+after_statements sorts [] symbolic_run = Some symbolic_run
+after_statements sorts (assign targets es ∷ rest) symbolic_run =
+    after_statements sorts rest (record symbolic_run { forms = with_forms symbolic_run.forms targets (map (form_of sorts symbolic_run.forms) es) })
+after_statements sorts (claim b ∷ rest) symbolic_run =
+    and_then (with_test symbolic_run (condition_on sorts symbolic_run b)) (after_statements sorts rest)
 
-abbrev pub ways_if : Option Course → (Course → List Way) → List Way
+abbrev pub ways_if : Option SymbolicRun → (SymbolicRun → List Way) → List Way
 ways_if None go = []
-ways_if (Some course) go = go course
+ways_if (Some symbolic_run) go = go symbolic_run
 
 -- the ways from a branch on a condition: those on which it holds before those on which it does not
-abbrev pub branch_ways : Course → FlowCondTree → (Course → List Way) → (Course → List Way) → List Way
-branch_ways course b go other = ways_if (with_test course b) go ++ ways_if (with_test course (opposite_cond b)) other
+abbrev pub branch_ways : SymbolicRun → FlowCondTree → (SymbolicRun → List Way) → (SymbolicRun → List Way) → List Way
+branch_ways symbolic_run b go other = ways_if (with_test symbolic_run b) go ++ ways_if (with_test symbolic_run (opposite_cond b)) other
 
 -- the ways from the jump of a block; `go` goes on at a block
-abbrev pub jump_ways : List Sort → (ℕ → Course → List Way) → JumpTree → Course → List Way
-jump_ways sorts go (goto k) course = go k course
-jump_ways sorts go (branch b k l) course = branch_ways course (condition_on sorts course b) (go k) (go l)
-jump_ways sorts go (return es) course = record { tests = course.tests; end = at_return (map (λ e. (sort_of sorts e, form_of sorts course.forms e)) es) } ∷ []
-jump_ways sorts go abort course = []
+abbrev pub jump_ways : List Sort → (ℕ → SymbolicRun → List Way) → JumpTree → SymbolicRun → List Way
+jump_ways sorts go (goto k) symbolic_run = go k symbolic_run
+jump_ways sorts go (branch b k l) symbolic_run = branch_ways symbolic_run (condition_on sorts symbolic_run b) (go k) (go l)
+jump_ways sorts go (return es) symbolic_run = record { tests = symbolic_run.tests; end = at_return (map (λ e. (sort_of sorts e, form_of sorts symbolic_run.forms e)) es) } ∷ []
+jump_ways sorts go abort symbolic_run = []
 
-abbrev pub block_ways : List Sort → (ℕ → Course → List Way) → Option Block → Course → List Way
-block_ways sorts go None course = []
-block_ways sorts go (Some block) course = ways_if (after_statements sorts block.statements course) (jump_ways sorts go block.jump)
+abbrev pub block_ways : List Sort → (ℕ → SymbolicRun → List Way) → Option Block → SymbolicRun → List Way
+block_ways sorts go None symbolic_run = []
+block_ways sorts go (Some block) symbolic_run = ways_if (after_statements sorts block.statements symbolic_run) (jump_ways sorts go block.jump)
 
 -- the ways from the beginning of block k of at most n blocks; `is_place` is true of the places
-abbrev pub ways_from : Graph → List Sort → (ℕ → Bool) → ℕ → ℕ → Course → List Way
-ways_from g sorts is_place zero k course = []
-ways_from g sorts is_place (suc n) k course =
-    block_ways sorts (λ l next. if is_place l then record { tests = next.tests; end = at_place l next.forms } ∷ [] else ways_from g sorts is_place n l next) (slice_get g k) course
+abbrev pub ways_from : Graph → List Sort → (ℕ → Bool) → ℕ → ℕ → SymbolicRun → List Way
+ways_from g sorts is_place zero k symbolic_run = []
+ways_from g sorts is_place (suc n) k symbolic_run =
+    block_ways sorts (λ l next. if is_place l then record { tests = next.tests; end = at_place l next.forms } ∷ [] else ways_from g sorts is_place n l next) (slice_get g k) symbolic_run
 
 -- each variable stands for itself
 abbrev pub own_forms_from : ℕ → List Sort → List FlowFormTree
 own_forms_from k [] = []
 own_forms_from k (sort ∷ sorts) = form_of_cell sort (variable k) ∷ own_forms_from (suc k) sorts
 
-abbrev pub first_course : List Sort → Course
+abbrev pub first_course : List Sort → SymbolicRun
 first_course sorts = record { forms = own_forms_from 0 sorts; facts = []; tests = [] }
 
 -- the ways from a place

@@ -1,17 +1,19 @@
-//! Ways: runs of flow graphs with forms in place of values, from a place to the next. They are found by symbolic execution
-//! of the blocks (King 1976): a depth-first walk with forms in place of values.
+//! The ways of a flow graph between places, by symbolic execution.
+//!
+//! A way is a run with forms in place of values, from a place to the next. Ways are found by a depth-first walk over
+//! the blocks (King 1976).
 #![tactic(auto)]
 
 mod action;
 mod cond_form;
 mod condition;
-mod course;
 mod fault;
 mod form_list;
 mod found;
 mod laws;
 mod limits;
 mod own;
+mod symbolic_run;
 mod way;
 mod ways_found;
 
@@ -21,6 +23,6 @@ pub use fault::WayFault;
 pub use form_list::push_form;
 pub use laws::{actions_are_runs, runs_go_by_live_variables, ways_are_runs};
 pub use limits::MAX_WAYS;
-pub use own::{own_form, own_forms};
+pub use own::{initial_forms, own_form};
 pub use way::{SortedForm, Way, WayEnd, copy_conds};
 pub use ways_found::ways;

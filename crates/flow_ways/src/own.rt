@@ -55,7 +55,7 @@ fn push_own_from(
 }
 
 /// Returns the forms of variables that stand for themselves. Fails only when out of memory.
-pub fn own_forms(alloc: Global, sorts: &[Sort]) -> Result<Vec<FlowForm>, NoMemory>
+pub fn initial_forms(alloc: Global, sorts: &[Sort]) -> Result<Vec<FlowForm>, NoMemory>
     ensures { IfOk result (λ list. map form_tree list.items ≡ own_forms_from 0 sorts.now) }
 {
     let _known = sorts.len();

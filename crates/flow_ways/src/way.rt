@@ -10,11 +10,11 @@ ghost use Rattle.flow_ways.specs.CourseTrees.{course_tree};
 ghost use Rattle.flow_ways.specs.WayTrees.{sorted_form, way_tree, Adds, HasReason};
 
 use crate::condition::FlowCond;
-use crate::course::{Course, push_cond};
 use crate::fault::WayFault;
 use crate::form_list::push_form;
 use crate::found::Found;
 use crate::limits::MAX_WAYS;
+use crate::symbolic_run::{SymbolicRun, push_cond};
 use flow_forms::{FlowForm, FormFault, expression_form};
 use flow_model::{ExprNode, Sort};
 use kat_model::{NoMemory, append};
@@ -220,14 +220,14 @@ fn add_way(found: &mut Found, way: Way) -> Result<(), WayFault>
 pub(crate) fn end_at_place(
     alloc: Global,
     block: usize,
-    course: &Course,
+    symbolic_run: &SymbolicRun,
     found: &mut Found,
 ) -> Result<(), WayFault>
-    ensures added { OnOk result (Adds (one_way (placed_way block (course_tree course.now))) found.old found.new) }
-    ensures refused { IfErr result (HasReason (one_way (placed_way block (course_tree course.now))) found.old.count) }
+    ensures added { OnOk result (Adds (one_way (placed_way block (course_tree symbolic_run.now))) found.old found.new) }
+    ensures refused { IfErr result (HasReason (one_way (placed_way block (course_tree symbolic_run.now))) found.old.count) }
 {
-    let tests = copy_conds(alloc, &course.tests)?;
-    let forms = copy_forms(alloc, &course.forms)?;
+    let tests = copy_conds(alloc, &symbolic_run.tests)?;
+    let forms = copy_forms(alloc, &symbolic_run.forms)?;
     add_way(
         found,
         Way {
@@ -243,14 +243,14 @@ pub(crate) fn end_with_results(
     alloc: Global,
     sorts: &[Sort],
     values: &[Vec<ExprNode>],
-    course: &Course,
+    symbolic_run: &SymbolicRun,
     found: &mut Found,
 ) -> Result<(), WayFault>
-    ensures added { OnOk result (Adds (if_fits (values_fit sorts.now (course_tree course.now).forms values.now) (one_way (returned_way sorts.now values.now (course_tree course.now)))) found.old found.new) }
-    ensures refused { IfErr result (HasReason (if_fits (values_fit sorts.now (course_tree course.now).forms values.now) (one_way (returned_way sorts.now values.now (course_tree course.now)))) found.old.count) }
+    ensures added { OnOk result (Adds (if_fits (values_fit sorts.now (course_tree symbolic_run.now).forms values.now) (one_way (returned_way sorts.now values.now (course_tree symbolic_run.now)))) found.old found.new) }
+    ensures refused { IfErr result (HasReason (if_fits (values_fit sorts.now (course_tree symbolic_run.now).forms values.now) (one_way (returned_way sorts.now values.now (course_tree symbolic_run.now)))) found.old.count) }
 {
-    let results = results_of(alloc, sorts, &course.forms, values)?;
-    let tests = copy_conds(alloc, &course.tests)?;
+    let results = results_of(alloc, sorts, &symbolic_run.forms, values)?;
+    let tests = copy_conds(alloc, &symbolic_run.tests)?;
     add_way(
         found,
         Way {

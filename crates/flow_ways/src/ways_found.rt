@@ -9,12 +9,13 @@ ghost use Rattle.flow_ways.specs.WayTrees.{way_tree, Adds, HasReason};
 ghost use Rattle.flow_ways.specs.declared.limits.TheConstants.{MAX_WAYS};
 
 use crate::condition::FlowCond;
-use crate::course::{
-    Course, ask, condition_on, count_facts, count_tests, cut_facts, cut_tests, run_statements,
-};
 use crate::fault::WayFault;
 use crate::found::Found;
-use crate::own::own_forms;
+use crate::own::initial_forms;
+use crate::symbolic_run::{
+    SymbolicRun, condition_on, count_facts, count_tests, cut_facts, cut_tests, query,
+    run_statements,
+};
 use crate::way::{Way, copy_forms, count_aborted, end_at_place, end_with_results};
 use flow_model::{Block, Jump, Sort};
 use kat_model::NoMemory;
@@ -42,19 +43,19 @@ fn ways_from(
     setting: &Setting,
     depth: usize,
     block: usize,
-    course: &mut Course,
+    symbolic_run: &mut SymbolicRun,
     found: &mut Found,
 ) -> Result<(), WayFault>
-    ensures added { OnOk result (Adds (outcome_from setting.now.blocks.now setting.now.sorts.now (λ l. slice_index_or setting.now.places.now l false) depth block (course_tree course.old)) found.old found.new) }
-    ensures refused { IfErr result (HasReason (outcome_from setting.now.blocks.now setting.now.sorts.now (λ l. slice_index_or setting.now.places.now l false) depth block (course_tree course.old)) found.old.count) }
-    ensures grown { OnOk result (IsGrown (course_tree course.old) (course_tree course.new)) }
+    ensures added { OnOk result (Adds (outcome_from setting.now.blocks.now setting.now.sorts.now (λ l. slice_index_or setting.now.places.now l false) depth block (course_tree symbolic_run.old)) found.old found.new) }
+    ensures refused { IfErr result (HasReason (outcome_from setting.now.blocks.now setting.now.sorts.now (λ l. slice_index_or setting.now.places.now l false) depth block (course_tree symbolic_run.old)) found.old.count) }
+    ensures grown { OnOk result (IsGrown (course_tree symbolic_run.old) (course_tree symbolic_run.new)) }
 {
     if depth == 0 {
         return Ok(());
     }
     let blocks = setting.blocks;
     match blocks.get(block) {
-        Some(here) => ways_through(setting, depth - 1, here, course, found),
+        Some(here) => ways_through(setting, depth - 1, here, symbolic_run, found),
         None => Ok(()),
     }
 }
@@ -66,18 +67,23 @@ fn ways_through(
     setting: &Setting,
     depth: usize,
     block: &Block,
-    course: &mut Course,
+    symbolic_run: &mut SymbolicRun,
     found: &mut Found,
 ) -> Result<(), WayFault>
-    ensures added { OnOk result (Adds (block_outcome setting.now.sorts.now (target_outcome setting.now.blocks.now setting.now.sorts.now (λ l. slice_index_or setting.now.places.now l false) depth) (Some block.now) (course_tree course.old)) found.old found.new) }
-    ensures refused { IfErr result (HasReason (block_outcome setting.now.sorts.now (target_outcome setting.now.blocks.now setting.now.sorts.now (λ l. slice_index_or setting.now.places.now l false) depth) (Some block.now) (course_tree course.old)) found.old.count) }
-    ensures grown { OnOk result (IsGrown (course_tree course.old) (course_tree course.new)) }
+    ensures added { OnOk result (Adds (block_outcome setting.now.sorts.now (target_outcome setting.now.blocks.now setting.now.sorts.now (λ l. slice_index_or setting.now.places.now l false) depth) (Some block.now) (course_tree symbolic_run.old)) found.old found.new) }
+    ensures refused { IfErr result (HasReason (block_outcome setting.now.sorts.now (target_outcome setting.now.blocks.now setting.now.sorts.now (λ l. slice_index_or setting.now.places.now l false) depth) (Some block.now) (course_tree symbolic_run.old)) found.old.count) }
+    ensures grown { OnOk result (IsGrown (course_tree symbolic_run.old) (course_tree symbolic_run.new)) }
 {
-    let goes = run_statements(setting.alloc, setting.sorts, &block.statements, course)?;
+    let goes = run_statements(
+        setting.alloc,
+        setting.sorts,
+        &block.statements,
+        symbolic_run,
+    )?;
     if !goes {
         return Ok(());
     }
-    ways_of_jump(setting, depth, &block.jump, course, found)
+    ways_of_jump(setting, depth, &block.jump, symbolic_run, found)
 }
 
 // Finds the ways from the jump of a block.
@@ -87,21 +93,21 @@ fn ways_of_jump(
     setting: &Setting,
     depth: usize,
     jump: &Jump,
-    course: &mut Course,
+    symbolic_run: &mut SymbolicRun,
     found: &mut Found,
 ) -> Result<(), WayFault>
-    ensures added { OnOk result (Adds (jump_outcome setting.now.sorts.now (target_outcome setting.now.blocks.now setting.now.sorts.now (λ l. slice_index_or setting.now.places.now l false) depth) jump.now (course_tree course.old)) found.old found.new) }
-    ensures refused { IfErr result (HasReason (jump_outcome setting.now.sorts.now (target_outcome setting.now.blocks.now setting.now.sorts.now (λ l. slice_index_or setting.now.places.now l false) depth) jump.now (course_tree course.old)) found.old.count) }
-    ensures grown { OnOk result (IsGrown (course_tree course.old) (course_tree course.new)) }
+    ensures added { OnOk result (Adds (jump_outcome setting.now.sorts.now (target_outcome setting.now.blocks.now setting.now.sorts.now (λ l. slice_index_or setting.now.places.now l false) depth) jump.now (course_tree symbolic_run.old)) found.old found.new) }
+    ensures refused { IfErr result (HasReason (jump_outcome setting.now.sorts.now (target_outcome setting.now.blocks.now setting.now.sorts.now (λ l. slice_index_or setting.now.places.now l false) depth) jump.now (course_tree symbolic_run.old)) found.old.count) }
+    ensures grown { OnOk result (IsGrown (course_tree symbolic_run.old) (course_tree symbolic_run.new)) }
 {
     match jump {
-        Jump::Goto(k) => ways_on(setting, depth, *k, course, found),
+        Jump::Goto(k) => ways_on(setting, depth, *k, symbolic_run, found),
         Jump::Branch(cond, k, l) => {
-            let cond = condition_on(setting.alloc, setting.sorts, course, cond)?;
-            ways_of_branch(setting, depth, cond, *k, *l, course, found)
+            let cond = condition_on(setting.alloc, setting.sorts, symbolic_run, cond)?;
+            ways_of_branch(setting, depth, cond, *k, *l, symbolic_run, found)
         }
         Jump::Return(values) => {
-            end_with_results(setting.alloc, setting.sorts, values, course, found)
+            end_with_results(setting.alloc, setting.sorts, values, symbolic_run, found)
         }
         Jump::Abort => count_aborted(found),
     }
@@ -116,17 +122,17 @@ fn ways_of_branch(
     cond: FlowCond,
     block: usize,
     other: usize,
-    course: &mut Course,
+    symbolic_run: &mut SymbolicRun,
     found: &mut Found,
 ) -> Result<(), WayFault>
-    ensures added { OnOk result (Adds (branch_outcome (course_tree course.old) (cond_tree cond) (target_outcome setting.now.blocks.now setting.now.sorts.now (λ l. slice_index_or setting.now.places.now l false) depth block) (target_outcome setting.now.blocks.now setting.now.sorts.now (λ l. slice_index_or setting.now.places.now l false) depth other)) found.old found.new) }
-    ensures refused { IfErr result (HasReason (branch_outcome (course_tree course.old) (cond_tree cond) (target_outcome setting.now.blocks.now setting.now.sorts.now (λ l. slice_index_or setting.now.places.now l false) depth block) (target_outcome setting.now.blocks.now setting.now.sorts.now (λ l. slice_index_or setting.now.places.now l false) depth other)) found.old.count) }
-    ensures grown { OnOk result (IsGrown (course_tree course.old) (course_tree course.new)) }
+    ensures added { OnOk result (Adds (branch_outcome (course_tree symbolic_run.old) (cond_tree cond) (target_outcome setting.now.blocks.now setting.now.sorts.now (λ l. slice_index_or setting.now.places.now l false) depth block) (target_outcome setting.now.blocks.now setting.now.sorts.now (λ l. slice_index_or setting.now.places.now l false) depth other)) found.old found.new) }
+    ensures refused { IfErr result (HasReason (branch_outcome (course_tree symbolic_run.old) (cond_tree cond) (target_outcome setting.now.blocks.now setting.now.sorts.now (λ l. slice_index_or setting.now.places.now l false) depth block) (target_outcome setting.now.blocks.now setting.now.sorts.now (λ l. slice_index_or setting.now.places.now l false) depth other)) found.old.count) }
+    ensures grown { OnOk result (IsGrown (course_tree symbolic_run.old) (course_tree symbolic_run.new)) }
 {
     let copy = cond.copy(setting.alloc)?;
     let opposite = copy.opposite(setting.alloc)?;
-    ways_aside(setting, depth, cond, block, course, found)?;
-    ways_under(setting, depth, opposite, other, course, found)
+    ways_aside(setting, depth, cond, block, symbolic_run, found)?;
+    ways_under(setting, depth, opposite, other, symbolic_run, found)
 }
 
 // Finds the ways on which a condition holds, and then restores the course.
@@ -136,20 +142,20 @@ fn ways_aside(
     depth: usize,
     cond: FlowCond,
     block: usize,
-    course: &mut Course,
+    symbolic_run: &mut SymbolicRun,
     found: &mut Found,
 ) -> Result<(), WayFault>
-    ensures added { OnOk result (Adds (outcome_if (with_test (course_tree course.old) (cond_tree cond)) (target_outcome setting.now.blocks.now setting.now.sorts.now (λ l. slice_index_or setting.now.places.now l false) depth block)) found.old found.new) }
-    ensures refused { IfErr result (HasReason (outcome_if (with_test (course_tree course.old) (cond_tree cond)) (target_outcome setting.now.blocks.now setting.now.sorts.now (λ l. slice_index_or setting.now.places.now l false) depth block)) found.old.count) }
-    ensures restored { OnOk result (course_tree course.new ≡ course_tree course.old) }
+    ensures added { OnOk result (Adds (outcome_if (with_test (course_tree symbolic_run.old) (cond_tree cond)) (target_outcome setting.now.blocks.now setting.now.sorts.now (λ l. slice_index_or setting.now.places.now l false) depth block)) found.old found.new) }
+    ensures refused { IfErr result (HasReason (outcome_if (with_test (course_tree symbolic_run.old) (cond_tree cond)) (target_outcome setting.now.blocks.now setting.now.sorts.now (λ l. slice_index_or setting.now.places.now l false) depth block)) found.old.count) }
+    ensures restored { OnOk result (course_tree symbolic_run.new ≡ course_tree symbolic_run.old) }
 {
-    let facts = count_facts(&course.facts);
-    let tests = count_tests(&course.tests);
-    let forms = copy_forms(setting.alloc, &course.forms)?;
-    ways_under(setting, depth, cond, block, course, found)?;
-    course.forms = forms;
-    cut_facts(&mut course.facts, facts);
-    cut_tests(&mut course.tests, tests);
+    let facts = count_facts(&symbolic_run.facts);
+    let tests = count_tests(&symbolic_run.tests);
+    let forms = copy_forms(setting.alloc, &symbolic_run.forms)?;
+    ways_under(setting, depth, cond, block, symbolic_run, found)?;
+    symbolic_run.forms = forms;
+    cut_facts(&mut symbolic_run.facts, facts);
+    cut_tests(&mut symbolic_run.tests, tests);
     Ok(())
 }
 
@@ -161,18 +167,18 @@ fn ways_under(
     depth: usize,
     cond: FlowCond,
     block: usize,
-    course: &mut Course,
+    symbolic_run: &mut SymbolicRun,
     found: &mut Found,
 ) -> Result<(), WayFault>
-    ensures added { OnOk result (Adds (outcome_if (with_test (course_tree course.old) (cond_tree cond)) (target_outcome setting.now.blocks.now setting.now.sorts.now (λ l. slice_index_or setting.now.places.now l false) depth block)) found.old found.new) }
-    ensures refused { IfErr result (HasReason (outcome_if (with_test (course_tree course.old) (cond_tree cond)) (target_outcome setting.now.blocks.now setting.now.sorts.now (λ l. slice_index_or setting.now.places.now l false) depth block)) found.old.count) }
-    ensures grown { OnOk result (IsGrown (course_tree course.old) (course_tree course.new)) }
+    ensures added { OnOk result (Adds (outcome_if (with_test (course_tree symbolic_run.old) (cond_tree cond)) (target_outcome setting.now.blocks.now setting.now.sorts.now (λ l. slice_index_or setting.now.places.now l false) depth block)) found.old found.new) }
+    ensures refused { IfErr result (HasReason (outcome_if (with_test (course_tree symbolic_run.old) (cond_tree cond)) (target_outcome setting.now.blocks.now setting.now.sorts.now (λ l. slice_index_or setting.now.places.now l false) depth block)) found.old.count) }
+    ensures grown { OnOk result (IsGrown (course_tree symbolic_run.old) (course_tree symbolic_run.new)) }
 {
-    let goes = ask(setting.alloc, cond, course)?;
+    let goes = query(setting.alloc, cond, symbolic_run)?;
     if !goes {
         return Ok(());
     }
-    ways_on(setting, depth, block, course, found)
+    ways_on(setting, depth, block, symbolic_run, found)
 }
 
 // Goes on at the target of a jump: ends at a place, or finds the ways from the block.
@@ -182,26 +188,26 @@ fn ways_on(
     setting: &Setting,
     depth: usize,
     block: usize,
-    course: &mut Course,
+    symbolic_run: &mut SymbolicRun,
     found: &mut Found,
 ) -> Result<(), WayFault>
-    ensures added { OnOk result (Adds (target_outcome setting.now.blocks.now setting.now.sorts.now (λ l. slice_index_or setting.now.places.now l false) depth block (course_tree course.old)) found.old found.new) }
-    ensures refused { IfErr result (HasReason (target_outcome setting.now.blocks.now setting.now.sorts.now (λ l. slice_index_or setting.now.places.now l false) depth block (course_tree course.old)) found.old.count) }
-    ensures grown { OnOk result (IsGrown (course_tree course.old) (course_tree course.new)) }
+    ensures added { OnOk result (Adds (target_outcome setting.now.blocks.now setting.now.sorts.now (λ l. slice_index_or setting.now.places.now l false) depth block (course_tree symbolic_run.old)) found.old found.new) }
+    ensures refused { IfErr result (HasReason (target_outcome setting.now.blocks.now setting.now.sorts.now (λ l. slice_index_or setting.now.places.now l false) depth block (course_tree symbolic_run.old)) found.old.count) }
+    ensures grown { OnOk result (IsGrown (course_tree symbolic_run.old) (course_tree symbolic_run.new)) }
 {
     if is_place(setting.places, block) {
-        return end_at_place(setting.alloc, block, course, found);
+        return end_at_place(setting.alloc, block, symbolic_run, found);
     }
-    ways_from(setting, depth, block, course, found)
+    ways_from(setting, depth, block, symbolic_run, found)
 }
 
-fn first_course(alloc: Global, sorts: &[Sort]) -> Result<Course, NoMemory>
-    ensures { IfOk result (λ course. course_tree course ≡ course_of_place sorts.now) }
+fn first_course(alloc: Global, sorts: &[Sort]) -> Result<SymbolicRun, NoMemory>
+    ensures { IfOk result (λ symbolic_run. course_tree symbolic_run ≡ course_of_place sorts.now) }
 {
-    let forms = own_forms(alloc, sorts)?;
+    let forms = initial_forms(alloc, sorts)?;
     let facts = Vec::new(alloc);
     let tests = Vec::new(alloc);
-    Ok(Course {
+    Ok(SymbolicRun {
         forms,
         facts,
         tests,
@@ -231,13 +237,13 @@ pub fn ways(
         sorts,
         places,
     };
-    let mut course = first_course(alloc, sorts)?;
+    let mut symbolic_run = first_course(alloc, sorts)?;
     let list = Vec::new(alloc);
     let mut found = Found {
         ways: list,
         count: 0,
     };
-    ways_from(&setting, blocks.len(), block, &mut course, &mut found)?;
+    ways_from(&setting, blocks.len(), block, &mut symbolic_run, &mut found)?;
     let Found { ways, .. } = found;
     Ok(ways)
 }

@@ -4,7 +4,7 @@ use Rattle.text_parser.specs.declared.fault.TextFault.{TextFault}
 use Rattle.text_parser.specs.declared.terminal.Terminal.TheVariants.{RoundClose, SquareClose, Plus, Dot, Separator}
 use Rattle.text_parser.specs.declared.terminal.Separator.TheVariants.{Comma, Semicolon, Caret}
 use Rattle.text_parser.specs.Lexemes.{Lexeme, is_terminal}
-use Rattle.text_parser.specs.Parsed.{Parsed, ◌>>=◌, before, then_wants}
+use Rattle.text_parser.specs.Parsed.{Parsed, ◌>>=◌, before, then_expects}
 use Rattle.text_parser.specs.Phrases.{Leaf, cons_token}
 use Rattle.text_parser.proofs.ParserCompleteness.{then_rest, checked, closed}
 use Rattle.problem_file.specs.Phrases.{ended}
@@ -48,11 +48,11 @@ items_long [] = omega arith
 items_long (i ∷ items) = omega (arith, items_long items, item_long i (spelled items))
 
 -- reading two values and then passing both to a step
-asked : {S V : Type 0} (ask : V → V → Result S TextFault) (ts : List Lexeme) (v w : Result V TextFault) →
-    (before {V = V × V} ts (v >>= λ x. w >>= λ y. Ok (x, y)) >>= λ x. before x.1 (ask (x.0).0 (x.0).1)) ≡ before ts (v >>= λ x. w >>= λ y. ask x y)
-asked ask ts (Ok x) (Ok y) = refl
-asked ask ts (Ok x) (Err e) = refl
-asked ask ts (Err e) w = refl
+posed : {S V : Type 0} (pose : V → V → Result S TextFault) (ts : List Lexeme) (v w : Result V TextFault) →
+    (before {V = V × V} ts (v >>= λ x. w >>= λ y. Ok (x, y)) >>= λ x. before x.1 (pose (x.0).0 (x.0).1)) ≡ before ts (v >>= λ x. w >>= λ y. pose x y)
+posed pose ts (Ok x) (Ok y) = refl
+posed pose ts (Ok x) (Err e) = refl
+posed pose ts (Err e) w = refl
 
 paired : {V : Type 0} (ts : List Lexeme) (x : V) (w : Result V TextFault) → ◌≡◌ {A = Parsed (V × V)} (before ts w >>= λ y. Ok ((x, y.0), y.1)) (before {V = V × V} ts (w >>= λ y. Ok (x, y)))
 paired ts x (Ok y) = refl
@@ -64,8 +64,8 @@ module _ {S V : Type 0} (g : FileActions S V) (t : ExprFold S V) (reads : (s : S
   sides_folded s p comma q end ts o =
       let us = ended end ts in
       let vs = gkat_onto q us in
-      let first : then_wants (is_terminal (Separator Comma)) (g.expr s (sides_onto p comma q us)) ≡ before vs (t s p) =
-      ap (then_wants (is_terminal (Separator Comma))) (reads s p (cons_token (Separator Comma) comma vs) o.0 (refl, refl, refl)) ∙ closed (Separator Comma) comma vs (t s p) refl in
+      let first : then_expects (is_terminal (Separator Comma)) (g.expr s (sides_onto p comma q us)) ≡ before vs (t s p) =
+      ap (then_expects (is_terminal (Separator Comma))) (reads s p (cons_token (Separator Comma) comma vs) o.0 (refl, refl, refl)) ∙ closed (Separator Comma) comma vs (t s p) refl in
       ap (λ (m : Parsed V). m >>= λ x. g.expr s x.1 >>= λ y. Ok ((x.0, y.0), y.1)) first
       ∙ then_rest vs us (t s p) (λ x. g.expr s x.1 >>= λ y. Ok ((x.0, y.0), y.1)) (λ x. t s q >>= λ y. Ok (x, y))
       (λ x. ap (λ (m : Parsed V). m >>= λ y. Ok ((x, y.0), y.1)) (reads s q us o.1 (refl, refl, refl)) ∙ paired us x (t s q))
@@ -76,9 +76,9 @@ module _ {S V : Type 0} (g : FileActions S V) (t : ExprFold S V) (reads : (s : S
   item_folded (equal keyword p comma q end) s ts o =
       let sides : Result (V × V) TextFault = t s p >>= λ x. t s q >>= λ y. Ok (x, y) in
       checked ts (g.begin_equal s keyword.at) _ _
-      (λ u. ap (λ (m : Parsed (V × V)). then_wants (is_terminal (Separator Semicolon)) m >>= λ x. before x.1 (g.ask s keyword.at (x.0).0 (x.0).1)) (sides_folded s p comma q end ts o)
-      ∙ ap (λ (m : Parsed (V × V)). m >>= λ x. before x.1 (g.ask s keyword.at (x.0).0 (x.0).1)) (closed (Separator Semicolon) end ts sides refl)
-      ∙ asked (g.ask s keyword.at) ts (t s p) (t s q))
+      (λ u. ap (λ (m : Parsed (V × V)). then_expects (is_terminal (Separator Semicolon)) m >>= λ x. before x.1 (g.pose s keyword.at (x.0).0 (x.0).1)) (sides_folded s p comma q end ts o)
+      ∙ ap (λ (m : Parsed (V × V)). m >>= λ x. before x.1 (g.pose s keyword.at (x.0).0 (x.0).1)) (closed (Separator Semicolon) end ts sides refl)
+      ∙ posed (g.pose s keyword.at) ts (t s p) (t s q))
 
   then_items : (items : List GkatItem) (n : ℕ) (r : Result S TextFault) → ((u : S) → items_within (item_by g) n u (spelled items) ≡ fold_items g t u items) → (before (spelled items) r >>= λ x. items_within (item_by g) n x.0 x.1) ≡ (r >>= λ u. fold_items g t u items)
   then_items items n (Ok u) h = h u

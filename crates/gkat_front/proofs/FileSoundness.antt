@@ -4,9 +4,9 @@ use Rattle.text_parser.specs.declared.terminal.Terminal.TheVariants.{Keyword, Se
 use Rattle.text_parser.specs.declared.terminal.Keyword.TheVariants as word
 use Rattle.text_parser.specs.declared.terminal.Separator.TheVariants.{Comma, Semicolon}
 use Rattle.text_parser.specs.Lexemes.{Lexeme, lexeme, is_terminal}
-use Rattle.text_parser.specs.Parsed.{◌>>=◌, before, then_wants}
+use Rattle.text_parser.specs.Parsed.{◌>>=◌, before, then_expects}
 use Rattle.text_parser.specs.Phrases.{cons_token}
-use Rattle.text_parser.proofs.ParserSoundness.{leaf, bind_ok, before_ok, wanted_ok}
+use Rattle.text_parser.proofs.ParserSoundness.{leaf, bind_ok, before_ok, expected_ok}
 use Rattle.while_lang.proofs.BlockSoundness.{rest_of}
 use Rattle.problem_file.specs.Phrases.{ended}
 use Rattle.problem_file.specs.Items.{items_within}
@@ -29,11 +29,11 @@ module _ {S V : Type 0} (g : FileActions S V) (expr_is : (s : S) (ts : List Lexe
   equal_found : (s : S) (at : ℕ) (text : List ℕ) (ts : List Lexeme) (y : S × List Lexeme) → equal_by g s at ts ≡ Ok y → ItemFound (lexeme (Keyword word.Equal) at text ∷ ts) y.1
   equal_found s at text ts y e =
       let a = bind_ok (g.begin_equal s at) _ y e in
-      let b = bind_ok (then_wants (is_terminal (Separator Semicolon)) (sides_by g s ts)) (λ x. before x.1 (g.ask s at (x.0).0 (x.0).1)) y a.2 in
-      let same : (b.0).1 ≡ y.1 = before_ok (b.0).1 (g.ask s at ((b.0).0).0 ((b.0).0).1) y.0 y.1 b.2 in
-      let c = wanted_ok (Separator Semicolon) (sides_by g s ts) b.0 b.1 in
-      let d = bind_ok (then_wants (is_terminal (Separator Comma)) (g.expr s ts)) (λ x. g.expr s x.1 >>= λ y. Ok ((x.0, y.0), y.1)) ((b.0).0, ended c.0 (b.0).1) c.1 in
-      let l = wanted_ok (Separator Comma) (g.expr s ts) d.0 d.1 in
+      let b = bind_ok (then_expects (is_terminal (Separator Semicolon)) (sides_by g s ts)) (λ x. before x.1 (g.pose s at (x.0).0 (x.0).1)) y a.2 in
+      let same : (b.0).1 ≡ y.1 = before_ok (b.0).1 (g.pose s at ((b.0).0).0 ((b.0).0).1) y.0 y.1 b.2 in
+      let c = expected_ok (Separator Semicolon) (sides_by g s ts) b.0 b.1 in
+      let d = bind_ok (then_expects (is_terminal (Separator Comma)) (g.expr s ts)) (λ x. g.expr s x.1 >>= λ y. Ok ((x.0, y.0), y.1)) ((b.0).0, ended c.0 (b.0).1) c.1 in
+      let l = expected_ok (Separator Comma) (g.expr s ts) d.0 d.1 in
       let r = bind_ok (g.expr s (d.0).1) (λ y. Ok (((d.0).0, y.0), y.1)) ((b.0).0, ended c.0 (b.0).1) d.2 in
       let last : (r.0).1 ≡ ended c.0 y.1 = ap rest_of r.2 ∙ ap (ended c.0) same in
       let q : IsGkatPhrase expr 0 (d.0).1 (ended c.0 y.1) = subst (IsGkatPhrase expr 0 (d.0).1) last (expr_is s (d.0).1 r.0 r.1) in

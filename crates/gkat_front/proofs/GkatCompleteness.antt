@@ -4,7 +4,7 @@ use Rattle.text_parser.specs.declared.fault.TextFault.{TextFault}
 use Rattle.text_parser.specs.declared.terminal.Terminal.TheVariants.{RoundClose, SquareClose, Plus, Dot, Separator}
 use Rattle.text_parser.specs.declared.terminal.Separator.TheVariants.{Caret}
 use Rattle.text_parser.specs.Lexemes.{Lexeme, heads, is_terminal}
-use Rattle.text_parser.specs.Parsed.{Parsed, ◌>>=◌, before, change, then_wants}
+use Rattle.text_parser.specs.Parsed.{Parsed, ◌>>=◌, before, change, then_expects}
 use Rattle.text_parser.specs.Phrases.{cond, Phrase, cons_token, yield_before, MeetsLookahead}
 use Rattle.text_parser.specs.Ends.{Ends}
 use Rattle.text_parser.proofs.ParserCompleteness.{then_rest, checked, changed, closed}
@@ -33,8 +33,8 @@ module _ {C P V : Type 0} (g : GkatActions C P V) (t : CondFold C) (reads : (d :
   guard_read : (d : ℕ) (b : Guard) (ts : List Lexeme) → GuardObeys b ts → guard_by g d (guard_onto b ts) ≡ before ts (fold_guard t d b)
   guard_read d b ts o =
       let us = cons_token SquareClose b.closing ts in
-      checked ts (enter d b.opening.at) (λ e. then_wants (is_terminal SquareClose) (g.cond e (yield_before b.inner us))) (λ e. t e b.inner)
-      (λ e. ap (then_wants (is_terminal SquareClose)) (reads e b.inner us o refl) ∙ closed SquareClose b.closing ts (t e b.inner) refl)
+      checked ts (enter d b.opening.at) (λ e. then_expects (is_terminal SquareClose) (g.cond e (yield_before b.inner us))) (λ e. t e b.inner)
+      (λ e. ap (then_expects (is_terminal SquareClose)) (reads e b.inner us o refl) ∙ closed SquareClose b.closing ts (t e b.inner) refl)
 
   -- reading the tokens as the symbol gives this value
   abbrev pub ReadsAs : (x : GkatSymbol) → ℕ → List Lexeme → List Lexeme → Folded P V x → Type 0
@@ -80,5 +80,5 @@ module _ {C P V : Type 0} (g : GkatActions C P V) (t : CondFold C) (reads : (d :
   gkat_read (guard_unit b) d ts o s = ap (change g.test) (guard_read d b ts o) ∙ changed ts g.test (fold_guard t d b)
   gkat_read (round_unit opening e closing) d ts o s =
       let us = cons_token RoundClose closing ts in
-      checked ts (enter d opening.at) (λ n. then_wants (is_terminal RoundClose) (f whole n (gkat_onto e us))) (λ n. fold_gkat g t n e)
-      (λ n. ap (then_wants (is_terminal RoundClose)) (gkat_read e n us o (refl, refl, refl)) ∙ closed RoundClose closing ts (fold_gkat g t n e) refl)
+      checked ts (enter d opening.at) (λ n. then_expects (is_terminal RoundClose) (f whole n (gkat_onto e us))) (λ n. fold_gkat g t n e)
+      (λ n. ap (then_expects (is_terminal RoundClose)) (gkat_read e n us o (refl, refl, refl)) ∙ closed RoundClose closing ts (fold_gkat g t n e) refl)

@@ -3,10 +3,10 @@ use Rattle.std.proofs.Common.{◌≡◌, ℕ, zero, suc, ◌+◌, List, [], ◌�
 use Rattle.text_parser.specs.declared.terminal.Terminal.TheVariants.{RoundOpen, RoundClose, SquareOpen, SquareClose, Plus, Dot, Zero, One, Name, Separator}
 use Rattle.text_parser.specs.declared.terminal.Separator.TheVariants.{Caret}
 use Rattle.text_parser.specs.Lexemes.{Lexeme, lexeme, heads, is_terminal}
-use Rattle.text_parser.specs.Parsed.{◌>>=◌, change, wants, place_of}
+use Rattle.text_parser.specs.Parsed.{◌>>=◌, change, expects, place_of}
 use Rattle.text_parser.specs.Phrases.{cond, Leaf, cons_token, IsPhrase}
-use Rattle.text_parser.proofs.TerminalEquality.{wants_ok}
-use Rattle.text_parser.proofs.ParserSoundness.{leaf, bind_ok, chosen, changed_ok, before_ok, wanted_ok, terminal_headed}
+use Rattle.text_parser.proofs.TerminalEquality.{expects_ok}
+use Rattle.text_parser.proofs.ParserSoundness.{leaf, bind_ok, chosen, changed_ok, before_ok, expected_ok, terminal_headed}
 use Rattle.while_lang.specs.Blocks.{enter}
 use Rattle.while_lang.proofs.BlockSoundness.{enter_ok, rest_of}
 use Rattle.gkat_front.specs.GkatActions.{GkatActions}
@@ -36,11 +36,11 @@ factors_found d ts mid rest x (dotted dot us spelled more) =
 module _ {C P V : Type 0} (g : GkatActions C P V) (cond_is : (d : ℕ) (ts : List Lexeme) (y : C × List Lexeme) → g.cond d ts ≡ Ok y → IsPhrase cond d ts y.1) where
   guard_is : (d : ℕ) (ts : List Lexeme) (y : C × List Lexeme) → guard_by g d ts ≡ Ok y → IsGuard d ts y.1
   guard_is d ts y e =
-      let a = bind_ok (wants (is_terminal SquareOpen) ts) _ y e in
-      let w = wants_ok SquareOpen ts a.0 a.1 in
+      let a = bind_ok (expects (is_terminal SquareOpen) ts) _ y e in
+      let w = expects_ok SquareOpen ts a.0 a.1 in
       let b = bind_ok (enter d (place_of ts)) _ y a.2 in
       let n = enter_ok d b.0 (place_of ts) b.1 in
-      let k = wanted_ok SquareClose (g.cond b.0 a.0) y b.2 in
+      let k = expected_ok SquareClose (g.cond b.0 a.0) y b.2 in
       let last : List Lexeme = cons_token SquareClose k.0 y.1 in
       let i : IsPhrase cond (d + 1) a.0 last = subst (λ (m : ℕ). IsPhrase cond m a.0 last) n.1 (cond_is b.0 a.0 (y.0, last) k.1) in
       record {
@@ -60,11 +60,11 @@ module _ {C P V : Type 0} (g : GkatActions C P V) (cond_is : (d : ℕ) (ts : Lis
   module _ (f : GkatParser P V) (s : Finds f) where
     round_is : (d : ℕ) (ts : List Lexeme) (y : V × List Lexeme) → round_by f d ts ≡ Ok y → IsGkatPhrase unit d ts y.1
     round_is d ts y e =
-        let a = bind_ok (wants (is_terminal RoundOpen) ts) _ y e in
-        let w = wants_ok RoundOpen ts a.0 a.1 in
+        let a = bind_ok (expects (is_terminal RoundOpen) ts) _ y e in
+        let w = expects_ok RoundOpen ts a.0 a.1 in
         let b = bind_ok (enter d (place_of ts)) _ y a.2 in
         let n = enter_ok d b.0 (place_of ts) b.1 in
-        let k = wanted_ok RoundClose (f whole b.0 a.0) y b.2 in
+        let k = expected_ok RoundClose (f whole b.0 a.0) y b.2 in
         let last : List Lexeme = cons_token RoundClose k.0 y.1 in
         let i : IsGkatPhrase expr (d + 1) a.0 last = subst (λ (m : ℕ). IsGkatPhrase expr m a.0 last) n.1 (s whole b.0 a.0 (y.0, last) k.1) in
         record {

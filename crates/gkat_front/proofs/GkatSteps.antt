@@ -3,10 +3,10 @@ use Rattle.std.proofs.Common.{◌≡◌, ℕ, zero, suc, ◌+◌, ◌<◌, List,
 use Rattle.text_parser.specs.declared.terminal.Terminal.TheVariants.{RoundOpen, RoundClose, SquareOpen, SquareClose, Plus, Dot, Zero, One, Name, Separator}
 use Rattle.text_parser.specs.declared.terminal.Separator.TheVariants.{Caret}
 use Rattle.text_parser.specs.Lexemes.{Lexeme, lexeme, heads, is_terminal}
-use Rattle.text_parser.specs.Parsed.{Parsed, ◌>>=◌, change, then_wants, place_of}
-use Rattle.text_parser.proofs.Within.{Within, bind_within, if_within, weaken, before_within, enter_within, change_within, then_wants_within, headed, bind_same, if_same, enter_same}
+use Rattle.text_parser.specs.Parsed.{Parsed, ◌>>=◌, change, then_expects, place_of}
+use Rattle.text_parser.proofs.Within.{Within, bind_within, if_within, weaken, before_within, enter_within, change_within, then_expects_within, headed, bind_same, if_same, enter_same}
 use Rattle.while_lang.specs.Blocks.{enter}
-use Rattle.while_lang.proofs.BlockSteps.{wanted_within, wanted_same}
+use Rattle.while_lang.proofs.BlockSteps.{expected_within, expected_same}
 use Rattle.gkat_front.specs.GkatActions.{GkatActions}
 use Rattle.gkat_front.specs.GkatWalks.{GkatAim, whole, factors_after, GkatParser, guard_by, round_by, unit_by, loop_by, factor_by, product_by, choice_by, gkat_by, gkat_within, parse_gkat}
 
@@ -22,9 +22,9 @@ IsShort {P} {V} f = (x : GkatAim P) (d : ℕ) (ts : List Lexeme) → Within (bou
 module _ {C P V : Type 0} (g : GkatActions C P V) where
   pub guard_short : (d : ℕ) (ts : List Lexeme) → Within (length ts) (guard_by g d ts)
   guard_short d ts =
-      wanted_within (is_terminal SquareOpen) (length ts) ts _
+      expected_within (is_terminal SquareOpen) (length ts) ts _
       (λ a lt. enter_within (length ts) (enter d (place_of ts)) _
-      (λ e. then_wants_within (is_terminal SquareClose) (length ts) (g.cond e a) (weaken (length a) (length ts) (g.cond e a) (omega arith) (g.shorter e a))))
+      (λ e. then_expects_within (is_terminal SquareClose) (length ts) (g.cond e a) (weaken (length a) (length ts) (g.cond e a) (omega arith) (g.shorter e a))))
 
   pub loop_short : (d : ℕ) (v : V) (ts : List Lexeme) → Within (length ts + 1) (loop_by g d v ts)
   loop_short d v ts =
@@ -36,9 +36,9 @@ module _ {C P V : Type 0} (g : GkatActions C P V) where
   module _ (f : GkatParser P V) (s : IsShort f) where
     pub round_short : (d : ℕ) (ts : List Lexeme) → Within (length ts) (round_by f d ts)
     round_short d ts =
-        wanted_within (is_terminal RoundOpen) (length ts) ts _
+        expected_within (is_terminal RoundOpen) (length ts) ts _
         (λ a lt. enter_within (length ts) (enter d (place_of ts)) _
-        (λ e. then_wants_within (is_terminal RoundClose) (length ts) (f whole e a) (weaken (length a) (length ts) (f whole e a) (omega arith) (s whole e a))))
+        (λ e. then_expects_within (is_terminal RoundClose) (length ts) (f whole e a) (weaken (length a) (length ts) (f whole e a) (omega arith) (s whole e a))))
 
     pub unit_short : (d : ℕ) (ts : List Lexeme) → Within (length ts) (unit_by g f d ts)
     unit_short d [] = tt
@@ -92,7 +92,7 @@ module _ {C P V : Type 0} (g : GkatActions C P V) where
   module _ (f h : GkatParser P V) (s : IsShort f) where
     round_same : (d : ℕ) (ts : List Lexeme) → Same f h (length ts) → round_by f d ts ≡ round_by h d ts
     round_same d ts a =
-        wanted_same (is_terminal RoundOpen) ts _ _ (λ us lt. enter_same (enter d (place_of ts)) _ _ (λ e. ap (then_wants (is_terminal RoundClose)) (a whole e us lt)))
+        expected_same (is_terminal RoundOpen) ts _ _ (λ us lt. enter_same (enter d (place_of ts)) _ _ (λ e. ap (then_expects (is_terminal RoundClose)) (a whole e us lt)))
 
     unit_same : (d : ℕ) (ts : List Lexeme) → Same f h (length ts) → unit_by g f d ts ≡ unit_by g h d ts
     unit_same d [] a = refl

@@ -7,12 +7,12 @@ use Rattle.text_parser.specs.declared.terminal.Terminal.TheVariants.{RoundOpen, 
 use Rattle.text_parser.specs.declared.terminal.Keyword.TheVariants as word
 use Rattle.text_parser.specs.declared.terminal.Separator.TheVariants.{Comma, Semicolon, Caret}
 use Rattle.text_parser.specs.Lexemes.{Lexeme, lexeme, heads, is_terminal}
-use Rattle.text_parser.specs.Parsed.{◌>>=◌, then_wants, place_of}
+use Rattle.text_parser.specs.Parsed.{◌>>=◌, then_expects, place_of}
 use Rattle.text_parser.specs.Actions.{context}
 use Rattle.text_parser.specs.Scans.{scanning_conds}
 use Rattle.text_parser.specs.Conds.{parse_cond, disjunction}
-use Rattle.text_parser.proofs.Within.{Within, bind_within, weaken, before_within, enter_within, then_wants_within, headed}
-use Rattle.text_parser.proofs.NamedFaults.{IsNamed, then_named, bind_named, if_named, before_named, change_named, then_wants_named, cond_named}
+use Rattle.text_parser.proofs.Within.{Within, bind_within, weaken, before_within, enter_within, then_expects_within, headed}
+use Rattle.text_parser.proofs.NamedFaults.{IsNamed, then_named, bind_named, if_named, before_named, change_named, then_expects_named, cond_named}
 use Rattle.text_parser.specs.declared.meaning.Meaning.{Meaning}
 use Rattle.text_parser.specs.declared.meaning.Meaning.TheVariants.{Test, Action}
 use Rattle.text_parser.specs.ScopeParts.{ScopeParts, meaning}
@@ -31,7 +31,7 @@ use Rattle.gkat_front.specs.Files.{GkatState, start, check_new, file_with, file_
 use Rattle.gkat_front.specs.Making.{scanning, scan_file, making, parse_items, tested}
 use Rattle.problem_file.proofs.Lists.{items_named as all_named}
 use Rattle.while_lang.proofs.BlockFaults.{enter_named}
-use Rattle.problem_file.proofs.NamedBlocks.{wanted_named}
+use Rattle.problem_file.proofs.NamedBlocks.{expected_named}
 use Rattle.problem_file.proofs.NameWalks.{declaration_named, declaration_short}
 use Rattle.problem_file.proofs.NamedTexts.{extents_named, trees_named, scanning_named as scanning_phrases_named}
 use Rattle.gkat_front.proofs.GkatSteps.{IsShort, guard_short, factor_short, product_short, within_short, gkat_read_short}
@@ -44,9 +44,9 @@ module _ {C P V : Type 0} (g : GkatActions C P V) (conds : (d : ℕ) (ts : List 
 
   guard_named : (d : ℕ) (ts : List Lexeme) → IsNamed (guard_by g d ts)
   guard_named d ts =
-      wanted_named (is_terminal SquareOpen) ts (λ us. enter d (place_of ts) >>= λ e. then_wants (is_terminal SquareClose) (g.cond e us))
-      (λ us lt. then_named (enter d (place_of ts)) (λ e. then_wants (is_terminal SquareClose) (g.cond e us)) (enter_named d (place_of ts))
-      (λ e. then_wants_named (is_terminal SquareClose) (g.cond e us) (conds e us)))
+      expected_named (is_terminal SquareOpen) ts (λ us. enter d (place_of ts) >>= λ e. then_expects (is_terminal SquareClose) (g.cond e us))
+      (λ us lt. then_named (enter d (place_of ts)) (λ e. then_expects (is_terminal SquareClose) (g.cond e us)) (enter_named d (place_of ts))
+      (λ e. then_expects_named (is_terminal SquareClose) (g.cond e us) (conds e us)))
 
   loop_named : (d : ℕ) (v : V) (ts : List Lexeme) → IsNamed (loop_by g d v ts)
   loop_named d v ts = if_named (heads (is_terminal (Separator Caret)) ts) _ (Ok (v, ts)) (λ e. change_named _ (guard_by g d (drop 1 ts)) (guard_named d (drop 1 ts))) (λ e. tt)
@@ -54,9 +54,9 @@ module _ {C P V : Type 0} (g : GkatActions C P V) (conds : (d : ℕ) (ts : List 
   module _ (f : GkatParser P V) (s : IsShort f) where
     round_named : (d : ℕ) (ts : List Lexeme) → NamesBelow f (length ts) → IsNamed (round_by f d ts)
     round_named d ts a =
-        wanted_named (is_terminal RoundOpen) ts (λ us. enter d (place_of ts) >>= λ e. then_wants (is_terminal RoundClose) (f whole e us))
-        (λ us lt. then_named (enter d (place_of ts)) (λ e. then_wants (is_terminal RoundClose) (f whole e us)) (enter_named d (place_of ts))
-        (λ e. then_wants_named (is_terminal RoundClose) (f whole e us) (a whole e us lt)))
+        expected_named (is_terminal RoundOpen) ts (λ us. enter d (place_of ts) >>= λ e. then_expects (is_terminal RoundClose) (f whole e us))
+        (λ us lt. then_named (enter d (place_of ts)) (λ e. then_expects (is_terminal RoundClose) (f whole e us)) (enter_named d (place_of ts))
+        (λ e. then_expects_named (is_terminal RoundClose) (f whole e us) (a whole e us lt)))
 
     unit_named : (d : ℕ) (ts : List Lexeme) → NamesBelow f (length ts) → IsNamed (unit_by g f d ts)
     unit_named d [] a = tt
@@ -111,30 +111,30 @@ record NameFiles {S V : Type 0} (g : FileActions S V) : Type 0 where
   tests : (s : S) (at : ℕ) (text : List ℕ) → IsNamed (g.declare_test s at text)
   actions : (s : S) (at : ℕ) (text : List ℕ) → IsNamed (g.declare_action s at text)
   begins : (s : S) (at : ℕ) → IsNamed (g.begin_equal s at)
-  asks : (s : S) (at : ℕ) (l r : V) → IsNamed (g.ask s at l r)
+  poses : (s : S) (at : ℕ) (l r : V) → IsNamed (g.pose s at l r)
 
 module _ {S V : Type 0} (g : FileActions S V) (h : NameFiles g) where
   sides_named : (s : S) (ts : List Lexeme) → IsNamed (sides_by g s ts)
   sides_named s ts =
-      then_named (then_wants (is_terminal (Separator Comma)) (g.expr s ts)) _ (then_wants_named (is_terminal (Separator Comma)) (g.expr s ts) (h.exprs s ts))
+      then_named (then_expects (is_terminal (Separator Comma)) (g.expr s ts)) _ (then_expects_named (is_terminal (Separator Comma)) (g.expr s ts) (h.exprs s ts))
       (λ x. then_named (g.expr s x.1) _ (h.exprs s x.1) (λ y. tt))
 
   sides_short : (s : S) (ts : List Lexeme) → Within (length ts) (sides_by g s ts)
   sides_short s ts =
-      bind_within (length ts) (length ts) (then_wants (is_terminal (Separator Comma)) (g.expr s ts)) _ (then_wants_within (is_terminal (Separator Comma)) (length ts) (g.expr s ts) (h.shorter s ts))
+      bind_within (length ts) (length ts) (then_expects (is_terminal (Separator Comma)) (g.expr s ts)) _ (then_expects_within (is_terminal (Separator Comma)) (length ts) (g.expr s ts) (h.shorter s ts))
       (λ x lt. bind_within (length x.1) (length ts) (g.expr s x.1) _ (h.shorter s x.1) (λ y less. omega arith))
 
   equal_named : (s : S) (at : ℕ) (ts : List Lexeme) → IsNamed (equal_by g s at ts)
   equal_named s at ts =
       then_named (g.begin_equal s at) _ (h.begins s at)
-      (λ u. then_named (then_wants (is_terminal (Separator Semicolon)) (sides_by g s ts)) _ (then_wants_named (is_terminal (Separator Semicolon)) (sides_by g s ts) (sides_named s ts))
-      (λ x. before_named x.1 (g.ask s at (x.0).0 (x.0).1) (h.asks s at (x.0).0 (x.0).1)))
+      (λ u. then_named (then_expects (is_terminal (Separator Semicolon)) (sides_by g s ts)) _ (then_expects_named (is_terminal (Separator Semicolon)) (sides_by g s ts) (sides_named s ts))
+      (λ x. before_named x.1 (g.pose s at (x.0).0 (x.0).1) (h.poses s at (x.0).0 (x.0).1)))
 
   equal_short : (s : S) (at : ℕ) (ts : List Lexeme) → Within (length ts) (equal_by g s at ts)
   equal_short s at ts =
       enter_within (length ts) (g.begin_equal s at) _
-      (λ u. bind_within (length ts) (length ts) (then_wants (is_terminal (Separator Semicolon)) (sides_by g s ts)) _ (then_wants_within (is_terminal (Separator Semicolon)) (length ts) (sides_by g s ts) (sides_short s ts))
-      (λ x lt. before_within (length ts) x.1 (g.ask s at (x.0).0 (x.0).1) lt))
+      (λ u. bind_within (length ts) (length ts) (then_expects (is_terminal (Separator Semicolon)) (sides_by g s ts)) _ (then_expects_within (is_terminal (Separator Semicolon)) (length ts) (sides_by g s ts) (sides_short s ts))
+      (λ x lt. before_within (length ts) x.1 (g.pose s at (x.0).0 (x.0).1) lt))
 
   item_named : (s : S) (ts : List Lexeme) → IsNamed (item_by g s ts)
   item_named s [] = tt
@@ -179,7 +179,7 @@ scanning_named = record {
   tests = λ s at text. tt;
   actions = λ s at text. tt;
   begins = λ s at. tt;
-  asks = λ s at l r. tt;
+  poses = λ s at l r. tt;
 }
 
 making_named : NameFiles making
@@ -189,7 +189,7 @@ making_named = record {
   tests = λ s at text. then_named (check_new s.world at text) _ (check_named s.world at text) (λ u. if_named (nat_le MAX_TESTS s.tests) (Err (TooMany at)) _ (λ e. tt) (λ e. tt));
   actions = λ s at text. then_named (check_new s.world at text) _ (check_named s.world at text) (λ u. if_named (nat_le MAX_ACTIONS s.actions) (Err (TooMany at)) _ (λ e. tt) (λ e. tt));
   begins = λ s at. if_named (is_some s.sides) (Err (TwoGoals at)) (Ok tt) (λ e. tt) (λ e. tt);
-  asks = λ s at l r. if_named (nat_lt MAX_TERM_NODES (gkat_size l)) (Err (TooLarge at)) _ (λ e. tt) (λ e. if_named (nat_lt MAX_TERM_NODES (gkat_size r)) (Err (TooLarge at)) _ (λ k. tt) (λ k. tt));
+  poses = λ s at l r. if_named (nat_lt MAX_TERM_NODES (gkat_size l)) (Err (TooLarge at)) _ (λ e. tt) (λ e. if_named (nat_lt MAX_TERM_NODES (gkat_size r)) (Err (TooLarge at)) _ (λ k. tt) (λ k. tt));
 }
 
 file_named : (s : GkatState) (o : Option (GkatTree × GkatTree)) → IsNamed (file_with s o)

@@ -33,8 +33,8 @@ right_counted q e n h same is =
 
 -- no hypothesis is stated
 pub none_stated : (hyps : List Kat) (es : List Term) (none : Bool) → none ≡ true → none ≡ nat_eq (length hyps) 0 → map kat_tree hyps ≡ es → es ≡ []
-none_stated [] es none told is same = sym same
-none_stated (h ∷ hyps) es none told is same = absurd (omega (arith, eqb-true (length (h ∷ hyps)) 0 (sym is ∙ told)))
+none_stated [] es none given is same = sym same
+none_stated (h ∷ hyps) es none given is same = absurd (omega (arith, eqb-true (length (h ∷ hyps)) 0 (sym is ∙ given)))
 
 pub bound_fits : (m n : ℕ) → m ≤ MAX_TERM_NODES → n ≤ MAX_TERM_NODES → (m + 2) * (n + 2) < 2 ^ 64
 bound_fits m n h k =

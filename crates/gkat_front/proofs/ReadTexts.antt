@@ -13,8 +13,8 @@ use Rattle.gkat_front.specs.Reads.{Reads}
 use Rattle.gkat_front.proofs.ScannedTexts.{texts_are_scanned}
 use Rattle.gkat_front.proofs.MadeTexts.{texts_are_made}
 
-pub read_told : (bytes : List ℕ) (ms : List TokenParts) (f : GkatFileParts) → Lexes bytes ms → tested (map lexeme_of ms) ≡ Ok f → Reads bytes f
-read_told bytes ms f lexes e =
+pub read_given : (bytes : List ℕ) (ms : List TokenParts) (f : GkatFileParts) → Lexes bytes ms → tested (map lexeme_of ms) ≡ Ok f → Reads bytes f
+read_given bytes ms f lexes e =
     let ts = map lexeme_of ms in
     let a = bind_ok (scan_file ts) (λ u. parse_items ts >>= file_of) f e in
     let x = (texts_are_scanned ts).0 a.1 in

@@ -11,4 +11,4 @@ pub record FileActions (S V : Type 0) : Type 0 where
   pub declare_test : S → ℕ → List ℕ → Result S TextFault
   pub declare_action : S → ℕ → List ℕ → Result S TextFault
   pub begin_equal : S → ℕ → Result (Unit {0}) TextFault
-  pub ask : S → ℕ → V → V → Result S TextFault
+  pub pose : S → ℕ → V → V → Result S TextFault

@@ -17,7 +17,7 @@ ExprFold S V = S → GkatPhrase expr → Result V TextFault
 abbrev pub fold_item : {S V : Type 0} → FileActions S V → ExprFold S V → S → GkatItem → Result S TextFault
 fold_item g x s (tests keyword ns end) = fold_names g.declare_test s ns
 fold_item g x s (actions keyword ns end) = fold_names g.declare_action s ns
-fold_item g x s (equal keyword p comma q end) = g.begin_equal s keyword.at >>= λ u. x s p >>= λ v. x s q >>= λ w. g.ask s keyword.at v w
+fold_item g x s (equal keyword p comma q end) = g.begin_equal s keyword.at >>= λ u. x s p >>= λ v. x s q >>= λ w. g.pose s keyword.at v w
 
 abbrev pub fold_items : {S V : Type 0} → FileActions S V → ExprFold S V → S → List GkatItem → Result S TextFault
 fold_items g x s [] = Ok s

@@ -47,8 +47,8 @@ abbrev pub begin_equal : GkatState → ℕ → Result (Unit {0}) TextFault
 begin_equal s at = if is_some s.sides then Err (TwoGoals at) else Ok tt
 
 -- stores the two sides of an item that begins at the place; each may have `MAX_TERM_NODES` nodes
-abbrev pub ask : GkatState → ℕ → GkatTree → GkatTree → Result GkatState TextFault
-ask s at l r =
+abbrev pub pose : GkatState → ℕ → GkatTree → GkatTree → Result GkatState TextFault
+pose s at l r =
     if nat_lt MAX_TERM_NODES (gkat_size l) then Err (TooLarge at)
     else if nat_lt MAX_TERM_NODES (gkat_size r) then Err (TooLarge at)
     else Ok (record s { sides = Some (l, r) })

@@ -4,7 +4,7 @@ use Rattle.text_parser.specs.declared.fault.TextFault.TheVariants.{NoMemory, Syn
 use Rattle.text_parser.specs.declared.terminal.Terminal.TheVariants.{RoundOpen, RoundClose, SquareOpen, SquareClose, Plus, Dot, Zero, One, Name, Separator}
 use Rattle.text_parser.specs.declared.terminal.Separator.TheVariants.{Caret}
 use Rattle.text_parser.specs.Lexemes.{Lexeme, lexeme, heads, is_terminal}
-use Rattle.text_parser.specs.Parsed.{Parsed, ◌>>=◌, at_end, place_of, before, change, wants, then_wants}
+use Rattle.text_parser.specs.Parsed.{Parsed, ◌>>=◌, at_end, place_of, before, change, expects, then_expects}
 use Rattle.while_lang.specs.Blocks.{enter}
 use Rattle.gkat_front.specs.GkatActions.{GkatActions}
 
@@ -19,7 +19,7 @@ GkatParser P V = GkatAim P → ℕ → List Lexeme → Parsed V
 
 -- "[" cond "]"
 abbrev pub guard_by : {C P V : Type 0} → GkatActions C P V → ℕ → List Lexeme → Parsed C
-guard_by g d ts = wants (is_terminal SquareOpen) ts >>= λ a. enter d (place_of ts) >>= λ e. then_wants (is_terminal SquareClose) (g.cond e a)
+guard_by g d ts = expects (is_terminal SquareOpen) ts >>= λ a. enter d (place_of ts) >>= λ e. then_expects (is_terminal SquareClose) (g.cond e a)
 
 -- the same, as an expression
 abbrev pub tested_by : {C P V : Type 0} → GkatActions C P V → ℕ → List Lexeme → Parsed V
@@ -27,7 +27,7 @@ tested_by g d ts = change g.test (guard_by g d ts)
 
 -- "(" g ")"
 abbrev pub round_by : {P V : Type 0} → GkatParser P V → ℕ → List Lexeme → Parsed V
-round_by f d ts = wants (is_terminal RoundOpen) ts >>= λ a. enter d (place_of ts) >>= λ e. then_wants (is_terminal RoundClose) (f whole e a)
+round_by f d ts = expects (is_terminal RoundOpen) ts >>= λ a. enter d (place_of ts) >>= λ e. then_expects (is_terminal RoundClose) (f whole e a)
 
 -- "0" | "1" | NAME | "[" cond "]" | "(" g ")"
 abbrev pub unit_by : {C P V : Type 0} → GkatActions C P V → GkatParser P V → ℕ → List Lexeme → Parsed V

@@ -6,18 +6,18 @@ use Rattle.text_parser.specs.declared.terminal.Terminal.TheVariants.{Keyword, Se
 use Rattle.text_parser.specs.declared.terminal.Keyword.TheVariants as word
 use Rattle.text_parser.specs.declared.terminal.Separator.TheVariants.{Comma, Semicolon}
 use Rattle.text_parser.specs.Lexemes.{Lexeme, lexeme, is_terminal}
-use Rattle.text_parser.specs.Parsed.{Parsed, ◌>>=◌, at_end, before, then_wants}
+use Rattle.text_parser.specs.Parsed.{Parsed, ◌>>=◌, at_end, before, then_expects}
 use Rattle.problem_file.specs.Items.{declaration_by, over_items}
 use Rattle.gkat_front.specs.FileActions.{FileActions}
 
 -- g "," g
 abbrev pub sides_by : {S V : Type 0} → FileActions S V → S → List Lexeme → Parsed (V × V)
-sides_by g s ts = then_wants (is_terminal (Separator Comma)) (g.expr s ts) >>= λ x. g.expr s x.1 >>= λ y. Ok ((x.0, y.0), y.1)
+sides_by g s ts = then_expects (is_terminal (Separator Comma)) (g.expr s ts) >>= λ x. g.expr s x.1 >>= λ y. Ok ((x.0, y.0), y.1)
 
 -- g "," g ";", after the keyword at the place
 abbrev pub equal_by : {S V : Type 0} → FileActions S V → S → ℕ → List Lexeme → Parsed S
 equal_by g s at ts =
-    g.begin_equal s at >>= λ u. then_wants (is_terminal (Separator Semicolon)) (sides_by g s ts) >>= λ x. before x.1 (g.ask s at (x.0).0 (x.0).1)
+    g.begin_equal s at >>= λ u. then_expects (is_terminal (Separator Semicolon)) (sides_by g s ts) >>= λ x. before x.1 (g.pose s at (x.0).0 (x.0).1)
 
 -- an item, selected by its keyword
 abbrev pub item_by : {S V : Type 0} → FileActions S V → S → List Lexeme → Parsed S

@@ -9,7 +9,7 @@ use Rattle.gkat_front.specs.GkatScans.{scanning_expr}
 use Rattle.gkat_front.specs.GkatMaking.{making_expr}
 use Rattle.gkat_front.specs.FileActions.{FileActions}
 use Rattle.gkat_front.specs.Items.{items_by}
-use Rattle.gkat_front.specs.Files.{GkatFileParts, GkatState, start, declare_test, declare_action, begin_equal, ask, file_of}
+use Rattle.gkat_front.specs.Files.{GkatFileParts, GkatState, start, declare_test, declare_action, begin_equal, pose, file_of}
 
 -- makes nothing and refuses no part
 abbrev pub scanning : FileActions (Unit {0}) (Unit {0})
@@ -18,7 +18,7 @@ scanning = record {
   declare_test = λ s at name. Ok tt;
   declare_action = λ s at name. Ok tt;
   begin_equal = λ s at. Ok tt;
-  ask = λ s at l r. Ok tt;
+  pose = λ s at l r. Ok tt;
 }
 
 -- succeeds if the tokens are items; otherwise gives the first syntax fault
@@ -31,7 +31,7 @@ making = record {
   declare_test = declare_test;
   declare_action = declare_action;
   begin_equal = begin_equal;
-  ask = ask;
+  pose = pose;
 }
 
 -- the state after all items, or the first fault of the first item that has one

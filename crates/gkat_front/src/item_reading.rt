@@ -52,6 +52,6 @@ pub(crate) trait GkatItemReading {
         ensures { Makes ⊥ (λ u. u) result ((actions).begin_equal (state self.now) at) };
 
     // Completes an item `equal` with its two sides.
-    fn ask(&mut self, at: usize, left: Self::Expr, right: Self::Expr) -> Result<(), TextFault>
-        ensures { Does memory result (state self.new) ((actions).ask (state self.old) at (expr left) (expr right)) };
+    fn pose(&mut self, at: usize, left: Self::Expr, right: Self::Expr) -> Result<(), TextFault>
+        ensures { Does memory result (state self.new) ((actions).pose (state self.old) at (expr left) (expr right)) };
 }

@@ -93,7 +93,7 @@ fn read_equal<R: GkatItemReading>(
     reading.begin_equal(at)?;
     let ((left, right), end) = read_sides(reading, toks, from)?;
     let end = expect(toks, end, Terminal::Separator(Separator::Semicolon))?;
-    reading.ask(at, left, right).and(Ok(end))
+    reading.pose(at, left, right).and(Ok(end))
 }
 
 #[tactic(auto, using(text_parser::proofs::TokenPlaces::next_drop))]

@@ -1,5 +1,6 @@
-//! Guarded Kleene algebra with tests (Smolka et al. 2020): its texts, the terms that its expressions denote, and the check
-//! whether a term is guarded.
+//! Guarded Kleene algebra with tests: its texts and its terms.
+//!
+//! Source: Smolka et al. 2020. The crate also checks whether a term is guarded.
 #![tactic(auto)]
 
 mod bound;

@@ -160,7 +160,7 @@ impl GkatItemReading for GkatReader {
 
     // A tree has at most two nodes for each token of its text, since a name denotes a single test or action. It is
     // therefore counted after it is built.
-    fn ask(&mut self, at: usize, left: Gkat, right: Gkat) -> Result<(), TextFault> {
+    fn pose(&mut self, at: usize, left: Gkat, right: Gkat) -> Result<(), TextFault> {
         if left.size() > MAX_TERM_NODES || right.size() > MAX_TERM_NODES {
             return Err(TextFault::TooLarge(at));
         }

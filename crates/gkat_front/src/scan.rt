@@ -108,7 +108,7 @@ impl GkatItemReading for FileScan {
         Ok(())
     }
 
-    fn ask(&mut self, _: usize, _: (), _: ()) -> Result<(), TextFault> {
+    fn pose(&mut self, _: usize, _: (), _: ()) -> Result<(), TextFault> {
         Ok(())
     }
 }

@@ -184,8 +184,8 @@ rules_by_form (product e f) s a x y has =
     (product_forms e f s has)
 rules_by_form (star e) s a x y has = let p = lone_factor (star e) s.befores s.afters s.act has.factors in let clash = p.0 in cc
 
-pub rules_out_told : (h : Term) (a : ℕ) (x y : Atom) → IsSimple h → rules_out h a x y ≡ true → RulesOut h a x y
-rules_out_told h a x y simple e =
+pub rules_out_given : (h : Term) (a : ℕ) (x y : Atom) → IsSimple h → rules_out h a x y ≡ true → RulesOut h a x y
+rules_out_given h a x y simple e =
     ⊎_elim
     (λ t. let clash = test_rules_nothing h a x y t in cc)
     (λ p.
@@ -194,18 +194,18 @@ rules_out_told h a x y simple e =
     record { form = p.0; is_form = p.1; action = eqb-true p.0.act a parts.0; before = both.0; after = both.1 })
     simple
 
-pub told_rules_out : (h : Term) (a : ℕ) (x y : Atom) → RulesOut h a x y → rules_out h a x y ≡ true
-told_rules_out h a x y r = rules_by_form h r.form a x y r.is_form ∙ rw (eq-eqb r.form.act a r.action, r.before, r.after) refl
+pub given_rules_out : (h : Term) (a : ℕ) (x y : Atom) → RulesOut h a x y → rules_out h a x y ≡ true
+given_rules_out h a x y r = rules_by_form h r.form a x y r.is_form ∙ rw (eq-eqb r.form.act a r.action, r.before, r.after) refl
 
 -- ---- lists of hypotheses
 
-pub allows_told : (hyps : List Term) (x : Atom) → allows hyps x ≡ true → IsAllowed hyps x
-allows_told [] x e h has is = absurd has
-allows_told (g ∷ hyps) x e h has is =
+pub allows_given : (hyps : List Term) (x : Atom) → allows hyps x ≡ true → IsAllowed hyps x
+allows_given [] x e h has is = absurd has
+allows_given (g ∷ hyps) x e h has is =
     let parts = and_parts (not (is_test g && out g x)) (allows hyps x) e in
     ⊎_elim
     (λ same. refused g parts.0 h same is)
-    (λ k. allows_told hyps x parts.1 h k is)
+    (λ k. allows_given hyps x parts.1 h k is)
     has
   where
     refused_own : (t v : Bool) → not (t && v) ≡ true → t ≡ true → v ≡ false
@@ -225,10 +225,10 @@ allowed_allows (g ∷ hyps) x is = rw (refused (is_test g) (out g x) (λ t. is g
     refused true false f = refl
     refused false v f = refl
 
-pub ruled_out_told : (hyps : List Term) (a : ℕ) (x y : Atom) → AreSimple hyps → some_rules_out hyps a x y ≡ true → IsRuledOut hyps a x y
-ruled_out_told hyps a x y simple e =
+pub ruled_out_given : (hyps : List Term) (a : ℕ) (x y : Atom) → AreSimple hyps → some_rules_out hyps a x y ≡ true → IsRuledOut hyps a x y
+ruled_out_given hyps a x y simple e =
     let found = has_any (λ h. rules_out h a x y) hyps e in
-    (found.0, found.1, rules_out_told found.0 a x y (simple found.0 found.1) found.2)
+    (found.0, found.1, rules_out_given found.0 a x y (simple found.0 found.1) found.2)
 
-pub told_ruled_out : (hyps : List Term) (a : ℕ) (x y : Atom) → IsRuledOut hyps a x y → some_rules_out hyps a x y ≡ true
-told_ruled_out hyps a x y r = any_has (λ h. rules_out h a x y) hyps r.0 r.1 (told_rules_out r.0 a x y r.2)
+pub given_ruled_out : (hyps : List Term) (a : ℕ) (x y : Atom) → IsRuledOut hyps a x y → some_rules_out hyps a x y ≡ true
+given_ruled_out hyps a x y r = any_has (λ h. rules_out h a x y) hyps r.0 r.1 (given_rules_out r.0 a x y r.2)

@@ -11,7 +11,7 @@ use Rattle.outline_rules.specs.StepFunctions.{StepDiagramsParts, step_value, IsS
 use Rattle.outline_rules.proofs.StepSets.{KeepsSteps-trans, IsStepDiagram-kept}
 use Rattle.goal_forms.specs.TestTerms.{AreSimple, IsRuledOut}
 use Rattle.goal_forms.specs.HypothesisForms.{allows, some_rules_out}
-use Rattle.goal_forms.proofs.SimpleForms.{allows_told, allowed_allows, ruled_out_told, told_ruled_out}
+use Rattle.goal_forms.proofs.SimpleForms.{allows_given, allowed_allows, ruled_out_given, given_ruled_out}
 use Rattle.hoare_outlines.specs.Working.AtomSets.{AtomSet, IsSetId, IsAllowedSet}
 use Rattle.hoare_outlines.specs.Working.Annotated.{LeadsInto}
 use Rattle.hoare_outlines.specs.Working.Reached.{Reached}
@@ -74,7 +74,7 @@ action_found q a X old mid new steps ends last simple tests lt allowed is_steps 
       are_sets = tt;
       end = end_set q mid ends;
       is_end = is_last;
-      allowed = λ atom wide h. allows_told q.hyps atom (and_parts (set_of mid ends atom) (allows q.hyps atom) h).1;
+      allowed = λ atom wide h. allows_given q.hyps atom (and_parts (set_of mid ends atom) (allows q.hyps atom) h).1;
       annotated = (refl, leads);
       reached = reached;
     }
@@ -83,7 +83,7 @@ action_found q a X old mid new steps ends last simple tests lt allowed is_steps 
     leads x y lx ly ax ay h miss = by_value (some_rules_out q.hyps a x y) refl
       where
         by_value : (b : Bool) → some_rules_out q.hyps a x y ≡ b → IsRuledOut q.hyps a x y
-        by_value true e = ruled_out_told q.hyps a x y simple e
+        by_value true e = ruled_out_given q.hyps a x y simple e
         by_value false e =
             let step : step_set q a X x y ≡ true = and_from (X x) (not (some_rules_out q.hyps a x y)) h (ap not e) in
             let there : set_of mid ends y ≡ true = is_image.reached x y y (lx ∙ sym tests) (ly ∙ sym tests) (ly ∙ sym tests) (is_steps.value x y (lx ∙ sym tests) (ly ∙ sym tests) ∙ step) in
@@ -99,6 +99,6 @@ action_found q a X old mid new steps ends last simple tests lt allowed is_steps 
       where
         never : (x y : Atom) → not (some_rules_out q.hyps a x y) ≡ true → IsRuledOut q.hyps a x y → ⊥
         never x y e r =
-            let there : some_rules_out q.hyps a x y ≡ true = told_ruled_out q.hyps a x y r in
+            let there : some_rules_out q.hyps a x y ≡ true = given_ruled_out q.hyps a x y r in
             let none : some_rules_out q.hyps a x y ≡ false = not-true (some_rules_out q.hyps a x y) e in
             cc

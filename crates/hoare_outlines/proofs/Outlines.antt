@@ -17,7 +17,7 @@ use Rattle.outline_rules.proofs.StepSets.{step_value-kept}
 use Rattle.outline_rules.specs.NoteLists.{NotesParts, note_holds}
 use Rattle.goal_forms.specs.TestTerms.{AreSimple}
 use Rattle.goal_forms.specs.HypothesisForms.{allows}
-use Rattle.goal_forms.proofs.SimpleForms.{allows_told, allowed_allows}
+use Rattle.goal_forms.proofs.SimpleForms.{allows_given, allowed_allows}
 use Rattle.outline_rules.specs.Tasks.{TaskParts, IsTripleOf}
 use Rattle.outline_rules.specs.Places.{last_place, places}
 use Rattle.outline_rules.specs.Follows.{Condition, starts, ends, conditions_from, conditions, IsMet, Follows}
@@ -34,7 +34,7 @@ abbrev pub start_set : ProblemParts → TestTree → AtomSet
 start_set q pre = λ atom. allows q.hyps atom && truth pre atom
 
 pub start_allowed : (q : ProblemParts) (pre : TestTree) → IsAllowedSet q (start_set q pre)
-start_allowed q pre atom wide h = allows_told q.hyps atom (and_parts (allows q.hyps atom) (truth pre atom) h).0
+start_allowed q pre atom wide h = allows_given q.hyps atom (and_parts (allows q.hyps atom) (truth pre atom) h).0
 
 module _ (q : ProblemParts) (t : TaskParts) (triple : IsTripleOf q t) where
   -- if the sides are the same, each reached atom meets the post-condition

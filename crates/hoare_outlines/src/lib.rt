@@ -1,6 +1,7 @@
-//! Outlines: proofs of Hoare triples in their usual form, with a note at every place of the program. This crate finds
-//! the notes of a triple that holds. The rules, their checker and the text of notes are in `outline_rules`, and the
-//! meaning of hypotheses is in `goal_forms`.
+//! Finds the notes of a Hoare triple that holds.
+//!
+//! An outline is the proof of a triple in its usual form, with a note at every place of the program. The rules, their
+//! checker and the text of notes are in `outline_rules`, and the meaning of hypotheses is in `goal_forms`.
 #![tactic(auto)]
 
 mod finding;

@@ -1,4 +1,4 @@
-//! The program: the words of the command line, the current folder and the standard output.
+//! The program: its words, the current folder and standard output.
 #![tactic(auto)]
 
 use kat_io::{FolderShelf, StdoutSink};

@@ -9,7 +9,7 @@ ghost use Rattle.while_lang.specs.Files.{FileParts};
 ghost use Rattle.problem_file.specs.Reads.{Reads};
 ghost use Rattle.while_lang.specs.Concrete.{IsConcrete, Agrees};
 ghost use Rattle.abstraction.specs.Abstracts.{AbstractParts, abstract_of};
-ghost use Rattle.tool_inputs.specs.FileProblem.{Asks};
+ghost use Rattle.tool_inputs.specs.FileProblem.{Poses};
 ghost use Rattle.tool_inputs.specs.StoreAnswers.{AlwaysEndAlike, AlwaysMeets};
 ghost use Rattle.tool_check.specs.Check.{CheckHeadline, CheckReply};
 ghost use Rattle.tool_check.specs.Replay.{ReplayHeadline, ReplayReply};
@@ -32,7 +32,7 @@ pub extern "C" fn kat_check(
     out: &mut [u8],
     needed: &mut usize,
 ) -> u8
-    ensures headline { (q : ProblemParts) → Asks text.now q
+    ensures headline { (q : ProblemParts) → Poses text.now q
         → GivesReply (CheckHeadline evidence.now q) (call_end out.old out.new needed.new result) }
     ensures programs { (w : Width) (v : ℕ) (p q : ProgTree) → ArePrintable w v p q → text.now ≡ programs_text w v p q
         → GivesReply (λ status output. status ≡ 0 → AlwaysEndAlike w v p q) (call_end out.old out.new needed.new result) }
@@ -54,7 +54,7 @@ pub extern "C" fn kat_replay(
     out: &mut [u8],
     needed: &mut usize,
 ) -> u8
-    ensures headline { (q : ProblemParts) → Asks text.now q
+    ensures headline { (q : ProblemParts) → Poses text.now q
         → GivesReply (ReplayHeadline evidence.now q) (call_end out.old out.new needed.new result) }
     ensures reply { GivesReply (ReplayReply text.now evidence.now) (call_end out.old out.new needed.new result) }
 {
@@ -119,7 +119,7 @@ pub extern "C" fn kat_chain(
     out: &mut [u8],
     needed: &mut usize,
 ) -> u8
-    ensures headline { (q : ProblemParts) → Asks text.now q
+    ensures headline { (q : ProblemParts) → Poses text.now q
         → GivesReply (ChainHeadline proof.now q) (call_end out.old out.new needed.new result) }
     ensures stores { (f : FileParts) → Reads text.now f → IsConcrete f
         → GivesReply (λ status output. status ≡ 0 → Agrees f) (call_end out.old out.new needed.new result) }

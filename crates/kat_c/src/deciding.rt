@@ -9,7 +9,7 @@ ghost use Rattle.problem_file.specs.ProgramTexts.{programs_text, triple_text, Ar
 ghost use Rattle.while_lang.specs.Files.{GoalTree, FileParts};
 ghost use Rattle.problem_file.specs.Reads.{Reads, ReadsAll};
 ghost use Rattle.while_lang.specs.Concrete.{IsConcrete, Agrees};
-ghost use Rattle.tool_inputs.specs.FileProblem.{Asks};
+ghost use Rattle.tool_inputs.specs.FileProblem.{Poses};
 ghost use Rattle.tool_inputs.specs.StoreAnswers.{AlwaysEndAlike, AlwaysMeets, programs_abstraction, triple_abstraction, StoreHeadline};
 ghost use Rattle.tool_decide.specs.Decide.{Headline, DecideReply};
 ghost use Rattle.tool_decide.specs.DecideJson.{ReportHeadline, DecideJsonReply};
@@ -29,7 +29,7 @@ pub extern "C" fn kat_decide(alloc: Global, text: &[u8], out: &mut [u8], needed:
         → GivesReply (StoreHeadline (programs_abstraction w v p q) (AlwaysEndAlike w v p q)) (call_end out.old out.new needed.new result) }
     ensures triples { (w : Width) (v : ℕ) (b : CondTree) (p : ProgTree) (c : CondTree) → IsTriplePrintable w v b p c → text.now ≡ triple_text w v b p c
         → GivesReply (StoreHeadline (triple_abstraction w v b p c) (AlwaysMeets w v b p c)) (call_end out.old out.new needed.new result) }
-    ensures headline { (q : ProblemParts) → Asks text.now q
+    ensures headline { (q : ProblemParts) → Poses text.now q
         → GivesReply (Headline q) (call_end out.old out.new needed.new result) }
     ensures stores { (f : FileParts) → Reads text.now f → IsConcrete f
         → GivesReply (λ status output. status ≡ 0 → Agrees f) (call_end out.old out.new needed.new result) }
@@ -46,7 +46,7 @@ pub extern "C" fn kat_decide_json(
     out: &mut [u8],
     needed: &mut usize,
 ) -> u8
-    ensures headline { (q : ProblemParts) → Asks text.now q
+    ensures headline { (q : ProblemParts) → Poses text.now q
         → GivesReply (ReportHeadline q) (call_end out.old out.new needed.new result) }
     ensures stores { (f : FileParts) → Reads text.now f → IsConcrete f
         → GivesReply (λ status output. status ≡ 0 → Agrees f) (call_end out.old out.new needed.new result) }

@@ -1,5 +1,6 @@
-//! The commands on bytes, for callers in C. `include/kat.h` declares them and `docs/embedding.md` says what a caller must
-//! keep to, since nothing checks it.
+//! The commands on bytes, for callers in C.
+//!
+//! `include/kat.h` declares them and `docs/embedding.md` says what a caller must keep to, since nothing checks it.
 //!
 //! Each call takes its texts, a piece of memory for the output and a place for the length of the whole output. If the
 //! output fits, it is written to the start of the memory and the status is that of the call on bytes. Otherwise nothing

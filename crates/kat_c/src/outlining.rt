@@ -4,7 +4,7 @@ ghost use Rattle.kat_model.specs.Problems.{ProblemParts};
 ghost use Rattle.while_lang.specs.Files.{FileParts};
 ghost use Rattle.problem_file.specs.Reads.{Reads};
 ghost use Rattle.while_lang.specs.Concrete.{IsConcrete, Agrees};
-ghost use Rattle.tool_inputs.specs.FileProblem.{Asks};
+ghost use Rattle.tool_inputs.specs.FileProblem.{Poses};
 ghost use Rattle.tool_decide.specs.Outline.{OutlineHeadline, OutlineReply};
 ghost use Rattle.tool_decide.specs.OutlineCheck.{NotesHeadline, OutlineCheckReply};
 ghost use Rattle.kat_c.specs.CallEnds.{call_end, GivesReply};
@@ -16,8 +16,8 @@ use std::alloc::Global;
 /// Gives the caller the reply of `kat_tool::outline_bytes`.
 #[unsafe(no_mangle)]
 pub extern "C" fn kat_outline(alloc: Global, text: &[u8], out: &mut [u8], needed: &mut usize) -> u8
-    ensures headline { (q : ProblemParts) (asks : Asks text.now q)
-        → GivesReply (OutlineHeadline asks.file q) (call_end out.old out.new needed.new result) }
+    ensures headline { (q : ProblemParts) (poses : Poses text.now q)
+        → GivesReply (OutlineHeadline poses.file q) (call_end out.old out.new needed.new result) }
     ensures stores { (f : FileParts) → Reads text.now f → IsConcrete f
         → GivesReply (λ status output. status ≡ 0 → Agrees f) (call_end out.old out.new needed.new result) }
     ensures reply { GivesReply (OutlineReply text.now) (call_end out.old out.new needed.new result) }
@@ -34,8 +34,8 @@ pub extern "C" fn kat_outline_check(
     out: &mut [u8],
     needed: &mut usize,
 ) -> u8
-    ensures headline { (q : ProblemParts) (asks : Asks text.now q)
-        → GivesReply (NotesHeadline notes.now asks.file q) (call_end out.old out.new needed.new result) }
+    ensures headline { (q : ProblemParts) (poses : Poses text.now q)
+        → GivesReply (NotesHeadline notes.now poses.file q) (call_end out.old out.new needed.new result) }
     ensures stores { (f : FileParts) → Reads text.now f → IsConcrete f
         → GivesReply (λ status output. status ≡ 0 → Agrees f) (call_end out.old out.new needed.new result) }
     ensures reply { GivesReply (OutlineCheckReply text.now notes.now) (call_end out.old out.new needed.new result) }

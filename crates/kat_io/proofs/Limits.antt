@@ -8,15 +8,15 @@ use Rattle.kat_io.specs.Gets.{IsWithin, IsPast, GetsFrom}
 
 -- what the test of the limit shows
 pub kept_within : (count : ℕ) (limit : Option ℕ) (past : Bool) → MatchOption limit (past ≡ false) (λ most. IsTrue past ↔ (most < count)) → past ≡ false → IsWithin count limit
-kept_within count None past told e = tt
-kept_within count (Some most) true told e = cc
-kept_within count (Some most) false told e = grind (arith, told)
+kept_within count None past given e = tt
+kept_within count (Some most) true given e = cc
+kept_within count (Some most) false given e = grind (arith, given)
 
 pub gone_past : (count : ℕ) (limit : Option ℕ) (past : Bool) → MatchOption limit (past ≡ false) (λ most. IsTrue past ↔ (most < count)) → past ≡ true → IsPast count limit
-gone_past count None true told e = cc
-gone_past count None false told e = cc
-gone_past count (Some most) true told e = told.0 refl
-gone_past count (Some most) false told e = cc
+gone_past count None true given e = cc
+gone_past count None false given e = cc
+gone_past count (Some most) true given e = given.0 refl
+gone_past count (Some most) false given e = cc
 
 -- a content that was read to its end
 pub all_read : (a b c : Option (List ℕ)) (bytes : Vec ℕ Global) (piece : List ℕ) (n : ℕ) (limit : Option ℕ) → Consumes a b bytes.items → Consumes b c (take n piece) → (n ≡ 0 → 0 < length piece → IsAtEnd c) → n ≡ 0 → 0 < length piece → IsWithin (length bytes.items) limit → GetsFrom (known_left a) (Ok bytes) limit

@@ -25,8 +25,8 @@ IsPast n (Some limit) = limit < n
 -- a returned content is within the limit and, if known, the whole content; a known content that is too long is past the
 -- limit
 abbrev pub GetsFrom : KnownContent → Result (Vec ℕ Global) GetFault → Option ℕ → Type 0
-GetsFrom told (Err NoMemory) limit = Unit {0}
-GetsFrom told (Err Failed) limit = Unit {0}
+GetsFrom given (Err NoMemory) limit = Unit {0}
+GetsFrom given (Err Failed) limit = Unit {0}
 GetsFrom Unknown (Ok v) limit = IsWithin (length v.items) limit
 GetsFrom Missing (Ok v) limit = ⊥
 GetsFrom (Known bytes) (Ok v) limit = (v.items ≡ bytes) × IsWithin (length bytes) limit

@@ -13,7 +13,7 @@ FaultCounted before now = one_more before ≤ now
 -- if a call returns an error, the count rose; otherwise the count is unchanged
 pub record HasCause {T E : Type 0} (before now : ℕ) (result : Result T E) : Type 0 where
   pub later : before ≤ now
-  pub stands : OnOk result (now ≡ before)
+  pub represents : OnOk result (now ≡ before)
   pub failed : OnErr result (FaultCounted before now)
 
 -- the count after a call that counts each fault once

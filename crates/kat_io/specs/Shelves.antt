@@ -29,13 +29,13 @@ pub record ShelfState : Type 0 where
 abbrev pub contents_of : List (String Global × Vec ℕ Global) → Contents
 contents_of entries = from_entries (mapped (λ e. (string_bytes e.0, e.1.items)) entries)
 
-abbrev pub told_of : Option (List ℕ) → KnownContent
-told_of None = Missing
-told_of (Some bytes) = Known bytes
+abbrev pub given_of : Option (List ℕ) → KnownContent
+given_of None = Missing
+given_of (Some bytes) = Known bytes
 
 -- what is known about a name: its content, or that it is missing
-abbrev pub tells : ShelfState → List ℕ → KnownContent
-tells s name = told_of (get s.files name)
+abbrev pub gives : ShelfState → List ℕ → KnownContent
+gives s name = given_of (get s.files name)
 
 -- the state after a call without a fault; `after_fault`: after a fault
 abbrev pub after_call : ShelfState → ShelfState
@@ -46,7 +46,7 @@ after_fault s name = record s { calls = one_more s.calls; faults = one_more s.fa
 
 -- a get of the name must fail: the call is due, or the name is missing
 abbrev pub HasToFail : ShelfState → List ℕ → Type 0
-HasToFail s name = IsTrue (is_due s.schedule s.calls) ⊎ (tells s name ≡ Missing)
+HasToFail s name = IsTrue (is_due s.schedule s.calls) ⊎ (gives s name ≡ Missing)
 
 -- a fault occurs only if the get must fail, any other result only if it need not, each with this state after it; out of
 -- memory changes nothing

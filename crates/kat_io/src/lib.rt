@@ -1,4 +1,4 @@
-//! Input and output of the program: a shelf of named contents, and a sink of bytes.
+//! A shelf of named contents to read, and a sink of bytes.
 #![tactic(auto)]
 
 mod mem_shelf;

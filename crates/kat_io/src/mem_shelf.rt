@@ -3,7 +3,7 @@ ghost use Rattle.std.specs.Prelude.{◌≡◌, ◌∷◌, [], ◌++◌, ◌≤�
 ghost use Rattle.std.specs.FinMap as map;
 ghost use Rattle.kat_io.specs.Gets.{IsCounted, GetsFrom};
 ghost use Rattle.std.specs.Option.{option_copied};
-ghost use Rattle.kat_io.specs.Shelves.{contents_of, tells, after_fault, Leaves};
+ghost use Rattle.kat_io.specs.Shelves.{contents_of, gives, after_fault, Leaves};
 
 use crate::mem_sink::more;
 use crate::outside::{GetFault, Shelf};
@@ -116,7 +116,7 @@ impl MemShelf {
 }
 
 impl Shelf for MemShelf {
-    ghost content = { tells };
+    ghost content = { gives };
 
     ghost faults = { λ s. s.faults };
 
@@ -124,8 +124,8 @@ impl Shelf for MemShelf {
 
     fn get(&mut self, alloc: Global, name: &str, limit: Option<u64>) -> Result<Vec<u8>, GetFault>
         ensures cause { IsCounted result name.now self.old.faults self.new.faults self.old.last self.new.last }
-        ensures whole { GetsFrom (tells self.old name.now) result limit }
-        ensures kept { (other : List ℕ) → tells self.new other ≡ tells self.old other }
+        ensures whole { GetsFrom (gives self.old name.now) result limit }
+        ensures kept { (other : List ℕ) → gives self.new other ≡ gives self.old other }
 
         // Only a call that is due and a missing name are faults. Out of memory changes nothing.
         ensures state { Leaves result self.old name.now self.new }

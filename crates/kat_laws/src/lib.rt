@@ -1,5 +1,7 @@
-//! Laws that need the definitions of several crates: relational models whose states are natural numbers, the size of
-//! shortest counterexamples, and strings that run on stores.
+//! Laws that need the definitions of several crates.
+//!
+//! They are about relational models whose states are natural numbers, the size of shortest counterexamples, and strings
+//! that runs on stores spell.
 #![tactic(auto)]
 
 mod laws;

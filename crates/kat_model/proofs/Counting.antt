@@ -27,25 +27,25 @@ module _ {X : Type 0} where
   without_has (y ∷ xs) x z (inr h) (inl f) ne = inl f
   without_has (y ∷ xs) x z (inr h) (inr k) ne = inr (without_has xs x z h k ne)
 
-module _ {X Y : Type 0} (Tells : Y → X → Type 0) where
+module _ {X Y : Type 0} (Represents : Y → X → Type 0) where
   -- a key of a member is not a key of a later member
-  abbrev pub AreToldApart : List X → Type 0
-  AreToldApart [] = Unit {0}
-  AreToldApart (x ∷ xs) = ((y : Y) (z : X) → Has xs z → Tells y x → Tells y z → ⊥) × AreToldApart xs
+  abbrev pub AreDistinguished : List X → Type 0
+  AreDistinguished [] = Unit {0}
+  AreDistinguished (x ∷ xs) = ((y : Y) (z : X) → Has xs z → Represents y x → Represents y z → ⊥) × AreDistinguished xs
 
   -- the number of members with different keys is at most the number of keys
-  pub told_apart_within : (xs : List X) (ys : List Y) → AreToldApart xs → ((x : X) → Has xs x → (y : Y) × Has ys y × Tells y x) → length xs ≤ length ys
-  told_apart_within [] ys apart told = omega arith
-  told_apart_within (x ∷ xs) ys apart told =
-      let here = told x (inl refl) in
-      let rest = told_apart_within xs (without ys here.0 here.1) apart.1 (λ z h. let t = told z (inr h) in (t.0, without_has ys here.0 t.0 here.1 t.1 (λ e. apart.0 here.0 z h here.2 (subst (λ y. Tells y z) e t.2)), t.2)) in
+  pub distinguished_within : (xs : List X) (ys : List Y) → AreDistinguished xs → ((x : X) → Has xs x → (y : Y) × Has ys y × Represents y x) → length xs ≤ length ys
+  distinguished_within [] ys apart given = omega arith
+  distinguished_within (x ∷ xs) ys apart given =
+      let here = given x (inl refl) in
+      let rest = distinguished_within xs (without ys here.0 here.1) apart.1 (λ z h. let t = given z (inr h) in (t.0, without_has ys here.0 t.0 here.1 t.1 (λ e. apart.0 here.0 z h here.2 (subst (λ y. Represents y z) e t.2)), t.2)) in
       omega (arith, rest, length-without ys here.0 here.1)
 
 -- a list without duplicates is no longer than a list that has all its members
 pub no_doubles_within : {X : Type 0} (xs ys : List X) → HasNoDoubles xs → IsSubset xs ys → length xs ≤ length ys
-no_doubles_within {X} xs ys distinct within = told_apart_within (λ (y x : X). y ≡ x) xs ys (apart xs distinct) (λ x h. (x, within x h, refl))
+no_doubles_within {X} xs ys distinct within = distinguished_within (λ (y x : X). y ≡ x) xs ys (apart xs distinct) (λ x h. (x, within x h, refl))
   where
-    apart : (xs : List X) → HasNoDoubles xs → AreToldApart (λ (y x : X). y ≡ x) xs
+    apart : (xs : List X) → HasNoDoubles xs → AreDistinguished (λ (y x : X). y ≡ x) xs
     apart [] d = tt
     apart (x ∷ xs) d = ((λ y z h e f. d.0 (subst (Has xs) (sym f ∙ e) h)), apart xs d.1)
 

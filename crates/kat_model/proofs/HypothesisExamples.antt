@@ -56,10 +56,10 @@ broken_keeps_none h k = absurd k
 
 -- b.p = b.p.c holds under the hypothesis, and does not hold without it
 
-abbrev asks : List Term → ProblemParts
-asks hyps = record { tests = 2; actions = 1; hyps = hyps; left = left; right = right }
+abbrev poses : List Term → ProblemParts
+poses hyps = record { tests = 2; actions = 1; hyps = hyps; left = left; right = right }
 
-triple_same : Same (asks (triple ∷ []))
+triple_same : Same (poses (triple ∷ []))
 triple_same t is keeps i j li lj = (there, back)
   where
     there : Relates t left i j → Relates t right i j
@@ -94,7 +94,7 @@ broken_left = has_rows refl
 broken_right : HasRows broken right ([] ∷ [] ∷ [])
 broken_right = has_rows refl
 
-differ_without : Same (asks []) → ⊥
+differ_without : Same (poses []) → ⊥
 differ_without h =
     let both = h broken broken_is_table broken_keeps_none 0 1 (omega arith) (omega arith) in
     computed_relates_not broken right 0 1 (omega arith) (omega arith) refl (both.0 (computed_relates broken left 0 1 (omega arith) (omega arith) refl))

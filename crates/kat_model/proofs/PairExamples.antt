@@ -99,14 +99,14 @@ one_pair_up_to = record { outputs = outputs; steps = steps }
         (subst (λ k. AreMatched up_to None (start ∷ []) (set_next (once ∷ []) atom k) (set_next (twice ∷ []) atom k)) zeroth next_congruent))
         absurd h
 
-abbrev asks : ProblemParts
-asks = record { tests = 0; actions = 1; hyps = []; left = once; right = twice }
+abbrev poses : ProblemParts
+poses = record { tests = 0; actions = 1; hyps = []; left = once; right = twice }
 
-one_pair_accepted : AreAccepted up_to asks (start ∷ [])
+one_pair_accepted : AreAccepted up_to poses (start ∷ [])
 one_pair_accepted = record { rest = []; first = refl; bisimulation = one_pair_up_to }
 
 -- the first pair must be the two sides
-other_start_refused : AreAccepted up_to asks (pair (once ∷ []) (once ∷ []) ∷ []) → ⊥
+other_start_refused : AreAccepted up_to poses (pair (once ∷ []) (once ∷ []) ∷ []) → ⊥
 other_start_refused h =
     let listed : Has (pair (once ∷ []) (once ∷ []) ∷ []) start = subst (λ l. Has l start) (sym h.first) (inl refl) in
     ⊎_elim
@@ -179,7 +179,7 @@ two_pairs_plain = record { outputs = outputs; steps = steps }
         (λ k. ⊎_elim (λ e. subst (λ z. IsMatched z atom a) e (subst (IsMatched second atom) zeroth again)) absurd k)
         h
 
-two_pairs_accepted : AreAccepted plain asks both
+two_pairs_accepted : AreAccepted plain poses both
 two_pairs_accepted = record { rest = second ∷ []; first = refl; bisimulation = two_pairs_plain }
 
 -- sets that differ only in order and repetition are not different

@@ -91,8 +91,8 @@ commutes = record { tests = 0; actions = 2; hyps = []; left = product p q; right
 
 products_differ : Same commutes → ⊥
 products_differ h =
-    let turned = h line line_is_table (λ e k. absurd k) 0 2 (omega arith) (omega arith) in
-    relates_turned_product (turned.0 relates_product)
+    let converse = h line line_is_table (λ e k. absurd k) 0 2 (omega arith) (omega arith) in
+    relates_turned_product (converse.0 relates_product)
 
 -- Denesting and sliding relate the same states: on a cycle 0 -p-> 1 -q-> 2 -p-> 0
 

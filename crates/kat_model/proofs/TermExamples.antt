@@ -87,13 +87,13 @@ universal_of_none = refl
 universal_of_three : universal_of 3 ≡ star (sum p (sum q r))
 universal_of_three = refl
 
-abbrev asks : List Term → ProblemParts
-asks hyps = record { tests = 2; actions = 2; hyps = hyps; left = p; right = q }
+abbrev poses : List Term → ProblemParts
+poses hyps = record { tests = 2; actions = 2; hyps = hyps; left = p; right = q }
 
-closed_without : closed (asks []) ≡ record { left = p; right = q; universal = None }
+closed_without : closed (poses []) ≡ record { left = p; right = q; universal = None }
 closed_without = refl
 
-closed_with_one : closed (asks (r ∷ [])) ≡ record {
+closed_with_one : closed (poses (r ∷ [])) ≡ record {
   left = sum p (product (star (sum p q)) (product r (star (sum p q))));
   right = sum q (product (star (sum p q)) (product r (star (sum p q))));
   universal = Some (star (sum p q));
@@ -101,7 +101,7 @@ closed_with_one : closed (asks (r ∷ [])) ≡ record {
 closed_with_one = refl
 
 -- the sum of two hypotheses is used
-closed_with_two : (closed (asks (r ∷ one ∷ []))).left ≡ sum p (product (star (sum p q)) (product (sum r one) (star (sum p q))))
+closed_with_two : (closed (poses (r ∷ one ∷ []))).left ≡ sum p (product (star (sum p q)) (product (sum r one) (star (sum p q))))
 closed_with_two = refl
 
 -- Faults, in the order of a problem's limits and of preorder.

@@ -80,13 +80,13 @@ forbidden h = true≢false h
 
 -- the question, which has a short hypothesis
 
-abbrev asks : ProblemParts
-asks = record { tests = 1; actions = 1; hyps = hyps; left = while_b; right = test (complement b) }
+abbrev poses : ProblemParts
+poses = record { tests = 1; actions = 1; hyps = hyps; left = while_b; right = test (complement b) }
 
-short_one : short_hyps asks ≡ hyps
+short_one : short_hyps poses ≡ hyps
 short_one = refl
 
-long_none : long_hyps asks ≡ []
+long_none : long_hyps poses ≡ []
 long_none = refl
 
 -- The sides agree at every atom. Inside the loop, while b is true, nothing is accepted.
@@ -113,7 +113,7 @@ next_congruent (true ∷ xs) (true ∷ ys) m =
     inl
     (listed_same (pairs_at both (true ∷ ys)) (while_b ∷ []) [] (record { pair = inside.sets; listed = inr (inl refl); lefts = λ x. ((λ h. h), (λ h. h)); rights = λ x. ((λ h. h), (λ h. h)) }))
 
-both_accepted : AreAcceptedUnder (short_hyps asks) (with_hyps asks (long_hyps asks)) both
+both_accepted : AreAcceptedUnder (short_hyps poses) (with_hyps poses (long_hyps poses)) both
 both_accepted = record { test = top; rest = inside ∷ []; first = refl; holds = λ atom wide allowed. refl; bisimulation = record { outputs = outputs; steps = one_action_steps hyps both steps } }
   where
     outputs : (s : TestedPair) → Has both s → (atom : Atom) → length atom ≡ 1 → IsAllowedAtom hyps atom → IsTrue (truth s.test atom)
@@ -138,8 +138,8 @@ both_accepted = record { test = top; rest = inside ∷ []; first = refl; holds =
         h
 
 -- so both sides are the same
-loop_same : Same asks
-loop_same = accepted_under_same asks (short_hyps asks) (long_hyps asks) both (split_by_degree asks) both_accepted
+loop_same : Same poses
+loop_same = accepted_under_same poses (short_hyps poses) (long_hyps poses) both (split_by_degree poses) both_accepted
 
 -- without its test the second pair is refused: the loop ends if b is false
 everywhere_refused : IsTestedBisimulation hyps 1 1 None (start ∷ pair (while_b ∷ []) [] top ∷ []) → ⊥

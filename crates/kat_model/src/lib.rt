@@ -1,5 +1,6 @@
-//! Kleene algebra with tests: trees, problems, and the definitions that the other crates use; and tables that have each row
-//! once, in the order in which the rows are added.
+//! The trees, problems and definitions of Kleene algebra with tests.
+//!
+//! It also has tables with unique rows, in the order in which the rows are added.
 #![tactic(auto)]
 
 mod appending;

@@ -17,7 +17,7 @@ use Rattle.linear_forms.specs.declared.comparison.Atomic.{Atomic}
 use Rattle.linear_forms.specs.declared.comparison.Atomic.TheVariants.{Zero, Less}
 use Rattle.problem_file.specs.Questions.{plain_name, tests_text, actions_text, hyp_text, goal_text}
 use Rattle.problem_file.specs.CommentedTexts.{IsComment, comment_text, comments_text, Comments, commented_hyps, commented_text, AreComments, EachAreComments, AreOneLine}
-use Rattle.problem_file.specs.TextLaws.{AsksEqual}
+use Rattle.problem_file.specs.TextLaws.{PosesEqual}
 use Rattle.problem_file.proofs.Comments.{comment_nil, comment_append, comment_chosen, shown_comment, comment_decimal, name_is_comment, plain_test, plain_action}
 use Rattle.problem_file.proofs.PlainNames.{plain_are_names}
 use Rattle.problem_file.proofs.PlainReadings.{commented_reads_back}
@@ -28,7 +28,7 @@ use Rattle.abstraction.specs.declared.rows.TestRow.{TestRow}
 use Rattle.abstraction.specs.declared.rows.TestRow.TheVariants as test
 use Rattle.abstraction.specs.declared.rule.Rule.{Rule}
 use Rattle.abstraction.specs.declared.rule.Rule.TheVariants.{Stated, Assign, F1, F2, F3, F4, F5, F6}
-use Rattle.kat_report.specs.Shows.{times_text, plus_text, sum_text, form_text, comparison_text, row_comment, test_comment, action_comment, and_test, rule_text, rule_comment, is_new, hyps_text, show_text}
+use Rattle.kat_report.specs.Shows.{times_text, plus_text, sum_text, form_text, comparison_text, row_comment, test_comment, action_comment, conjunction_line, rule_text, rule_comment, is_new, hyps_text, show_text}
 
 -- ---- the comments
 
@@ -103,22 +103,22 @@ shown_is_commented w a same =
 
 -- ---- each comment is one line
 
-and_test_line : (k : ℕ) → IsComment (and_test k)
+and_test_line : (k : ℕ) → IsComment (conjunction_line k)
 and_test_line k = comment_append (codes " ") (plain_name (Test k)) (shown_comment (codes " ") refl) (plain_test k)
 
-two_tests : (word : List ℕ) (i j : ℕ) → IsComment word → IsComment (word ++ and_test i ++ and_test j)
-two_tests word i j is = comment_append (word ++ and_test i) (and_test j) (comment_append word (and_test i) is (and_test_line i)) (and_test_line j)
+two_tests : (word : List ℕ) (i j : ℕ) → IsComment word → IsComment (word ++ conjunction_line i ++ conjunction_line j)
+two_tests word i j is = comment_append (word ++ conjunction_line i) (conjunction_line j) (comment_append word (conjunction_line i) is (and_test_line i)) (and_test_line j)
 
 rule_line_is : (rule : Rule) → IsComment (rule_text rule)
 rule_line_is (Stated k) = comment_append (codes "stated ") (decimal k) (shown_comment (codes "stated ") refl) (comment_decimal k)
 rule_line_is (Assign i j) =
-    comment_append (codes "assign " ++ plain_name (Action i)) (and_test j) (comment_append (codes "assign ") (plain_name (Action i)) (shown_comment (codes "assign ") refl) (plain_action i)) (and_test_line j)
+    comment_append (codes "assign " ++ plain_name (Action i)) (conjunction_line j) (comment_append (codes "assign ") (plain_name (Action i)) (shown_comment (codes "assign ") refl) (plain_action i)) (and_test_line j)
 rule_line_is (F1 i j) = two_tests (codes "F1") i j (shown_comment (codes "F1") refl)
 rule_line_is (F2 i j) = two_tests (codes "F2") i j (shown_comment (codes "F2") refl)
 rule_line_is (F3 i j) = two_tests (codes "F3") i j (shown_comment (codes "F3") refl)
 rule_line_is (F4 i j) = two_tests (codes "F4") i j (shown_comment (codes "F4") refl)
 rule_line_is (F5 i j) = two_tests (codes "F5") i j (shown_comment (codes "F5") refl)
-rule_line_is (F6 i j k) = comment_append (codes "F6" ++ and_test i ++ and_test j) (and_test k) (two_tests (codes "F6") i j (shown_comment (codes "F6") refl)) (and_test_line k)
+rule_line_is (F6 i j k) = comment_append (codes "F6" ++ conjunction_line i ++ conjunction_line j) (conjunction_line k) (two_tests (codes "F6") i j (shown_comment (codes "F6") refl)) (and_test_line k)
 
 words_line : (rule : Rule) → IsComment (rule_words rule)
 words_line rule = comment_append (codes " ") (rule_text rule) (shown_comment (codes " ") refl) (rule_line_is rule)
@@ -197,10 +197,10 @@ module _ (w : ScopeParts) (well : IsWellFormed w) where
 
 -- the text of an abstraction is read as its problem, if it is within the limits of a text
 pub shown_reads_back : (w : ScopeParts) (a : AbstractParts) → IsWellFormed w → length a.rules ≡ length a.problem.hyps → IsProblem a.problem → length a.problem.hyps ≤ MAX_HYPS
-    → All (λ e. term_nesting e ≤ MAX_OPEN) (a.problem.left ∷ a.problem.right ∷ a.problem.hyps) → length (show_text w a) ≤ MAX_TEXT_BYTES → AsksEqual (show_text w a) a.problem
+    → All (λ e. term_nesting e ≤ MAX_OPEN) (a.problem.left ∷ a.problem.right ∷ a.problem.hyps) → length (show_text w a) ≤ MAX_TEXT_BYTES → PosesEqual (show_text w a) a.problem
 shown_reads_back w a well same problem hyps shallow short =
     let text = shown_is_commented w a same in
-    subst (λ (l : List ℕ). AsksEqual l a.problem) (sym text)
+    subst (λ (l : List ℕ). PosesEqual l a.problem) (sym text)
     (commented_reads_back plain_name (shown_comments w a) a.problem (record {
       problem = problem;
       named = plain_are_names a.problem.tests a.problem.actions (omega (arith, problem.tests)) (omega (arith, problem.actions));

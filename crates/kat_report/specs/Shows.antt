@@ -59,19 +59,19 @@ action_comment names (k, action.Named n) = row_comment (Action k) (names (Action
 action_comment names (k, action.Assign x f) = row_comment (Action k) (names (Var x) ++ codes " := " ++ form_text names f)
 
 -- a space and the name of a test
-abbrev pub and_test : ℕ → List ℕ
-and_test k = codes " " ++ plain_name (Test k)
+abbrev pub conjunction_line : ℕ → List ℕ
+conjunction_line k = codes " " ++ plain_name (Test k)
 
 -- the reason for a hypothesis
 abbrev pub rule_text : Rule → List ℕ
 rule_text (Stated k) = codes "stated " ++ decimal k
-rule_text (Assign i j) = codes "assign " ++ plain_name (Action i) ++ and_test j
-rule_text (F1 i j) = codes "F1" ++ and_test i ++ and_test j
-rule_text (F2 i j) = codes "F2" ++ and_test i ++ and_test j
-rule_text (F3 i j) = codes "F3" ++ and_test i ++ and_test j
-rule_text (F4 i j) = codes "F4" ++ and_test i ++ and_test j
-rule_text (F5 i j) = codes "F5" ++ and_test i ++ and_test j
-rule_text (F6 i j k) = codes "F6" ++ and_test i ++ and_test j ++ and_test k
+rule_text (Assign i j) = codes "assign " ++ plain_name (Action i) ++ conjunction_line j
+rule_text (F1 i j) = codes "F1" ++ conjunction_line i ++ conjunction_line j
+rule_text (F2 i j) = codes "F2" ++ conjunction_line i ++ conjunction_line j
+rule_text (F3 i j) = codes "F3" ++ conjunction_line i ++ conjunction_line j
+rule_text (F4 i j) = codes "F4" ++ conjunction_line i ++ conjunction_line j
+rule_text (F5 i j) = codes "F5" ++ conjunction_line i ++ conjunction_line j
+rule_text (F6 i j k) = codes "F6" ++ conjunction_line i ++ conjunction_line j ++ conjunction_line k
 
 -- the comment with a rule, once before the hypotheses with that rule
 abbrev pub rule_comment : Bool → Rule → List ℕ

@@ -2,7 +2,7 @@
 ghost use Rattle.std.specs.Prelude.{◌≡◌, ◌++◌, None, OnOk};
 ghost use Rattle.std.specs.List.{zip};
 ghost use Rattle.problem_file.specs.Working.Scopes.{IsPlain};
-ghost use Rattle.kat_report.specs.Shows.{and_test, rule_text, rule_comment, is_new, hyps_text};
+ghost use Rattle.kat_report.specs.Shows.{conjunction_line, rule_text, rule_comment, is_new, hyps_text};
 
 use abstraction::Rule;
 use kat_model::{NoMemory, Problem};
@@ -19,7 +19,7 @@ fn put_fact(
     i: usize,
     j: usize,
 ) -> Result<(), NoMemory>
-    ensures { OnOk result (out.new.items ≡ out.old.items ++ (name.now ++ and_test i ++ and_test j)) }
+    ensures { OnOk result (out.new.items ≡ out.old.items ++ (name.now ++ conjunction_line i ++ conjunction_line j)) }
 {
     put_word(out, name)?;
     put_numbered(alloc, out, " t", i)?;

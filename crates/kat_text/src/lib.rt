@@ -1,5 +1,6 @@
-//! Terms, conditions and expressions and their texts: tokens, syntax, scopes, reading and printing. This crate has no
-//! function of its own. It names the public calls and types of `text_parser` and `text_print`.
+//! The public calls on texts of terms, conditions and expressions.
+//!
+//! This crate has no function of its own. It names the public calls and types of `text_parser` and `text_print`.
 #![tactic(auto)]
 
 pub use text_parser::{

@@ -10,7 +10,7 @@ use Rattle.bisim_worklist.proofs.AnswerCerts.{answer_accepted}
 use Rattle.outline_rules.specs.Tasks.{TaskParts}
 use Rattle.tool_commands.specs.Commands.{Command, decide, decide_json, show, gkat, flow, batch, check, replay, explain, try_goal, try_with, outline, outline_check, chain, run, oneloop, bench, optimise, command_of, files_of}
 use Rattle.tool_inputs.specs.Contents.{MayContain}
-use Rattle.tool_inputs.specs.FileProblem.{Asks, HasProblem}
+use Rattle.tool_inputs.specs.FileProblem.{Poses, HasProblem}
 use Rattle.tool_inputs.specs.Steps.{ShelfUse, ReplySpec, HasFailedOn}
 use Rattle.tool_inputs.specs.FileReplies.{OfFile}
 use Rattle.tool_inputs.specs.ReplySpecs.{RepliesWith, KeepsFaultCount, settled}
@@ -41,7 +41,7 @@ use Rattle.kat_tool.specs.Run.{HasFailed, IsUnfit, IsReply, Call, IsRun}
 use Rattle.kat_tool.specs.Laws.{CausesExclude, CheckAgrees, NotesFollow}
 use Rattle.tool_inputs.proofs.Contents.{held_same}
 use Rattle.tool_inputs.proofs.ReplySpecs.{into_replied}
-use Rattle.tool_inputs.proofs.FileReplies.{HasOneReply, HasOneFileReply, of_both_told, of_file, of_two_files}
+use Rattle.tool_inputs.proofs.FileReplies.{HasOneReply, HasOneFileReply, of_both_given, of_file, of_two_files}
 use Rattle.tool_decide.specs.Working.DecideReplies.{decide_one}
 use Rattle.tool_decide.specs.Working.ReportReplies.{decide_json_one}
 use Rattle.tool_decide.specs.Working.BatchReplies.{batch_one}
@@ -170,13 +170,13 @@ reply_is s words status output r = record {
 
 -- the file may contain a text whose question was decided
 abbrev HasDecided : ShelfUse → List ℕ → ℕ → List ℕ → Type 0
-HasDecided s file status output = (text : List ℕ) × MayContain (s.content file) text × ((q : ProblemParts) × Asks text q × IsDecided q status output)
+HasDecided s file status output = (text : List ℕ) × MayContain (s.content file) text × ((q : ProblemParts) × Poses text q × IsDecided q status output)
 
 no_two : (status : ℕ) → status ≡ 2 → (status ≡ 0) ⊎ (status ≡ 1) → ⊥
 no_two status two (inl zero) = omega (arith, two, zero)
 no_two status two (inr one) = omega (arith, two, one)
 
-text_decided : (text : List ℕ) (status : ℕ) (output : List ℕ) → DecidesText text status output → (status ≡ 0) ⊎ (status ≡ 1) → (q : ProblemParts) × Asks text q × IsDecided q status output
+text_decided : (text : List ℕ) (status : ℕ) (output : List ℕ) → DecidesText text status output → (status ≡ 0) ⊎ (status ≡ 1) → (q : ProblemParts) × Poses text q × IsDecided q status output
 text_decided text status output (inl r) small = absurd (no_two status r.0 small)
 text_decided text status output (inr (f, reads, inl r)) small = absurd (no_two status r.0 small)
 text_decided text status output (inr (f, reads, inr (a, is, d))) small = (a.problem, record { file = f; reads = reads; abstract = a; is_abstract = is; question = refl }, d)
@@ -190,18 +190,18 @@ same_status q status reply output (inl h) checked = checked.equal.1 (h.1.cert, h
 same_status q status reply output (inr h) checked = checked.different.1 (h.1.string, h.1.printed, h.1.shortest.refutes) ∙ sym h.0
 
 pub check_agrees : CheckAgrees
-check_agrees s words file status output is r small again_words again other text later reply printed is_told again_is holds holds_other unfailed again_r =
+check_agrees s words file status output is r small again_words again other text later reply printed is_given again_is holds holds_other unfailed again_r =
     let h = file_decided s file status output (replied_to s words status output (decide file) is r.cause) small in
     let q = h.2.0 in
-    let asks = subst (λ t. Asks t q) (held_same (s.content file) text h.0 is_told h.1) h.2.1 in
-    let checked = of_both_told later again other HasProblem CheckReply reply printed text output holds holds_other (λ f. unfailed f.0) (λ f. unfailed f.0) (replied_to later again_words reply printed (check again other) again_is again_r.cause) in
-    same_status q status reply output h.2.2 (checked.headline q asks).answers
+    let poses = subst (λ t. Poses t q) (held_same (s.content file) text h.0 is_given h.1) h.2.1 in
+    let checked = of_both_given later again other HasProblem CheckReply reply printed text output holds holds_other (λ f. unfailed f.0) (λ f. unfailed f.0) (replied_to later again_words reply printed (check again other) again_is again_r.cause) in
+    same_status q status reply output h.2.2 (checked.headline q poses).answers
 
 -- ---- `outline` accepts the notes that it prints
 
 -- the text asks a triple, and notes for it were printed
 abbrev HasNoted : List ℕ → List ℕ → Type 0
-HasNoted text output = (q : ProblemParts) × (t : TaskParts) × (asks : Asks text q) × HasTask asks.file q t × IsNoted q t output
+HasNoted text output = (q : ProblemParts) × (t : TaskParts) × (poses : Poses text q) × HasTask poses.file q t × IsNoted q t output
 
 text_noted : (text : List ℕ) (status : ℕ) (output : List ℕ) → OutlinesText text status output → status ≡ 0 → HasNoted text output
 text_noted text status output (inl r) zero = absurd (omega (arith, r.0, zero))
@@ -220,19 +220,19 @@ accepted text output reply printed h checked =
     (checked.headline h.0 h.2).accepted.1 (h.1, noted.notes, h.3, noted.printed, noted.follows)
 
 pub notes_follow : NotesFollow
-notes_follow s words file status output is r zero again_words again other text later reply printed is_told again_is holds holds_other unfailed again_r =
+notes_follow s words file status output is r zero again_words again other text later reply printed is_given again_is holds holds_other unfailed again_r =
     let h = file_noted s file status output (replied_to s words status output (outline file) is r.cause) zero in
-    let noted = subst (λ t. HasNoted t output) (held_same (s.content file) text h.0 is_told h.1) h.2 in
+    let noted = subst (λ t. HasNoted t output) (held_same (s.content file) text h.0 is_given h.1) h.2 in
     accepted text output reply printed noted
-    (of_both_told later again other PosesSomeTask OutlineCheckReply reply printed text output holds holds_other (λ f. unfailed f.0) (λ f. unfailed f.0) (replied_to later again_words reply printed (outline_check again other) again_is again_r.cause))
+    (of_both_given later again other PosesSomeTask OutlineCheckReply reply printed text output holds holds_other (λ f. unfailed f.0) (λ f. unfailed f.0) (replied_to later again_words reply printed (outline_check again other) again_is again_r.cause))
 
 -- ---- a call
 
 pub run_sent : (c : Call) (output : List ℕ) → Replies c.shelf c.words c.status output → Appends c.sink.had c.sink.has output → c.sink.now ≡ c.sink.before → IsRun c
-run_sent c output r sent stands =
+run_sent c output r sent represents =
     let small : (c.status ≤ 4) ⊎ (c.status ≡ 7) = small_is c.shelf c.words c.status output r.cause in
     record {
-      answered = λ _ _. (output, reply_is c.shelf c.words c.status output r, sent, stands);
+      answered = λ _ _. (output, reply_is c.shelf c.words c.status output r, sent, represents);
       unsent = λ five. absurd (no_five c.status small five);
       no_memory = λ six. absurd (no_six c.status small six);
     }
@@ -255,8 +255,8 @@ run_unsent c status output five rose r front = record {
 -- ---- no two statuses have a cause
 
 pub causes_exclude : CausesExclude
-causes_exclude s words status other output printed unfailed told x y = once x.cause
+causes_exclude s words status other output printed unfailed given x y = once x.cause
   where
     once : HasNoCommand words status output ⊎ ((c : Command) × (command_of words ≡ Some c) × RepliesTo s c status output) → status ≡ other
     once (inl h) = h.has_status ∙ sym (none_is s words other printed y.cause h.none)
-    once (inr (c, is, r)) = (command_one s c).once unfailed told status other output printed r (replied_to s words other printed c is y.cause)
+    once (inr (c, is, r)) = (command_one s c).once unfailed given status other output printed r (replied_to s words other printed c is y.cause)

@@ -8,10 +8,10 @@ use Rattle.kat_tool.specs.Replies.{Replies}
 
 -- every reply of this command to these bytes against the same text, from a shelf that does not fail, has this status
 abbrev pub IsReplyOf : (List ℕ → List ℕ → Command) → KnownContent → List ℕ → ℕ → Type 0
-IsReplyOf asks told bytes status =
+IsReplyOf poses given bytes status =
     (words : List (List ℕ)) (file other text : List ℕ) (later : ShelfUse) (reply : ℕ) (printed : List ℕ)
-    → told ≡ Known text
-    → command_of words ≡ Some (asks file other)
+    → given ≡ Known text
+    → command_of words ≡ Some (poses file other)
     → later.content file ≡ Known text
     → later.content other ≡ Known bytes
     → (FaultCounted later.before later.now → ⊥)
@@ -20,8 +20,8 @@ IsReplyOf asks told bytes status =
 
 -- every reply of `check` to this evidence has this status
 abbrev pub IsAgreed : KnownContent → List ℕ → ℕ → Type 0
-IsAgreed told evidence status = IsReplyOf check told evidence status
+IsAgreed given evidence status = IsReplyOf check given evidence status
 
 -- every reply of `outline` to these notes accepts them
 abbrev pub AreAccepting : KnownContent → List ℕ → Type 0
-AreAccepting told notes = IsReplyOf outline_check told notes 0
+AreAccepting given notes = IsReplyOf outline_check given notes 0

@@ -1,4 +1,4 @@
-//! The top call: the whole program, over a given shelf and sink.
+//! The whole program, over a given shelf and sink.
 #![tactic(auto)]
 
 ghost use Rattle.std.specs.Prelude.{◌≡◌, ℕ, List, IfOk};

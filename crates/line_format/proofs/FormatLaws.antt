@@ -8,7 +8,7 @@ use Rattle.line_format.proofs.LineTests.{Passes}
 -- each line is read from its one spelling, which is not the line `end`; and a line that is allowed is added at the end
 pub record IsLineFormat {L D V F : Type 0} (f : LineFormat L D V F) : Type 0 where
   pub read_back : (l : L) → IsNarrow f l → f.read (spelling f l) ≡ Some l
-  pub read_told : (line : List ℕ) (l : L) → IsNarrow f l → f.read line ≡ Some l → line ≡ spelling f l
+  pub read_given : (line : List ℕ) (l : L) → IsNarrow f l → f.read line ≡ Some l → line ≡ spelling f l
   pub lacks_feed : (l : L) → IsNarrow f l → LacksByte 10 (spelling f l)
   pub not_end : (l : L) → bytes_eq (spelling f l) (codes "end") ≡ false
   pub lines_grown : (d : D) (l : L) → f.is_allowed d l ≡ true → f.lines (f.with_line d l) ≡ f.lines d ++ l ∷ []

@@ -11,7 +11,7 @@ use Rattle.std.proofs.lemmas.Map.Views.{tells_apart}
 use Rattle.kat_model.specs.Members.{Has, SameMembers}
 use Rattle.kat_model.proofs.Lists.{has_any, any_has, has_left, has_right, has_pushed}
 use Rattle.kat_model.proofs.SetKeys.{inserted_has}
-use Rattle.line_format.specs.KnownLines.{TellsApart, IsReflexive}
+use Rattle.line_format.specs.KnownLines.{Distinguishes, IsReflexive}
 
 -- an equality test finds a member
 module _ {X : Type 0} (same : X → X → Bool) (equal : (x y : X) → same x y ≡ true → x ≡ y) (itself : (x : X) → same x x ≡ true) where
@@ -32,14 +32,14 @@ module _ {X : Type 0} (same : X → X → Bool) (equal : (x y : X) → same x y 
       by_cases false e = e
 
 -- an insert reports a key as old exactly when the set had it before
-module _ {K : Type 0} {R : K → K → Ordering} (exact : TellsApart R) (own : IsReflexive R) (k : K) (ks : List K) (is_new : Bool) (told : is_new ≡ not (list_any (is_at (R k)) ks)) where
+module _ {K : Type 0} {R : K → K → Ordering} (exact : Distinguishes R) (own : IsReflexive R) (k : K) (ks : List K) (is_new : Bool) (given : is_new ≡ not (list_any (is_at (R k)) ks)) where
   pub old_known : is_new ≡ false → Has ks k
   old_known old =
-      let found = has_any (is_at (R k)) ks (not-false (list_any (is_at (R k)) ks) (sym told ∙ old)) in
+      let found = has_any (is_at (R k)) ks (not-false (list_any (is_at (R k)) ks) (sym given ∙ old)) in
       subst (Has ks) (sym (tells_apart exact k found.0 found.2)) found.1
 
   pub new_unknown : is_new ≡ true → Has ks k → ⊥
-  new_unknown new h = false≢true (sym (not-true (list_any (is_at (R k)) ks) (sym told ∙ new)) ∙ any_has (is_at (R k)) ks k h (ap is_eq (own k)))
+  new_unknown new h = false≢true (sym (not-true (list_any (is_at (R k)) ks) (sym given ∙ new)) ∙ any_has (is_at (R k)) ks k h (ap is_eq (own k)))
 
 -- adding a member to the set and to the list keeps their members the same
 pub known_pushed : {X : Type 0} {R : X → X → Ordering} → CmpEqualImpliesEq R → (olds xs : List X) (x : X) → SameMembers olds xs → SameMembers (insert_key R olds x) (xs ++ x ∷ [])

@@ -9,6 +9,6 @@ pub mod LineSteps
 pub mod LineTests
 pub mod FormatLaws
 pub mod LinesScanned
-pub mod LinesTold
+pub mod LinesGiven
 pub mod WholeTexts
 pub mod NumberForms

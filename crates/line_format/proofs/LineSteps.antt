@@ -47,11 +47,11 @@ module _ {V F : Type 0} (names : FaultNames F) where
   ended_nothing v n after none = ap (λ bs. ended names v n (parts_of bs)) none
 
   -- the text ends after the line `end`
-  pub ended_told : (v w : V) (n : ℕ) (parts : List (List ℕ)) → ended names v n parts ≡ Ok w → (v ≡ w) × (parts ≡ [] ∷ [])
-  ended_told v w n [] h = cc
-  ended_told v w n ([] ∷ []) h = (cc, refl)
-  ended_told v w n ([] ∷ part ∷ parts) h = cc
-  ended_told v w n ((b ∷ bs) ∷ parts) h = cc
+  pub ended_given : (v w : V) (n : ℕ) (parts : List (List ℕ)) → ended names v n parts ≡ Ok w → (v ≡ w) × (parts ≡ [] ∷ [])
+  ended_given v w n [] h = cc
+  ended_given v w n ([] ∷ []) h = (cc, refl)
+  ended_given v w n ([] ∷ part ∷ parts) h = cc
+  ended_given v w n ((b ∷ bs) ∷ parts) h = cc
 
   module _ (next : List ℕ → List (List ℕ) → Result V F) (bytes : List ℕ) where
     pub first_none : parts_of bytes ≡ bytes ∷ [] → first_then names next (parts_of bytes) ≡ Err names.truncated
@@ -85,14 +85,14 @@ module _ {L D V F : Type 0} (f : LineFormat L D V F) (d : D) (n : ℕ) (bytes : 
     pub scan_more : bytes_eq line (codes "end") ≡ false → (l : L) → f.read line ≡ Some l → fault_of f d n l ≡ None → lines_from f d n (parts_of bytes) ≡ lines_from f (f.with_line d l) (n + 1) (parts_of after)
     scan_more is l read right = scan_line false is ∙ rw (read, right) refl
 
-    fault_told : (o : Option L) (fault : F) (more : D → Result V F) → fault_after f d n o ≡ Some fault → after_line f d n o more ≡ Err fault
-    fault_told None fault more e = let same : f.faults.line n ≡ fault = cc in ap (λ (k : F). Err k) same
-    fault_told (Some l) fault more e = rw e refl
+    fault_given : (o : Option L) (fault : F) (more : D → Result V F) → fault_after f d n o ≡ Some fault → after_line f d n o more ≡ Err fault
+    fault_given None fault more e = let same : f.faults.line n ≡ fault = cc in ap (λ (k : F). Err k) same
+    fault_given (Some l) fault more e = rw e refl
 
     pub scan_fault : bytes_eq line (codes "end") ≡ false → (fault : F) → fault_after f d n (f.read line) ≡ Some fault → lines_from f d n (parts_of bytes) ≡ Err fault
-    scan_fault is fault e = scan_line false is ∙ fault_told (f.read line) fault (λ more. lines_from f more (n + 1) (parts_of after)) e
+    scan_fault is fault e = scan_line false is ∙ fault_given (f.read line) fault (λ more. lines_from f more (n + 1) (parts_of after)) e
 
 -- ---- what an answer says
 
-pub answers_same : {V F : Type 0} (unless : F → Type 0 → Type 0) (told same given : Result V F) → told ≡ same → Answers unless same given → Answers unless told given
-answers_same unless told same given e a = subst (λ t. Answers unless t given) (sym e) a
+pub answers_same : {V F : Type 0} (unless : F → Type 0 → Type 0) (given same other : Result V F) → given ≡ same → Answers unless same other → Answers unless given other
+answers_same unless given same other e a = subst (λ t. Answers unless t other) (sym e) a

@@ -16,7 +16,7 @@ pub record IsTextFormat {V F : Type 0} (names : FaultNames F) (all_from : List (
   pub scanned : (v : V) (i : ℕ) (part : List ℕ) (parts : List (List ℕ)) → Is v → i ≡ length (before v) + 1 → all_from (before v ++ part ∷ parts) ≡ next v i (part ∷ parts)
   pub short : (v : V) (i : ℕ) (rest : List ℕ) → next v i (rest ∷ []) ≡ Err names.truncated
   pub ends : (v : V) (i : ℕ) (part : List ℕ) (parts : List (List ℕ)) → next v i (codes "end" ∷ part ∷ parts) ≡ ended names v (i + 1) (part ∷ parts)
-  pub told : (parts : List (List ℕ)) (v : V) → all_from parts ≡ Ok v → Is v × (parts ≡ with_last (before v ++ codes "end" ∷ []))
+  pub given : (parts : List (List ℕ)) (v : V) → all_from parts ≡ Ok v → Is v × (parts ≡ with_last (before v ++ codes "end" ∷ []))
 
 module _ {V F : Type 0} {names : FaultNames F} {all_from : List (List ℕ) → Result V F} {before : V → List (List ℕ)} {Is : V → Type 0} {next : V → ℕ → List (List ℕ) → Result V F} (laws : IsTextFormat names all_from before Is next) where
   -- scanning a text that begins with the lines of a value continues after these lines
@@ -33,8 +33,8 @@ module _ {V F : Type 0} {names : FaultNames F} {all_from : List (List ℕ) → R
       ∙ text_scanned v (length (before v) + 1) (codes "end\n") (codes "end") ([] ∷ []) is refl refl
       ∙ laws.ends v (length (before v) + 1) [] []
 
-  pub read_told : (bytes : List ℕ) (v : V) → all_from (parts_of bytes) ≡ Ok v → Is v × (bytes ≡ ended_text (before v))
-  read_told bytes v h = let told = laws.told (parts_of bytes) v h in (told.0, text_back bytes (before v ++ codes "end" ∷ []) told.1)
+  pub read_given : (bytes : List ℕ) (v : V) → all_from (parts_of bytes) ≡ Ok v → Is v × (bytes ≡ ended_text (before v))
+  read_given bytes v h = let given = laws.given (parts_of bytes) v h in (given.0, text_back bytes (before v ++ codes "end" ∷ []) given.1)
 
   -- the answer for the text of a value is this value
   pub text_answer : (bytes : List ℕ) (v : V) → Is v → bytes ≡ ended_text (before v) → all_from (parts_of bytes) ≡ Ok v
@@ -55,11 +55,11 @@ module _ {V F : Type 0} {names : FaultNames F} {all_from : List (List ℕ) → R
       by_answer : (a : Result V F) → all_from (parts_of bytes) ≡ a
           → (((v : V) × Is v × (bytes ≡ ended_text (before v))) × (((fault : F) × (result_err (all_from (parts_of bytes)) ≡ Some fault)) → ⊥))
           ⊎ ((((v : V) × Is v × (bytes ≡ ended_text (before v))) → ⊥) × ((fault : F) × (result_err (all_from (parts_of bytes)) ≡ Some fault)))
-      by_answer (Ok v) is = let told = read_told bytes v is in inl ((v, told.0, told.1), (λ h. let clash : None ≡ Some h.0 = sym (ap result_err is) ∙ h.1 in cc))
+      by_answer (Ok v) is = let given = read_given bytes v is in inl ((v, given.0, given.1), (λ h. let clash : None ≡ Some h.0 = sym (ap result_err is) ∙ h.1 in cc))
       by_answer (Err fault) is = inr ((λ h. no_fault bytes fault h.0 h.1 h.2 is), (fault, ap result_err is))
 
   pub value_from : (unless : F → Type 0 → Type 0) (bytes : List ℕ) (r : Result V F) → Answers unless (all_from (parts_of bytes)) r → IfOk r (λ v. Is v × (bytes ≡ ended_text (before v)))
-  value_from unless bytes (Ok v) a = read_told bytes v a
+  value_from unless bytes (Ok v) a = read_given bytes v a
   value_from unless bytes (Err fault) a = tt
 
   -- ---- the first fault after correct lines

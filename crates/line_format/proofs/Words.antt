@@ -61,8 +61,8 @@ numerals_back (w ∷ ws) all narrow =
     let parts = and_parts (is_numeral w) (list_all is_numeral ws) all in
     ap₂ (λ x l. x ∷ l) (sym (numeral_decimal w parts.0 (narrow (value_of w) (inl refl)))) (numerals_back ws parts.1 (λ l h. narrow l (inr h)))
 
-pub numbers_told : (ws : List (List ℕ)) (ks : List ℕ) → numbers_of ws ≡ Some ks → AreNarrow ks → ws ≡ map decimal ks
-numbers_told ws ks e narrow = by_test (list_all is_numeral ws) refl e
+pub numbers_given : (ws : List (List ℕ)) (ks : List ℕ) → numbers_of ws ≡ Some ks → AreNarrow ks → ws ≡ map decimal ks
+numbers_given ws ks e narrow = by_test (list_all is_numeral ws) refl e
   where
     by_test : (b : Bool) → list_all is_numeral ws ≡ b → cond b (Some (map value_of ws)) None ≡ Some ks → ws ≡ map decimal ks
     by_test true all e =

@@ -103,8 +103,8 @@ ended_text before = text_of_lines (before ++ codes "end" ∷ [])
 
 -- The reader gives this answer. `unless fault P` is P, or nothing if the fault is that memory ran out.
 abbrev pub Answers : {V F : Type 0} → (F → Type 0 → Type 0) → Result V F → Result V F → Type 0
-Answers unless told (Ok v) = told ≡ Ok v
-Answers unless told (Err fault) = unless fault (told ≡ Err fault)
+Answers unless given (Ok v) = given ≡ Ok v
+Answers unless given (Err fault) = unless fault (given ≡ Err fault)
 
 -- The line is added to a draft, or line n has a fault. `parts` has the lines of a draft, and `Is` its rules.
 abbrev pub AddsTo : {L D V F T : Type 0} → LineFormat L D V F → (F → Type 0 → Type 0) → (T → Type 0) → (T → D) → T → ℕ → Option L → T → Result (Unit {0}) F → Type 0

@@ -45,9 +45,9 @@ pub trait LineDraft: Drop {
     fn trailing(number: u64) -> Self::Fault
         ensures { result ≡ (format).faults.trailing number };
 
-    ghost is_told: { (fault : Self.Fault) (told : Result Self.Value Self.Fault) → told ≡ Err fault → unless fault (told ≡ Err fault) };
+    ghost is_given: { (fault : Self.Fault) (given : Result Self.Value Self.Fault) → given ≡ Err fault → unless fault (given ≡ Err fault) };
 
-    ghost is_passed_on: { (fault : Self.Fault) (o : Option Self.Fault) (told : Result Self.Value Self.Fault) → unless fault (o ≡ Some fault) → (o ≡ Some fault → told ≡ Err fault) → unless fault (told ≡ Err fault) };
+    ghost is_passed_on: { (fault : Self.Fault) (o : Option Self.Fault) (given : Result Self.Value Self.Fault) → unless fault (o ≡ Some fault) → (o ≡ Some fault → given ≡ Err fault) → unless fault (given ≡ Err fault) };
 }
 
 /// Reads lines from line `first` on, after those of `draft`, up to the line `end`, after which the text must end.

@@ -77,10 +77,10 @@ own_negative m (product_term f g t rest) i e =
 
 pub canonical-negative : (m : ℕ) (f : FormTree) → 1 < m → IsForm m f → canonical m (negative m f) ≡ canonical m f
 canonical-negative m f h i =
-    rw (coefficients-negative m f i, negative_numbers m f i, turned) (by_cases (slice_cmp nat_cmp (coefficients f) (map (negative_number m) (coefficients f))) refl)
+    rw (coefficients-negative m f i, negative_numbers m f i, converse) (by_cases (slice_cmp nat_cmp (coefficients f) (map (negative_number m) (coefficients f))) refl)
   where
-    turned : slice_cmp nat_cmp (map (negative_number m) (coefficients f)) (coefficients f) ≡ ordering_reverse (slice_cmp nat_cmp (coefficients f) (map (negative_number m) (coefficients f)))
-    turned = nat_list_cmp_total.antisymm (map (negative_number m) (coefficients f)) (coefficients f)
+    converse : slice_cmp nat_cmp (map (negative_number m) (coefficients f)) (coefficients f) ≡ ordering_reverse (slice_cmp nat_cmp (coefficients f) (map (negative_number m) (coefficients f)))
+    converse = nat_list_cmp_total.antisymm (map (negative_number m) (coefficients f)) (coefficients f)
 
     by_cases : (o : Ordering) → slice_cmp nat_cmp (coefficients f) (map (negative_number m) (coefficients f)) ≡ o →
         by_order (ordering_reverse o) (negative m f) (negative m f) (negative m (negative m f)) ≡ by_order o f f (negative m f)

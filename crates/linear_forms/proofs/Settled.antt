@@ -75,9 +75,9 @@ other_varies e (constant c) d (inr v) q = absurd v
 other_varies e (var_term k t rest) d v q = absurd cc
 other_varies e (product_term f g t rest) d v q = absurd cc
 
-turned : {X Y : Type 0} → X ⊎ Y → Y ⊎ X
-turned (inl x) = inr x
-turned (inr y) = inl y
+converse : {X Y : Type 0} → X ⊎ Y → Y ⊎ X
+converse (inl x) = inr x
+converse (inr y) = inl y
 
 less_form_of_varying : (m : ℕ) (e f : FormTree) → IsVarying e ⊎ IsVarying f → less_form m e f ≡ varying_less_form m e f
 less_form_of_varying m (constant c) (constant d) (inl v) = absurd v
@@ -93,7 +93,7 @@ settled_varying_less m e f h i j v =
     (λ a. chosen m (is_constant f 0) _ _ (λ _. tt)
     (λ b. chosen m (is_constant e (m - 1)) _ _ (λ _. tt)
     (λ c. chosen m (is_constant f 1) _ _ (λ q. settled_zero m e h i (other_varies e f 1 v q))
-    (λ d. chosen m (is_constant e 0) _ _ (λ q. settled_zero m f h j (other_varies f e 0 (turned v) q))
+    (λ d. chosen m (is_constant e 0) _ _ (λ q. settled_zero m f h j (other_varies f e 0 (converse v) q))
     (λ g. less_form_of_varying m e f v ∙ rw (a, b, c, d, g) refl)))))
 
 settled_less_form : (m : ℕ) (e f : FormTree) → 1 < m → IsForm m e → IsForm m f → IsSettledCond m (less_form m e f)

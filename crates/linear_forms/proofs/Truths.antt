@@ -33,17 +33,17 @@ use Rattle.linear_forms.proofs.Forming.{is_form_normal}
 pub zero-negative : (m : ℕ) (s : Store) (f : FormTree) → 1 < m → nat_eq (form_value m s (negative m f)) 0 ≡ nat_eq (form_value m s f) 0
 zero-negative m s f h = by_cases (cases_eq (form_value m s f) 0)
   where
-    turned : form_value m s (negative m f) ≡ (m - form_value m s f) % m
-    turned = polynomial-negative m s f (omega (arith, h))
+    converse : form_value m s (negative m f) ≡ (m - form_value m s f) % m
+    converse = polynomial-negative m s f (omega (arith, h))
 
     by_cases : (form_value m s f ≡ 0) ⊎ (form_value m s f ≡ 0 → ⊥) → nat_eq (form_value m s (negative m f)) 0 ≡ nat_eq (form_value m s f) 0
     by_cases (inl e) =
         let z : (m - form_value m s f) % m ≡ 0 = rw (e) (ap (λ n. n % m) (omega arith) ∙ mod_self m) in
-        rw (turned, z, e) refl
+        rw (converse, z, e) refl
     by_cases (inr d) =
         let b = mod_below (polynomial s f) m (omega (arith, h)) in
         let z : (m - form_value m s f) % m ≡ m - form_value m s f = mod-eq_of_lt (omega (arith, b, d, h)) in
-        rw (turned, z) (grind (arith, nat_tests, b, d))
+        rw (converse, z) (grind (arith, nat_tests, b, d))
 
 pub zero-canonical : (m : ℕ) (s : Store) (f : FormTree) → 1 < m → nat_eq (form_value m s (canonical m f)) 0 ≡ nat_eq (form_value m s f) 0
 zero-canonical m s f h = by_cases (slice_cmp nat_cmp (coefficients f) (map (negative_number m) (coefficients f)))

@@ -1,5 +1,7 @@
-//! Linear forms over opaque products, modulo 2 to a width: their order, sums and products, normal forms of expressions
-//! and comparisons, forms in place of variables, and the laws of these.
+//! Linear forms over opaque products, modulo 2 to a width.
+//!
+//! The crate has their order, sums and products, normal forms of expressions and comparisons, forms in place of
+//! variables, and the laws of these.
 #![tactic(auto)]
 
 mod arithmetic;

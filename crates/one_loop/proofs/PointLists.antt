@@ -109,10 +109,10 @@ module _ (v : ℕ) where
   pub start_more : (old now : List ProgTree) (items : List Stmt) (i : ℕ) (s : Stmt) (before len next number : ℕ) → before ≡ length old → len ≡ length now →
       0 < i → i ≤ length items → s ≡ get_or items (i - 1) s →
       now ≡ old ++ blocks (list_tree (drop i items)) before next → number ≡ len + 1 → number ≡ start_of (list_tree (drop (i - 1) items)) before next
-  start_more old now items i s before len next number size count some within is had told =
+  start_more old now items i s before len next number size count some within is had given =
       let rest = list_tree (drop i items) in
       let n : len ≡ before + statements rest = count ∙ ap length had ∙ length_behind old rest before next ∙ ap (λ k. k + statements rest) (sym size) in
-      told ∙ ap (λ k. k + 1) n ∙ sym (start_with (stmt_tree s) rest before next) ∙ ap (λ p. start_of p before next) (sym (one_more items i s some within is))
+      given ∙ ap (λ k. k + 1) n ∙ sym (start_with (stmt_tree s) rest before next) ∙ ap (λ p. start_of p before next) (sym (one_more items i s some within is))
 
   -- the block of a statement itself is filled in after the blocks of its body are added
   pub loop_added : (old placed grown : List ProgTree) (b : CondTree) (p : ProgTree) (before own len number inside next : ℕ) (block : ProgTree) →
@@ -120,10 +120,10 @@ module _ (v : ℕ) where
       placed ≡ old ++ empty ∷ [] → number ≡ before + 1 → inside ≡ start_of p len number → grown ≡ placed ++ blocks p len number →
       block ≡ block_of v (chooses b inside next) →
       set grown own block ≡ old ++ map (block_of v) (stmt_points (loop b p) before next)
-  loop_added old placed grown b p before own len number inside next block size here count place told start more is =
+  loop_added old placed grown b p before own len number inside next block size here count place given start more is =
       let n : len ≡ before + 1 = count ∙ ap length place ∙ length_push old empty ∙ ap (λ k. k + 1) (sym size) in
-      let a : grown ≡ old ++ empty ∷ blocks p (before + 1) (before + 1) = more ∙ rw (n, told, place) (append_assoc old (empty ∷ []) (blocks p (before + 1) (before + 1))) in
-      rw (a, here, is, start, n, told) (set_at old empty (blocks p (before + 1) (before + 1)) _ before (sym size))
+      let a : grown ≡ old ++ empty ∷ blocks p (before + 1) (before + 1) = more ∙ rw (n, given, place) (append_assoc old (empty ∷ []) (blocks p (before + 1) (before + 1))) in
+      rw (a, here, is, start, n, given) (set_at old empty (blocks p (before + 1) (before + 1)) _ before (sym size))
 
   pub branch_added : (old placed one grown : List ProgTree) (b : CondTree) (p q : ProgTree) (before own len more met unmet next : ℕ) (block : ProgTree) →
       before ≡ length old → own ≡ before → len ≡ length placed → more ≡ length one →

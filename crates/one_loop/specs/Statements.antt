@@ -9,4 +9,4 @@ use Rattle.while_lang.specs.Programs.{ProgTree, statements}
 -- larger
 pub record HasTooManyStatements (w : Width) (p : ProgTree) (n : ℕ) : Type 0 where
   pub more : modulus w - 1 < statements p
-  pub told : n ≡ counted (statements p)
+  pub given : n ≡ counted (statements p)

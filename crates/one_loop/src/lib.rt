@@ -1,3 +1,5 @@
+//! An equivalent program with exactly one loop and one additional variable.
+//!
 //! One loop is enough: each program over variables has a form with exactly one loop and one additional variable, which
 //! ends in the same stores (the folk theorem of while programs: Harel 1980; in Kleene algebra with tests Kozen 1997).
 //!

@@ -97,10 +97,10 @@ unassigned m tests actions (loop_then b p rest) h = rw (unassigned m tests actio
 
 module _ (f : FileParts) (none : f.vars ≡ 0) (b : CondTree) (p : ProgTree) (c : CondTree)
     (in_b : IsCondInRange f.tests f.vars b) (in_p : IsProgInRange f.tests f.actions f.vars p) (in_c : IsCondInRange f.tests f.vars c) where
-  abbrev Asked : FileParts
-  Asked = with_goal f (triple b (prog_side p) c)
+  abbrev Posed : FileParts
+  Posed = with_goal f (triple b (prog_side p) c)
 
-  no_comparisons : first_comparisons Asked ≡ []
+  no_comparisons : first_comparisons Posed ≡ []
   no_comparisons =
       let m = modulus f.width in
       let first = cond_none m f.tests b (subst (λ v. IsCondInRange f.tests v b) none in_b) in
@@ -108,14 +108,14 @@ module _ (f : FileParts) (none : f.vars ≡ 0) (b : CondTree) (p : ProgTree) (c 
       let last = cond_none m f.tests c (subst (λ v. IsCondInRange f.tests v c) none in_c) in
       rw (first, body, last) refl
 
-  no_assignments : file_assignments Asked ≡ []
+  no_assignments : file_assignments Posed ≡ []
   no_assignments = rw (unassigned (modulus f.width) f.tests f.actions p (subst (λ v. IsProgInRange f.tests f.actions v p) none in_p)) refl
 
   -- the tables of a triple have only the tests and actions of the file
-  pub triple_tables : tables_of Asked ≡ declared_tables f
+  pub triple_tables : tables_of Posed ≡ declared_tables f
   triple_tables = rw (no_comparisons, no_assignments, no_rounds f.rounds (modulus f.width) (MAX_TESTS - f.tests)) refl
 
-  pub triple_hyps : (file_problem Asked).hyps ≡ f.hyps
+  pub triple_hyps : (file_problem Posed).hyps ≡ f.hyps
   triple_hyps =
       ap (λ (t : Tables). map (λ (h : Hypothesis). h.term) (hypotheses t f.hyps)) triple_tables
       ∙ ap (λ (hs : List Hypothesis). map (λ h. h.term) hs) (append-nil (stated_from 0 f.hyps))

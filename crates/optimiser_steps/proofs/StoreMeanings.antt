@@ -122,10 +122,10 @@ module _ (f : FileParts) where
     -- a valid triple is met from every store
     valid_meets : MeetsValid f (stores_of f)
     valid_meets b p c in_b in_p in_c v s u ss su h r =
-        let asked = with_goal f (triple b (prog_side p) c) in
-        let range : HasNumbersInRange asked = record { hyps = hyps; goal = (in_b, in_p, in_c) } in
-        let concrete : IsConcrete asked = record { tests = no_tests; actions = no_actions; terms = no_terms; hyps = no_hyps; asks = tt } in
-        same_agrees asked v.parts range v.made (derived_hold asked v.parts range v.made) concrete v.same s u ss su h (leads_end p s u ss su r)
+        let posed = with_goal f (triple b (prog_side p) c) in
+        let range : HasNumbersInRange posed = record { hyps = hyps; goal = (in_b, in_p, in_c) } in
+        let concrete : IsConcrete posed = record { tests = no_tests; actions = no_actions; terms = no_terms; hyps = no_hyps; poses = tt } in
+        same_agrees posed v.parts range v.made (derived_hold posed v.parts range v.made) concrete v.same s u ss su h (leads_end p s u ss su r)
 
     step_ends : (p q : ProgTree) (line : LogLineParts) → IsProgInRange f.tests f.actions f.vars p → FirstStep f p line q → EndAlike f p q
     step_ends p q line range first s u ss su =

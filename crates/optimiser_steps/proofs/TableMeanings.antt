@@ -30,15 +30,15 @@ module _ (f : FileParts) (none : f.vars ≡ 0) (t : Table) (is : IsTable f.tests
   valid_holds : (b : CondTree) (p : ProgTree) (c : CondTree) → IsCondInRange f.tests f.vars b → IsProgInRange f.tests f.actions f.vars p → IsCondInRange f.tests f.vars c →
       IsValid f b p c → HoldsTriple t (cond_test (declared_tables f) b) (prog_term f p) (cond_test (declared_tables f) c)
   valid_holds b p c in_b in_p in_c v =
-      let asked = with_goal f (triple b (prog_side p) c) in
-      let made = abstract_parts_of asked v.parts v.made in
-      let same : Same (file_problem asked) = subst (λ (a : AbstractParts). Same a.problem) (sym made) v.same in
+      let posed = with_goal f (triple b (prog_side p) c) in
+      let made = abstract_parts_of posed v.parts v.made in
+      let same : Same (file_problem posed) = subst (λ (a : AbstractParts). Same a.problem) (sym made) v.same in
       let tables = triple_tables f none b p c in_b in_p in_c in
       let hyps = triple_hyps f none b p c in_b in_p in_c in
-      let tests : (file_problem asked).tests ≡ f.tests = ap (λ (x : Tables). f.tests + length x.comparisons) tables ∙ omega arith in
-      let actions : (file_problem asked).actions ≡ f.actions = ap (λ (x : Tables). f.actions + length x.assignments) tables ∙ omega arith in
-      let one : DenoteOne t (goal_sides (tables_of asked) (triple b (prog_side p) c)) =
-      same t (subst (λ n. IsTable n (file_problem asked).actions t) (sym tests) (subst (λ n. IsTable f.tests n t) (sym actions) is)) (subst (λ hs. Keeps t hs) (sym hyps) keeps) in
+      let tests : (file_problem posed).tests ≡ f.tests = ap (λ (x : Tables). f.tests + length x.comparisons) tables ∙ omega arith in
+      let actions : (file_problem posed).actions ≡ f.actions = ap (λ (x : Tables). f.actions + length x.assignments) tables ∙ omega arith in
+      let one : DenoteOne t (goal_sides (tables_of posed) (triple b (prog_side p) c)) =
+      same t (subst (λ n. IsTable n (file_problem posed).actions t) (sym tests) (subst (λ n. IsTable f.tests n t) (sym actions) is)) (subst (λ hs. Keeps t hs) (sym hyps) keeps) in
       (goals_mean_lem.triple t (cond_test (declared_tables f) b) (prog_term f p) (cond_test (declared_tables f) c)).0
       (subst (λ x. DenoteOne t (goal_sides x (triple b (prog_side p) c))) tables one)
 

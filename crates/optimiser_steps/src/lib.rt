@@ -1,4 +1,6 @@
-//! The optimiser: rewrites a program by steps that preserve its meaning, whose conditions the prover decides.
+//! Rewrites a program by steps whose conditions the prover decides.
+//!
+//! Each step preserves the meaning of the program.
 #![tactic(auto)]
 
 mod copies;

@@ -11,7 +11,7 @@ use Rattle.outline_rules.specs.Places.{last_place, places}
 use Rattle.outline_rules.specs.Follows.{Condition, starts, ends, conditions_from, conditions, IsMet, HasTests}
 use Rattle.outline_rules.specs.Reasons.{IsLeastUnmet}
 use Rattle.outline_rules.specs.Working.Checks.{condition_of}
-use Rattle.outline_rules.specs.Working.Sets.{TellsLeastUnmet}
+use Rattle.outline_rules.specs.Working.Sets.{ShowsLeastUnmet}
 
 pub tests_known : (n m : ℕ) (xs ys : List NoteNode) → n ≡ m → xs ≡ ys → HasTests n xs → HasTests m ys
 tests_known n m xs ys e f known = subst (λ k. HasTests k ys) e (subst (HasTests n) f known)
@@ -31,9 +31,9 @@ all_conditions t tree last cs same at is =
     ap (λ (l : List Condition). starts t.pre ∷ (l ++ ends last t.post ∷ [])) is
     ∙ ap (λ (n : ℕ). starts t.pre ∷ (conditions_from t.flow 0 ++ ends n t.post ∷ [])) (at ∙ ap (λ (g : FlowTree). last_place g 0) same)
 
-module _ (q : ProblemParts) (note : ℕ → Atom → Bool) (cs ds : List Condition) (told : Option ℕ) (same : cs ≡ ds) (tells : TellsLeastUnmet q note cs told) where
-  pub least_told : (target : ℕ) → told ≡ Some target → IsLeastUnmet q note ds target
-  least_told target is = subst (λ (l : List Condition). IsLeastUnmet q note l target) same (subst (TellsLeastUnmet q note cs) is tells)
+module _ (q : ProblemParts) (note : ℕ → Atom → Bool) (cs ds : List Condition) (given : Option ℕ) (same : cs ≡ ds) (gives : ShowsLeastUnmet q note cs given) where
+  pub least_given : (target : ℕ) → given ≡ Some target → IsLeastUnmet q note ds target
+  least_given target is = subst (λ (l : List Condition). IsLeastUnmet q note l target) same (subst (ShowsLeastUnmet q note cs) is gives)
 
-  pub none_told : told ≡ None → (c : Condition) → Has ds c → IsMet q note c
-  none_told is = subst (λ (l : List Condition). (c : Condition) → Has l c → IsMet q note c) same (subst (TellsLeastUnmet q note cs) is tells)
+  pub none_given : given ≡ None → (c : Condition) → Has ds c → IsMet q note c
+  none_given is = subst (λ (l : List Condition). (c : Condition) → Has l c → IsMet q note c) same (subst (ShowsLeastUnmet q note cs) is gives)

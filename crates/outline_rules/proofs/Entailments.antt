@@ -13,7 +13,7 @@ use Rattle.goal_forms.specs.TestTerms.{AreSimple, IsAllowed, IsRuledOut}
 use Rattle.outline_rules.specs.Follows.{starts, implies, leads, ends, IsMet}
 use Rattle.goal_forms.specs.HypothesisForms.{allows, some_rules_out}
 use Rattle.outline_rules.specs.Working.Sets.{EntailsUnder, free_step, AreEnds}
-use Rattle.goal_forms.proofs.SimpleForms.{allows_told, allowed_allows, ruled_out_told, told_ruled_out}
+use Rattle.goal_forms.proofs.SimpleForms.{allows_given, allowed_allows, ruled_out_given, given_ruled_out}
 
 -- an implication of functions, as an entailment of diagrams states it
 abbrev pub Implied : ℕ → (Atom → Atom → Bool) → (Atom → Atom → Bool) → (Atom → Atom → Bool) → (Atom → Atom → Bool) → Type 0
@@ -50,21 +50,21 @@ module _ (q : ProblemParts) (note : ℕ → Atom → Bool) where
   pub implies_implied : (from to : ℕ) (b : TestTree) → Implied q.tests (λ x y. allows q.hyps x) (λ x y. note from x) (λ x y. truth b x) (λ x y. note to x) ↔ IsMet q note (implies from b to)
   implies_implied from to b = (
     (λ im x lx is n t. im x x lx lx (allowed_allows q.hyps x is) n t),
-    (λ met x y lx ly al n t. met x lx (allows_told q.hyps x al) n t),
+    (λ met x y lx ly al n t. met x lx (allows_given q.hyps x al) n t),
   )
 
   -- the pre-condition implies the first note
   pub starts_implied : (pre : TestTree) → Implied q.tests (λ x y. allows q.hyps x) (λ x y. truth pre x) (λ x y. true) (λ x y. note 0 x) ↔ IsMet q note (starts pre)
   starts_implied pre = (
     (λ im x lx is t. im x x lx lx (allowed_allows q.hyps x is) t refl),
-    (λ met x y lx ly al t r. met x lx (allows_told q.hyps x al) t),
+    (λ met x y lx ly al t r. met x lx (allows_given q.hyps x al) t),
   )
 
   -- the last note implies the post-condition
   pub ends_implied : (from : ℕ) (post : TestTree) → Implied q.tests (λ x y. allows q.hyps x) (λ x y. note from x) (λ x y. true) (λ x y. truth post x) ↔ IsMet q note (ends from post)
   ends_implied from post = (
     (λ im x lx is n. im x x lx lx (allowed_allows q.hyps x is) n refl),
-    (λ met x y lx ly al n r. met x lx (allows_told q.hyps x al) n),
+    (λ met x y lx ly al n r. met x lx (allows_given q.hyps x al) n),
   )
 
   -- an action leads from one note to another: the second note has the ends of its steps
@@ -76,7 +76,7 @@ module _ (q : ProblemParts) (note : ℕ → Atom → Bool) where
   )
     where
       ruled : EntailsUnder d allowed led always target → (x y : Atom) → length x ≡ q.tests → length y ≡ q.tests → IsAllowed q.hyps x → IsAllowed q.hyps y → note from x ≡ true → note to y ≡ false → (b : Bool) → some_rules_out q.hyps a x y ≡ b → IsRuledOut q.hyps a x y
-      ruled en x y lx ly ax ay n miss true e = ruled_out_told q.hyps a x y simple e
+      ruled en x y lx ly ax ay n miss true e = ruled_out_given q.hyps a x y simple e
       ruled en x y lx ly ax ay n miss false e =
           let own = ly ∙ sym tests in
           let step : free_step q.hyps a (allows q.hyps) (note from) x y ≡ true = and_from (allows q.hyps x && note from x) (not (some_rules_out q.hyps a x y)) (and_from (allows q.hyps x) (note from x) (allowed_allows q.hyps x ax) n) (ap not e) in
@@ -90,13 +90,13 @@ module _ (q : ProblemParts) (note : ℕ → Atom → Bool) where
           let s = are_ends.source x y (lx ∙ tests) (ly ∙ tests) e in
           let step = and_parts (allows q.hyps s.0 && note from s.0) (not (some_rules_out q.hyps a s.0 x)) s.2 in
           let both = and_parts (allows q.hyps s.0) (note from s.0) step.0 in
-          let out = told_ruled_out q.hyps a s.0 x (met s.0 x s.1 (lx ∙ tests) (allows_told q.hyps s.0 both.0) (allows_told q.hyps x (sym (is_allowed.value x y lx ly) ∙ al)) both.1 miss) in
+          let out = given_ruled_out q.hyps a s.0 x (met s.0 x s.1 (lx ∙ tests) (allows_given q.hyps s.0 both.0) (allows_given q.hyps x (sym (is_allowed.value x y lx ly) ∙ al)) both.1 miss) in
           absurd (false≢true (sym (not-true (some_rules_out q.hyps a s.0 x) step.1) ∙ out))
 
 -- an answer for a fact is an answer for an equivalent fact
-pub told_same : {E : Type 0} {A B : Type 0} (r : Result Bool E) → IfOk r (λ b. IsTrue b ↔ A) → A ↔ B → IfOk r (λ b. IsTrue b ↔ B)
-told_same (Ok b) told same = ((λ h. same.0 (told.0 h)), (λ h. told.1 (same.1 h)))
-told_same (Err e) told same = tt
+pub given_same : {E : Type 0} {A B : Type 0} (r : Result Bool E) → IfOk r (λ b. IsTrue b ↔ A) → A ↔ B → IfOk r (λ b. IsTrue b ↔ B)
+given_same (Ok b) given same = ((λ h. same.0 (given.0 h)), (λ h. given.1 (same.1 h)))
+given_same (Err e) given same = tt
 
 pub then_same : {A B C : Type 0} → A ↔ B → B ↔ C → A ↔ C
 then_same p q = ((λ a. q.0 (p.0 a)), (λ c. p.1 (q.1 c)))

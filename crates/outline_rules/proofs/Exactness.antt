@@ -14,7 +14,7 @@ use Rattle.outline_rules.specs.Faults.{Answer, answer_of, fault_names, note_form
 use Rattle.outline_rules.specs.Readings.{Gives}
 use Rattle.outline_rules.specs.Working.Readings.{Reads}
 use Rattle.outline_rules.specs.NoteLaws.{TextsDiffer, IsTextOrFaulty, EachHasOneSpelling, FaultsAreFirst, next_line}
-use Rattle.outline_rules.proofs.Spellings.{line_read, line_told}
+use Rattle.outline_rules.proofs.Spellings.{line_read, line_given}
 use Rattle.outline_rules.proofs.LineFormats.{text_laws}
 
 pub texts_differ_lem : TextsDiffer
@@ -24,7 +24,7 @@ pub is_text_or_faulty_lem : IsTextOrFaulty
 is_text_or_faulty_lem = text_or_fault text_laws
 
 pub lines_have_one_spelling_lem : EachHasOneSpelling
-lines_have_one_spelling_lem line l narrow = (line_told line l narrow, (λ is. ap read_line is ∙ line_read l narrow))
+lines_have_one_spelling_lem line l narrow = (line_given line l narrow, (λ is. ap read_line is ∙ line_read l narrow))
 
 pub only_from : (bytes : List ℕ) (r : Answer) → Reads (answer_of bytes) r → (ns : NotesParts) → AreNarrowNotes ns → bytes ≡ text_of ns → Gives ns r
 only_from bytes (Ok ms) a ns is text = let one : Ok ms ≡ Ok ns = sym a ∙ text_answer text_laws bytes ns is text in cc

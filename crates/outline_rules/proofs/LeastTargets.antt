@@ -10,10 +10,10 @@ use Rattle.outline_rules.specs.declared.checks.Check.{Check}
 use Rattle.outline_rules.specs.Working.Checks.{condition_of}
 use Rattle.outline_rules.specs.Follows.{Condition, target, IsMet}
 use Rattle.outline_rules.specs.Reasons.{IsLeastUnmet}
-use Rattle.outline_rules.specs.Working.Sets.{TellsLeastUnmet, lesser_of}
+use Rattle.outline_rules.specs.Working.Sets.{ShowsLeastUnmet, lesser_of}
 
 module _ (q : ProblemParts) (note : ℕ → Atom → Bool) where
-  pub of_one : (c : Condition) (met : Bool) → IsTrue met ↔ IsMet q note c → TellsLeastUnmet q note (c ∷ []) (cond met None (Some (target c)))
+  pub of_one : (c : Condition) (met : Bool) → IsTrue met ↔ IsMet q note c → ShowsLeastUnmet q note (c ∷ []) (cond met None (Some (target c)))
   of_one c true is = λ d h. ⊎_elim (λ e. subst (IsMet q note) e (is.0 refl)) absurd h
   of_one c false is =
       record {
@@ -51,7 +51,7 @@ module _ (q : ProblemParts) (note : ℕ → Atom → Bool) where
   two_orders : (k l : ℕ) → ((min k l ≡ k) × (k ≤ l)) ⊎ ((min k l ≡ l) × (l ≤ k))
   two_orders k l = grind arith
 
-  pub joined : (cs ds : List Condition) (o p : Option ℕ) → TellsLeastUnmet q note cs o → TellsLeastUnmet q note ds p → TellsLeastUnmet q note (cs ++ ds) (lesser_of o p)
+  pub joined : (cs ds : List Condition) (o p : Option ℕ) → ShowsLeastUnmet q note cs o → ShowsLeastUnmet q note ds p → ShowsLeastUnmet q note (cs ++ ds) (lesser_of o p)
   joined cs ds None None a b = λ c h. ⊎_elim (a c) (b c) (has_append cs ds c h)
   joined cs ds None (Some l) a b = among_right cs ds l l b refl (λ c h lt. a c h)
   joined cs ds (Some k) None a b = among cs ds k k a refl (λ c h lt. b c h)
@@ -63,19 +63,19 @@ module _ (q : ProblemParts) (note : ℕ → Atom → Bool) where
 
   -- adding a check to a list
   pub least_next : (checks : List Check) (i : ℕ) (check : Check) (met : Bool) (least one next : Option ℕ) (t : ℕ) → i < length checks → check ≡ get_or checks i check → t ≡ target (condition_of check) → one ≡ cond met None (Some t) → next ≡ lesser_of least one
-      → TellsLeastUnmet q note (map condition_of (take i checks)) least → IsTrue met ↔ IsMet q note (condition_of check) → TellsLeastUnmet q note (map condition_of (take (i + 1) checks)) next
-  least_next checks i check met least one next t lt is own chosen joins so_far tells =
+      → ShowsLeastUnmet q note (map condition_of (take i checks)) least → IsTrue met ↔ IsMet q note (condition_of check) → ShowsLeastUnmet q note (map condition_of (take (i + 1) checks)) next
+  least_next checks i check met least one next t lt is own chosen joins so_far gives =
       let more : map condition_of (take (i + 1) checks) ≡ map condition_of (take i checks) ++ condition_of check ∷ [] = map_more condition_of checks i check lt ∙ ap (λ (c : Check). map condition_of (take i checks) ++ condition_of c ∷ []) (sym is) in
-      let last : TellsLeastUnmet q note (condition_of check ∷ []) one = subst (TellsLeastUnmet q note (condition_of check ∷ [])) (sym (chosen ∙ ap (λ k. cond met None (Some k)) own)) (of_one (condition_of check) met tells) in
-      subst (λ (l : List Condition). TellsLeastUnmet q note l next) (sym more)
-      (subst (TellsLeastUnmet q note (map condition_of (take i checks) ++ condition_of check ∷ [])) (sym joins)
+      let last : ShowsLeastUnmet q note (condition_of check ∷ []) one = subst (ShowsLeastUnmet q note (condition_of check ∷ [])) (sym (chosen ∙ ap (λ k. cond met None (Some k)) own)) (of_one (condition_of check) met gives) in
+      subst (λ (l : List Condition). ShowsLeastUnmet q note l next) (sym more)
+      (subst (ShowsLeastUnmet q note (map condition_of (take i checks) ++ condition_of check ∷ [])) (sym joins)
       (joined (map condition_of (take i checks)) (condition_of check ∷ []) least one so_far last))
 
   -- the conditions of a task
-  pub least_of_all : (start end : Condition) (cs : List Condition) (first last : Bool) (within one other later all : Option ℕ) (t : ℕ) → IsTrue first ↔ IsMet q note start → IsTrue last ↔ IsMet q note end → TellsLeastUnmet q note cs within
-      → t ≡ target end → other ≡ cond last None (Some t) → later ≡ lesser_of within other → one ≡ cond first None (Some (target start)) → all ≡ lesser_of one later → TellsLeastUnmet q note (start ∷ (cs ++ end ∷ [])) all
-  least_of_all start end cs first last within one other later all t is_first is_last tells own chosen joins chosen_first joins_all =
-      let end_told : TellsLeastUnmet q note (end ∷ []) other = subst (TellsLeastUnmet q note (end ∷ [])) (sym (chosen ∙ ap (λ k. cond last None (Some k)) own)) (of_one end last is_last) in
-      let rest_told : TellsLeastUnmet q note (cs ++ end ∷ []) later = subst (TellsLeastUnmet q note (cs ++ end ∷ [])) (sym joins) (joined cs (end ∷ []) within other tells end_told) in
-      let start_told : TellsLeastUnmet q note (start ∷ []) one = subst (TellsLeastUnmet q note (start ∷ [])) (sym chosen_first) (of_one start first is_first) in
-      subst (TellsLeastUnmet q note (start ∷ (cs ++ end ∷ []))) (sym joins_all) (joined (start ∷ []) (cs ++ end ∷ []) one later start_told rest_told)
+  pub least_of_all : (start end : Condition) (cs : List Condition) (first last : Bool) (within one other later all : Option ℕ) (t : ℕ) → IsTrue first ↔ IsMet q note start → IsTrue last ↔ IsMet q note end → ShowsLeastUnmet q note cs within
+      → t ≡ target end → other ≡ cond last None (Some t) → later ≡ lesser_of within other → one ≡ cond first None (Some (target start)) → all ≡ lesser_of one later → ShowsLeastUnmet q note (start ∷ (cs ++ end ∷ [])) all
+  least_of_all start end cs first last within one other later all t is_first is_last gives own chosen joins chosen_first joins_all =
+      let end_given : ShowsLeastUnmet q note (end ∷ []) other = subst (ShowsLeastUnmet q note (end ∷ [])) (sym (chosen ∙ ap (λ k. cond last None (Some k)) own)) (of_one end last is_last) in
+      let rest_given : ShowsLeastUnmet q note (cs ++ end ∷ []) later = subst (ShowsLeastUnmet q note (cs ++ end ∷ [])) (sym joins) (joined cs (end ∷ []) within other gives end_given) in
+      let start_given : ShowsLeastUnmet q note (start ∷ []) one = subst (ShowsLeastUnmet q note (start ∷ [])) (sym chosen_first) (of_one start first is_first) in
+      subst (ShowsLeastUnmet q note (start ∷ (cs ++ end ∷ []))) (sym joins_all) (joined (start ∷ []) (cs ++ end ∷ []) one later start_given rest_given)

@@ -14,7 +14,7 @@ use Rattle.line_format.proofs.LineSteps.{named, complete}
 use Rattle.line_format.proofs.LineTests.{Passes}
 use Rattle.line_format.proofs.FormatLaws.{IsLineFormat, Reaches, GrowsFrom, section_reached, nothing_reached}
 use Rattle.line_format.proofs.LinesScanned.{lines_scanned, lines_lack}
-use Rattle.line_format.proofs.LinesTold.{body_told}
+use Rattle.line_format.proofs.LinesGiven.{body_given}
 use Rattle.line_format.proofs.WholeTexts.{IsTextFormat}
 use Rattle.outline_rules.specs.declared.notes.NoteNode.{NoteNode}
 use Rattle.outline_rules.specs.declared.line.NoteLine.{NoteLine}
@@ -25,7 +25,7 @@ use Rattle.outline_rules.specs.Texts.{line_numbers, heading, note_lines, lines_b
 use Rattle.outline_rules.specs.Faults.{section_of, is_section_allowed, same_node, with_line, fault_names, note_format, notes_from, no_lines, all_from}
 use Rattle.outline_rules.proofs.KnownNodes.{same_node_equal, node_same_itself}
 use Rattle.outline_rules.proofs.Growth.{has_below, notes_grown}
-use Rattle.outline_rules.proofs.Spellings.{line_read, line_told, line_lacks_feed, line_not_end}
+use Rattle.outline_rules.proofs.Spellings.{line_read, line_given, line_lacks_feed, line_not_end}
 
 lines_grown : (ns : NotesParts) (l : NoteLine) → is_section_allowed ns (section_of l) ≡ true → note_lines (with_line ns l) ≡ note_lines ns ++ l ∷ []
 lines_grown ns (Node n) allowed =
@@ -37,7 +37,7 @@ lines_grown ns (Note k) allowed =
     ap (λ l. nodes ++ l) (map-append Note ns.notes (k ∷ [])) ∙ sym (append_assoc nodes (map Note ns.notes) (Note k ∷ []))
 
 pub note_laws : IsLineFormat note_format
-note_laws = record { read_back = line_read; read_told = line_told; lacks_feed = line_lacks_feed; not_end = line_not_end; lines_grown = lines_grown }
+note_laws = record { read_back = line_read; read_given = line_given; lacks_feed = line_lacks_feed; not_end = line_not_end; lines_grown = lines_grown }
 
 -- ---- the lines of notes pass
 
@@ -77,15 +77,15 @@ notes_grow = record { begins = record { ordered = λ k n e. cc; once = tt; notes
 
 -- ---- the whole text
 
-all_told : (parts : List (List ℕ)) (ns : NotesParts) → all_from parts ≡ Ok ns → AreNarrowNotes ns × (parts ≡ with_last (lines_before_end ns ++ codes "end" ∷ []))
-all_told [] ns h = cc
-all_told (line ∷ []) ns h = cc
-all_told (line ∷ part ∷ parts) ns h = by_heading (bytes_eq line heading) refl h
+all_given : (parts : List (List ℕ)) (ns : NotesParts) → all_from parts ≡ Ok ns → AreNarrowNotes ns × (parts ≡ with_last (lines_before_end ns ++ codes "end" ∷ []))
+all_given [] ns h = cc
+all_given (line ∷ []) ns h = cc
+all_given (line ∷ part ∷ parts) ns h = by_heading (bytes_eq line heading) refl h
   where
     by_heading : (b : Bool) → bytes_eq line heading ≡ b → cond b (notes_from no_lines 2 (part ∷ parts)) (Err Header) ≡ Ok ns → AreNarrowNotes ns × (line ∷ part ∷ parts ≡ with_last (lines_before_end ns ++ codes "end" ∷ []))
     by_heading true is k =
-        let told = body_told note_format note_laws no_lines AreNotes notes_grow (part ∷ parts) 2 ns k in
-        (subst AreNarrowNotes told.is (told.keeps, told.narrow), ap₂ (λ l ls. l ∷ ls) (named line heading is) (told.lines ∙ ap (λ ms. with_last (map (spelling note_format) (note_lines ms) ++ codes "end" ∷ [])) told.is))
+        let given = body_given note_format note_laws no_lines AreNotes notes_grow (part ∷ parts) 2 ns k in
+        (subst AreNarrowNotes given.is (given.keeps, given.narrow), ap₂ (λ l ls. l ∷ ls) (named line heading is) (given.lines ∙ ap (λ ms. with_last (map (spelling note_format) (note_lines ms) ++ codes "end" ∷ [])) given.is))
     by_heading false is k = cc
 
 pub text_laws : IsTextFormat fault_names all_from lines_before_end AreNarrowNotes notes_from
@@ -97,5 +97,5 @@ text_laws =
           ∙ lines_scanned note_format note_laws no_lines AreNotes notes_grow ns is.0 is.1 2 i part parts (omega (arith, place, length-map (note_lines ns) (spelling note_format)));
       short = λ ns i rest. refl;
       ends = λ ns i part parts. refl;
-      told = all_told;
+      given = all_given;
     }

@@ -19,28 +19,28 @@ use Rattle.outline_rules.specs.Forms.{node_of, note_of}
 use Rattle.outline_rules.specs.Faults.{is_wide, section_of}
 
 -- a node is read only from its own name and numbers
-pub node_told : (name ks : List ℕ) (n : NoteNode) → node_of name ks ≡ Some n → (name ≡ node_name n) × (ks ≡ node_numbers n)
-node_told name [] n e =
+pub node_given : (name ks : List ℕ) (n : NoteNode) → node_of name ks ≡ Some n → (name ≡ node_name n) × (ks ≡ node_numbers n)
+node_given name [] n e =
     ⊎_elim
     (λ p. (named name (codes "false") p.0 ∙ ap node_name p.1, ap node_numbers p.1))
     (λ p. (named name (codes "true") p.0 ∙ ap node_name p.1, ap node_numbers p.1))
     (some_of_conds (bytes_eq name (codes "false")) (bytes_eq name (codes "true")) False True n e)
-node_told name (x ∷ []) n e = cc
-node_told name (x ∷ y ∷ []) n e = cc
-node_told name (x ∷ y ∷ z ∷ []) n e =
+node_given name (x ∷ []) n e = cc
+node_given name (x ∷ y ∷ []) n e = cc
+node_given name (x ∷ y ∷ z ∷ []) n e =
     let p = some_of_cond (bytes_eq name (codes "test")) (Branch x y z) n e in
     (named name (codes "test") p.0 ∙ ap node_name p.1, ap node_numbers p.1)
-node_told name (x ∷ y ∷ z ∷ w ∷ ks) n e = cc
+node_given name (x ∷ y ∷ z ∷ w ∷ ks) n e = cc
 
 pub node_made : (n : NoteNode) → node_of (node_name n) (node_numbers n) ≡ Some n
 node_made False = refl
 node_made True = refl
 node_made (Branch k x y) = refl
 
-pub note_told : (ks : List ℕ) (l : NoteLine) → note_of ks ≡ Some l → (ks ≡ line_numbers l) × (section_of l ≡ Notes)
-note_told [] l e = cc
-note_told (k ∷ []) l e = let same : Note k ≡ l = cc in (ap line_numbers same, ap section_of (sym same))
-note_told (k ∷ j ∷ ks) l e = cc
+pub note_given : (ks : List ℕ) (l : NoteLine) → note_of ks ≡ Some l → (ks ≡ line_numbers l) × (section_of l ≡ Notes)
+note_given [] l e = cc
+note_given (k ∷ []) l e = let same : Note k ≡ l = cc in (ap line_numbers same, ap section_of (sym same))
+note_given (k ∷ j ∷ ks) l e = cc
 
 -- whether numbers form a node depends on how many they are, not on their values
 some_of_one : {N : Type 0} (b : Bool) (y : N) → b ≡ true → (m : N) × (cond b (Some y) None ≡ Some m)
@@ -67,11 +67,11 @@ note_same (x ∷ []) (y ∷ []) l h e = (Note y, refl)
 note_same (x ∷ []) (y ∷ z ∷ ys) l h e = absurd (omega arith)
 note_same (x ∷ w ∷ xs) ys l h e = cc
 
-pub node_told_line : (name : List ℕ) (ks : List ℕ) (n : NoteNode) → node_of name ks ≡ Some n → (ks ≡ line_numbers (Node n)) × (section_of (Node n) ≡ Nodes)
-node_told_line name ks n e = ((node_told name ks n e).1, refl)
+pub node_given_line : (name : List ℕ) (ks : List ℕ) (n : NoteNode) → node_of name ks ≡ Some n → (ks ≡ line_numbers (Node n)) × (section_of (Node n) ≡ Nodes)
+node_given_line name ks n e = ((node_given name ks n e).1, refl)
 
 pub wide_node : (name : List ℕ) (ws : List (List ℕ)) (v : Numbers) (n : NoteNode) → list_all is_numeral ws ≡ true → HasNumbers (map value_of ws) v → node_of name v.values.items ≡ Some n → v.wide ≡ true → (l : NoteLine) × (option_map Node (option_and_then (node_of name) (numbers_of ws)) ≡ Some l) × (is_wide l ≡ true) × (section_of l ≡ Nodes)
-wide_node name = wide_form line_numbers section_of (node_of name) Node Nodes (node_same name) (node_told_line name)
+wide_node name = wide_form line_numbers section_of (node_of name) Node Nodes (node_same name) (node_given_line name)
 
 -- the same for notes
 own_line : (o : Option NoteLine) → option_map (λ (l : NoteLine). l) o ≡ o
@@ -80,5 +80,5 @@ own_line (Some l) = refl
 
 pub wide_note : (ws : List (List ℕ)) (v : Numbers) (l : NoteLine) → list_all is_numeral ws ≡ true → HasNumbers (map value_of ws) v → note_of v.values.items ≡ Some l → v.wide ≡ true → (m : NoteLine) × (option_and_then note_of (numbers_of ws) ≡ Some m) × (is_wide m ≡ true) × (section_of m ≡ Notes)
 wide_note ws v l e has is wide =
-    let t = wide_form line_numbers section_of note_of (λ (m : NoteLine). m) Notes note_same note_told ws v l e has is wide in
+    let t = wide_form line_numbers section_of note_of (λ (m : NoteLine). m) Notes note_same note_given ws v l e has is wide in
     (t.0, sym (own_line (option_and_then note_of (numbers_of ws))) ∙ t.1, t.2, t.3)

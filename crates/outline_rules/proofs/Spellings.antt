@@ -7,7 +7,7 @@ use Rattle.std.specs.Str.{bytes_eq}
 use Rattle.line_format.specs.Lines.{words_of, line_of}
 use Rattle.line_format.specs.Numerals.{numbers_of}
 use Rattle.line_format.proofs.Splits.{LacksByte}
-use Rattle.line_format.proofs.Words.{AreNarrow, numbers_back, numbers_told, IsWord, AreLineWords, decimals_words, words_back, line_back, line_lacks}
+use Rattle.line_format.proofs.Words.{AreNarrow, numbers_back, numbers_given, IsWord, AreLineWords, decimals_words, words_back, line_back, line_lacks}
 use Rattle.outline_rules.specs.declared.notes.NoteNode.{NoteNode}
 use Rattle.outline_rules.specs.declared.notes.NoteNode.TheVariants.{False, True, Branch}
 use Rattle.outline_rules.specs.declared.line.NoteLine.{NoteLine}
@@ -16,10 +16,10 @@ use Rattle.outline_rules.specs.Texts.{node_name, node_numbers, line_words, line_
 use Rattle.outline_rules.specs.Forms.{node_of, note_of, node_of_words, line_of_words, read_line}
 use Rattle.line_format.proofs.LineSteps.{named}
 use Rattle.kat_model.proofs.Options.{some_of_then}
-use Rattle.line_format.proofs.NumberForms.{form_told}
+use Rattle.line_format.proofs.NumberForms.{form_given}
 use Rattle.outline_rules.specs.declared.line.Section.TheVariants.{Nodes}
 use Rattle.outline_rules.specs.Faults.{section_of}
-use Rattle.outline_rules.proofs.NoteForms.{node_told, node_same, node_told_line, node_made, note_told}
+use Rattle.outline_rules.proofs.NoteForms.{node_given, node_same, node_given_line, node_made, note_given}
 
 node_name_word : (n : NoteNode) → IsWord (node_name n)
 node_name_word False = refl
@@ -54,30 +54,30 @@ two_kinds true b x y l h = inl (refl, h)
 two_kinds false true x y l h = inr (refl, h)
 two_kinds false false x y l h = cc
 
-node_line_told : (kind : List ℕ) (ws : List (List ℕ)) (l : NoteLine) → IsNarrow l → kind ≡ codes "D" → node_of_words ws ≡ Some l → kind ∷ ws ≡ line_words l
-node_line_told kind [] l narrow is h = cc
-node_line_told kind (name ∷ ws) l narrow is h =
-    let told = form_told line_numbers section_of (node_of name) Node Nodes (node_same name) (node_told_line name) ws l narrow h in
-    ap₂ (λ k ls. k ∷ ls) is (ap₂ (λ n ls. n ∷ ls) (node_told name told.1 told.0 told.2).0 told.3) ∙ ap line_words told.4
+node_line_given : (kind : List ℕ) (ws : List (List ℕ)) (l : NoteLine) → IsNarrow l → kind ≡ codes "D" → node_of_words ws ≡ Some l → kind ∷ ws ≡ line_words l
+node_line_given kind [] l narrow is h = cc
+node_line_given kind (name ∷ ws) l narrow is h =
+    let given = form_given line_numbers section_of (node_of name) Node Nodes (node_same name) (node_given_line name) ws l narrow h in
+    ap₂ (λ k ls. k ∷ ls) is (ap₂ (λ n ls. n ∷ ls) (node_given name given.1 given.0 given.2).0 given.3) ∙ ap line_words given.4
 
 note_words : (ks : List ℕ) (l : NoteLine) → note_of ks ≡ Some l → codes "C" ∷ map decimal ks ≡ line_words l
 note_words [] l e = cc
 note_words (k ∷ []) l e = let same : Note k ≡ l = cc in ap line_words same
 note_words (k ∷ j ∷ ks) l e = cc
 
-note_line_told : (kind : List ℕ) (ws : List (List ℕ)) (l : NoteLine) → IsNarrow l → kind ≡ codes "C" → option_and_then note_of (numbers_of ws) ≡ Some l → kind ∷ ws ≡ line_words l
-note_line_told kind ws l narrow is h =
+note_line_given : (kind : List ℕ) (ws : List (List ℕ)) (l : NoteLine) → IsNarrow l → kind ≡ codes "C" → option_and_then note_of (numbers_of ws) ≡ Some l → kind ∷ ws ≡ line_words l
+note_line_given kind ws l narrow is h =
     let read = some_of_then note_of (numbers_of ws) l h in
-    let small = subst AreNarrow (sym (note_told read.0 l read.2).0) narrow in
-    ap₂ (λ k ls. k ∷ ls) is (numbers_told ws read.0 read.1 small) ∙ note_words read.0 l read.2
+    let small = subst AreNarrow (sym (note_given read.0 l read.2).0) narrow in
+    ap₂ (λ k ls. k ∷ ls) is (numbers_given ws read.0 read.1 small) ∙ note_words read.0 l read.2
 
-words_told : (ws : List (List ℕ)) (l : NoteLine) → IsNarrow l → line_of_words ws ≡ Some l → ws ≡ line_words l
-words_told [] l narrow h = cc
-words_told (kind ∷ ws) l narrow h =
+words_given : (ws : List (List ℕ)) (l : NoteLine) → IsNarrow l → line_of_words ws ≡ Some l → ws ≡ line_words l
+words_given [] l narrow h = cc
+words_given (kind ∷ ws) l narrow h =
     ⊎_elim
-    (λ p. node_line_told kind ws l narrow (named kind (codes "D") p.0) p.1)
-    (λ p. note_line_told kind ws l narrow (named kind (codes "C") p.0) p.1)
+    (λ p. node_line_given kind ws l narrow (named kind (codes "D") p.0) p.1)
+    (λ p. note_line_given kind ws l narrow (named kind (codes "C") p.0) p.1)
     (two_kinds (bytes_eq kind (codes "D")) (bytes_eq kind (codes "C")) (node_of_words ws) (option_and_then note_of (numbers_of ws)) l h)
 
-pub line_told : (line : List ℕ) (l : NoteLine) → IsNarrow l → read_line line ≡ Some l → line ≡ line_of (line_words l)
-line_told line l narrow h = sym (line_back line) ∙ ap line_of (words_told (words_of line) l narrow h)
+pub line_given : (line : List ℕ) (l : NoteLine) → IsNarrow l → read_line line ≡ Some l → line ≡ line_of (line_words l)
+line_given line l narrow h = sym (line_back line) ∙ ap line_of (words_given (words_of line) l narrow h)

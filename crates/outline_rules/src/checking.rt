@@ -15,7 +15,7 @@ ghost use Rattle.outline_rules.specs.Places.{last_place};
 ghost use Rattle.outline_rules.specs.Follows.{starts, ends, conditions, target, IsMet, HasTests};
 ghost use Rattle.outline_rules.specs.Reasons.{IsOutOfRange, IsNoteAnswer};
 ghost use Rattle.outline_rules.specs.Working.Checks.{guard_tree, condition_of};
-ghost use Rattle.outline_rules.specs.Working.Sets.{tests_out, HasPartsInRange, AreNodeSets, AreMomentSets, HasGuardInRange, HasCheckInRange, TellsLeastUnmet, EntailsUnder, lesser_of, free_step, AreEnds};
+ghost use Rattle.outline_rules.specs.Working.Sets.{tests_out, HasPartsInRange, AreNodeSets, AreMomentSets, HasGuardInRange, HasCheckInRange, ShowsLeastUnmet, EntailsUnder, lesser_of, free_step, AreEnds};
 
 use crate::answer::{NoteAnswer, NoteReason};
 use crate::checks::{Check, Guard, next_place, push_checks};
@@ -315,7 +315,7 @@ fn least_unmet_check(
     requires tests { diagrams.old.tests ≡ problem.now.tests }
     requires before { AreMomentSets diagrams.old Before problem.now.hyps notes.now before.now }
     requires in_range { All (HasCheckInRange problem.now.tests) checks.now }
-    ensures least { IfOk result (TellsLeastUnmet problem.now (note_holds notes.now) (map condition_of checks.now)) }
+    ensures least { IfOk result (ShowsLeastUnmet problem.now (note_holds notes.now) (map condition_of checks.now)) }
     ensures kept { KeepsSteps diagrams.old diagrams.new }
 {
     let mut least = None;
@@ -342,7 +342,7 @@ fn least_unmet_from(
     requires pre { IsTestInRange problem.now.tests (test_tree task.now.pre) }
     requires post { IsTestInRange problem.now.tests (test_tree task.now.post) }
     requires in_range { All (HasCheckInRange problem.now.tests) checks.now }
-    ensures { IfOk result (TellsLeastUnmet problem.now (note_holds notes.now)
+    ensures { IfOk result (ShowsLeastUnmet problem.now (note_holds notes.now)
         (starts (test_tree task.now.pre) ∷ (map condition_of checks.now ++ ends last (test_tree task.now.post) ∷ []))) }
 {
     let starts = is_start_met(diagrams, problem, notes, before, &task.pre)?;
@@ -370,7 +370,7 @@ fn least_unmet_over(
     requires pre { IsTestInRange problem.now.tests (test_tree task.now.pre) }
     requires post { IsTestInRange problem.now.tests (test_tree task.now.post) }
     requires in_range { All (HasCheckInRange problem.now.tests) checks.now }
-    ensures { IfOk result (TellsLeastUnmet problem.now (note_holds notes.now)
+    ensures { IfOk result (ShowsLeastUnmet problem.now (note_holds notes.now)
         (starts (test_tree task.now.pre) ∷ (map condition_of checks.now ++ ends last (test_tree task.now.post) ∷ []))) }
 {
     let before = moment_sets(alloc, diagrams, problem, notes, Moment::Before)?;
@@ -391,7 +391,7 @@ fn least_unmet(
     requires pre { IsTestInRange problem.now.tests (test_tree task.now.pre) }
     requires post { IsTestInRange problem.now.tests (test_tree task.now.post) }
     requires in_range { All (HasCheckInRange problem.now.tests) checks.now }
-    ensures { IfOk result (TellsLeastUnmet problem.now (note_holds notes.now)
+    ensures { IfOk result (ShowsLeastUnmet problem.now (note_holds notes.now)
         (starts (test_tree task.now.pre) ∷ (map condition_of checks.now ++ ends last (test_tree task.now.post) ∷ []))) }
 {
     let mut diagrams = StepDiagrams::new(alloc, problem.tests())?;

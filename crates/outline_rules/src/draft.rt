@@ -2,8 +2,8 @@
 ghost use Rattle.std.specs.Prelude.{◌≡◌, ◌&&◌, Some, false};
 ghost use Rattle.outline_rules.specs.NoteLists.{NotesParts, node_parts};
 ghost use Rattle.outline_rules.specs.Faults.{are_below, no_lines, is_section_allowed, is_wide, names_earlier, note_format};
-ghost use Rattle.line_format.specs.KnownLines.{TellsApart, IsReflexive};
-ghost use Rattle.outline_rules.specs.Working.Readings.{draft_parts, IsDraft, MayBeAdded, AddsLine, unless_memory, is_told, is_passed_on};
+ghost use Rattle.line_format.specs.KnownLines.{Distinguishes, IsReflexive};
+ghost use Rattle.outline_rules.specs.Working.Readings.{draft_parts, IsDraft, MayBeAdded, AddsLine, unless_memory, is_given, is_passed_on};
 ghost use Rattle.outline_rules.specs.declared.line.NoteLine.{NoteLine};
 ghost use Rattle.outline_rules.specs.declared.line.NoteLine.TheVariants.{Node, Note};
 
@@ -34,7 +34,7 @@ impl Drop for Draft {
 
 // Does nothing: its contract states two facts about the order of nodes in the set.
 fn node_order()
-    ensures apart { TellsApart ⟦<NoteNode as Ord>⟧.cmp }
+    ensures apart { Distinguishes ⟦<NoteNode as Ord>⟧.cmp }
     ensures own { IsReflexive ⟦<NoteNode as Ord>⟧.cmp }
 {}
 
@@ -167,7 +167,7 @@ impl LineDraft for Draft {
         NotesFault::Trailing(number)
     }
 
-    ghost is_told = { is_told };
+    ghost is_given = { is_given };
 
     ghost is_passed_on = { is_passed_on };
 }

@@ -1,7 +1,9 @@
-//! The rules of outlines, which are annotated programs as proofs of Hoare triples, and a checker that decides whether
-//! notes follow by these rules. It finds no notes. The notes of an outline are one set of atoms for each place of a
-//! program, as branching nodes, and have a text. The checker uses diagrams over two copies of the tests, one for the atom
-//! before a step and one for the atom after it, and the diagrams of what hypotheses allow.
+//! The rules of proof outlines, and a checker of notes by them.
+//!
+//! An outline is an annotated program as a proof of a Hoare triple. The checker decides whether notes follow by the
+//! rules, and finds none. The notes of an outline are one set of atoms for each place of a program, as branching nodes,
+//! and have a text. The checker uses diagrams over two copies of the tests, one for the atom before a step and one for
+//! the atom after it, and the diagrams of what hypotheses allow.
 #![tactic(auto)]
 
 mod answer;

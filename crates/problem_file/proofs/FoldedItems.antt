@@ -5,7 +5,7 @@ use Rattle.text_parser.specs.declared.fault.TextFault.{TextFault}
 use Rattle.text_parser.specs.declared.terminal.Terminal.TheVariants.{Keyword, Separator, Zero}
 use Rattle.text_parser.specs.declared.terminal.Separator.TheVariants.{Comma, Semicolon, CurlyClose, Equals}
 use Rattle.text_parser.specs.Lexemes.{Lexeme, is_terminal}
-use Rattle.text_parser.specs.Parsed.{Parsed, ◌>>=◌, before, change, then_wants}
+use Rattle.text_parser.specs.Parsed.{Parsed, ◌>>=◌, before, change, then_expects}
 use Rattle.text_parser.specs.Actions.{context}
 use Rattle.text_parser.specs.Phrases.{term, cond, Leaf, Phrase, cons_token, yield_before, MeetsLookahead}
 use Rattle.text_parser.specs.Ends.{Ends}
@@ -22,7 +22,7 @@ use Rattle.problem_file.specs.declared.item_reading.Comparison.{Comparison}
 use Rattle.problem_file.specs.declared.item_reading.Comparison.TheVariants.{Equal, Below}
 use Rattle.problem_file.specs.Numbers.{until}
 use Rattle.problem_file.specs.ItemActions.{Measurement, ItemActions}
-use Rattle.problem_file.specs.Items.{at_number, lone_name, term_by, cond_by, block_by, named_or, side_by, braced_by, middle_by, triple_by, then_do, then_ask, prog_by, zero_by, setting_by, sides_by, comparison_by, triple_goal_by, item_by, items_within, items_by}
+use Rattle.problem_file.specs.Items.{at_number, lone_name, term_by, cond_by, block_by, named_or, side_by, braced_by, middle_by, triple_by, then_do, then_pose, prog_by, zero_by, setting_by, sides_by, comparison_by, triple_goal_by, item_by, items_within, items_by}
 use Rattle.problem_file.specs.Phrases.{Numeral, zero_number, one_number, other_number, wide_number, Braced, TriplePhrase}
 use Rattle.problem_file.specs.Phrases.{Body, tests, actions, variables, definition, program, hypothesis, hyp_triple, rounds, width, goal_equal, goal_below, goal_triple, Item}
 use Rattle.problem_file.specs.Phrases.{word_of, lone_leaf, numeral_onto, braced_onto, triple_onto, ended, sides_onto, prog_onto, body_onto, spelled, BracedObeys, TripleObeys, SidesObey, BodyObeys, ItemsObey, IsFile}
@@ -44,14 +44,14 @@ done {S} f m end ts v e = ap (then_do f) e ∙ by_value v where
   by_value (Err x) = refl
 
 -- the same if the numbers of the item are checked first
-asked : {S X M : Type 0} (g : ItemActions S X) (s : S) (us own : List Lexeme) (f : M → Result S TextFault) (m : Parsed M) (end : Leaf) (ts : List Lexeme) (v : Result M TextFault) → until us ts ≡ own → m ≡ before (ended end ts) v →
-    then_ask g s us f m ≡ before ts (v >>= λ x. g.check_numbers s own >>= λ u. f x)
-asked {S} {X} {M} g s us own f m end ts v h e = ap (then_ask g s us f) e ∙ by_value v where
+posed : {S X M : Type 0} (g : ItemActions S X) (s : S) (us own : List Lexeme) (f : M → Result S TextFault) (m : Parsed M) (end : Leaf) (ts : List Lexeme) (v : Result M TextFault) → until us ts ≡ own → m ≡ before (ended end ts) v →
+    then_pose g s us f m ≡ before ts (v >>= λ x. g.check_numbers s own >>= λ u. f x)
+posed {S} {X} {M} g s us own f m end ts v h e = ap (then_pose g s us f) e ∙ by_value v where
   look : (r : Result (Unit {0}) TextFault) (x : M) → (r >>= λ u. before ts (f x)) ≡ before ts (r >>= λ u. f x)
   look (Ok u) x = refl
   look (Err d) x = refl
 
-  by_value : (r : Result M TextFault) → then_ask g s us f (before (ended end ts) r) ≡ before ts (r >>= λ x. g.check_numbers s own >>= λ u. f x)
+  by_value : (r : Result M TextFault) → then_pose g s us f (before (ended end ts) r) ≡ before ts (r >>= λ x. g.check_numbers s own >>= λ u. f x)
   by_value (Ok x) = rw (h) (look (g.check_numbers s own) x)
   by_value (Err d) = refl
 
@@ -112,7 +112,7 @@ module _ {S X : Type 0} (g : ItemActions S X) where
   middle_folded s false p ts ends obeys = term_folded s p ts ends obeys
 
   braced_folded : (s : S) (compares : Bool) (b : Braced) (ts : List Lexeme) → BracedObeys b ts → braced_by g s compares (braced_onto b ts) ≡ before ts (fold_braced g s compares b ts)
-  braced_folded s compares b ts obeys = ap (then_wants (is_terminal (Separator CurlyClose))) (cond_folded s compares b.inner (cons_token (Separator CurlyClose) b.right ts) refl obeys) ∙ closed (Separator CurlyClose) b.right ts (fold_braced g s compares b ts) refl
+  braced_folded s compares b ts obeys = ap (then_expects (is_terminal (Separator CurlyClose))) (cond_folded s compares b.inner (cons_token (Separator CurlyClose) b.right ts) refl obeys) ∙ closed (Separator CurlyClose) b.right ts (fold_braced g s compares b ts) refl
 
   triple_folded : (s : S) (compares : Bool) (x : TriplePhrase) (ts : List Lexeme) → TripleObeys x ts → triple_by g s compares (triple_onto x ts) ≡ before ts (fold_triple g s compares x ts)
   triple_folded s compares x ts obeys =
@@ -124,7 +124,7 @@ module _ {S X : Type 0} (g : ItemActions S X) where
   sides_folded : (s : S) (p : Phrase term) (c : Leaf) (q : Phrase term) (ts : List Lexeme) → Ends term ts → SidesObey p c q ts → sides_by g s (sides_onto p c q ts) ≡ before ts (fold_sides g s p c q ts)
   sides_folded s p c q ts ends obey =
       let after = cons_token (Separator Comma) c (yield_before q ts) in
-      step (then_wants (is_terminal (Separator Comma)) (side_by g s (yield_before p after))) (yield_before q ts) ts (fold_side g s p after) _ _ (ap (then_wants (is_terminal (Separator Comma))) (side_folded s p after refl obey.0) ∙ closed (Separator Comma) c (yield_before q ts) (fold_side g s p after) refl)
+      step (then_expects (is_terminal (Separator Comma)) (side_by g s (yield_before p after))) (yield_before q ts) ts (fold_side g s p after) _ _ (ap (then_expects (is_terminal (Separator Comma))) (side_folded s p after refl obey.0) ∙ closed (Separator Comma) c (yield_before q ts) (fold_side g s p after) refl)
       (λ m. step (side_by g s (yield_before q ts)) ts ts (fold_side g s q ts) _ _ (side_folded s q ts ends obey.1) (λ n. refl))
 
   -- ---- items
@@ -134,21 +134,21 @@ module _ {S X : Type 0} (g : ItemActions S X) where
       let after = cons_token Zero z (ended end ts) in
       let v = fold_term g s p (cons_token (Separator Equals) q after) in
       done (g.state_zero s at) _ end ts v (
-      ap (λ m. then_wants (is_terminal Zero) (then_wants (is_terminal (Separator Equals)) m)) (term_folded s p (cons_token (Separator Equals) q after) refl obeys)
-      ∙ ap (then_wants (is_terminal Zero)) (closed (Separator Equals) q after v refl)
+      ap (λ m. then_expects (is_terminal Zero) (then_expects (is_terminal (Separator Equals)) m)) (term_folded s p (cons_token (Separator Equals) q after) refl obeys)
+      ∙ ap (then_expects (is_terminal Zero)) (closed (Separator Equals) q after v refl)
       ∙ closed Zero z (ended end ts) v refl)
 
-  definition_folded : (s : S) (at : ℕ) (name : Leaf) (p : Phrase term) (end : Leaf) (ts : List Lexeme) → MeetsLookahead p (ended end ts) → (then_wants (is_terminal (Separator Semicolon)) (term_by g s (yield_before p (ended end ts))) >>= λ x. before x.1 (g.define s at name.text x.0)) ≡ before ts (fold_term g s p (ended end ts) >>= g.define s at name.text)
+  definition_folded : (s : S) (at : ℕ) (name : Leaf) (p : Phrase term) (end : Leaf) (ts : List Lexeme) → MeetsLookahead p (ended end ts) → (then_expects (is_terminal (Separator Semicolon)) (term_by g s (yield_before p (ended end ts))) >>= λ x. before x.1 (g.define s at name.text x.0)) ≡ before ts (fold_term g s p (ended end ts) >>= g.define s at name.text)
   definition_folded s at name p end ts obeys =
       let v = fold_term g s p (ended end ts) in
-      step (then_wants (is_terminal (Separator Semicolon)) (term_by g s (yield_before p (ended end ts)))) ts ts v (λ x. before x.1 (g.define s at name.text x.0)) (g.define s at name.text) (
-      ap (then_wants (is_terminal (Separator Semicolon))) (term_folded s p (ended end ts) refl obeys)
+      step (then_expects (is_terminal (Separator Semicolon)) (term_by g s (yield_before p (ended end ts)))) ts ts v (λ x. before x.1 (g.define s at name.text x.0)) (g.define s at name.text) (
+      ap (then_expects (is_terminal (Separator Semicolon))) (term_folded s p (ended end ts) refl obeys)
       ∙ closed (Separator Semicolon) end ts v refl)
       (λ m. refl)
 
   setting_folded : (what : Setting) (s : S) (at : ℕ) (n : Numeral) (e : Leaf) (ts : List Lexeme) → setting_by g what s at (numeral_onto n (ended e ts)) ≡ before ts (fold_setting g what s at n)
   setting_folded what s at n e ts = checked ts (g.begin_setting what s at) _ _
-      (λ u. ap (then_wants (is_terminal (Separator Semicolon))) (number_folded (g.set what s) n (ended e ts)) ∙ closed (Separator Semicolon) e ts (numeral_value n >>= λ v. g.set what s (numeral_leaf n).at v) refl)
+      (λ u. ap (then_expects (is_terminal (Separator Semicolon))) (number_folded (g.set what s) n (ended e ts)) ∙ closed (Separator Semicolon) e ts (numeral_value n >>= λ v. g.set what s (numeral_leaf n).at v) refl)
 
   prog_folded : (s : S) (at : ℕ) (name : Leaf) (b : BlockPhrase block) (ts : List Lexeme) → BlockObeys b ts → prog_by g s at (prog_onto name b ts) ≡ before ts (fold_program g s at name b ts)
   prog_folded s at name b ts obeys =
@@ -161,13 +161,13 @@ module _ {S X : Type 0} (g : ItemActions S X) where
       (g.begin_goal s at >>= λ u. comparison_by g c s at (sides_onto p l q (ended e ts))) ≡ before ts (fold_comparison g c s at p l q e ts)
   comparison_folded c s at p l q e ts obey =
       checked ts (g.begin_goal s at) _ _ (λ u.
-      asked g s (sides_onto p l q (ended e ts)) (sides_onto p l q (ended e [])) (g.ask_sides c s at) (sides_by g s (sides_onto p l q (ended e ts))) e ts (fold_sides g s p l q (ended e ts)) (until_sides p l q e ts) (sides_folded s p l q (ended e ts) refl obey))
+      posed g s (sides_onto p l q (ended e ts)) (sides_onto p l q (ended e [])) (g.pose_sides c s at) (sides_by g s (sides_onto p l q (ended e ts))) e ts (fold_sides g s p l q (ended e ts)) (until_sides p l q e ts) (sides_folded s p l q (ended e ts) refl obey))
 
   triple_goal_folded : (s : S) (at : ℕ) (x : TriplePhrase) (e : Leaf) (ts : List Lexeme) → TripleObeys x (ended e ts) →
       (g.begin_goal s at >>= λ u. triple_goal_by g s at (triple_onto x (ended e ts))) ≡ before ts (fold_triple_goal g s at x e ts)
   triple_goal_folded s at x e ts obeys =
       checked ts (g.begin_goal s at) _ _ (λ u.
-      asked g s (triple_onto x (ended e ts)) (triple_onto x (ended e [])) (g.ask_triple s at) (triple_by g s true (triple_onto x (ended e ts))) e ts (fold_triple g s true x (ended e ts)) (until_triple x e ts) (triple_folded s true x (ended e ts) obeys))
+      posed g s (triple_onto x (ended e ts)) (triple_onto x (ended e [])) (g.pose_triple s at) (triple_by g s true (triple_onto x (ended e ts))) e ts (fold_triple g s true x (ended e ts)) (until_triple x e ts) (triple_folded s true x (ended e ts) obeys))
 
   body_folded : (b : Body) (s : S) (at : ℕ) (text : List ℕ) (ts : List Lexeme) → BodyObeys b ts → item_by g s (cons_token (Keyword (word_of b)) (record { at = at; text = text }) (body_onto b ts)) ≡ before ts (fold_body g s at b ts)
   body_folded (tests ns e) s at text ts obeys = declaration_folded (g.declare what.Test) ns s e ts

@@ -5,14 +5,14 @@ use Rattle.text_parser.specs.declared.fault.TextFault.{TextFault}
 use Rattle.text_parser.specs.declared.fault.TextFault.TheVariants.{NoMemory}
 use Rattle.text_parser.specs.declared.terminal.Terminal.{Terminal}
 use Rattle.text_parser.specs.Lexemes.{Lexeme}
-use Rattle.text_parser.specs.Parsed.{Parsed, Reads, then_wants}
-use Rattle.text_parser.proofs.NamedFaults.{IsNamed, wants_named}
+use Rattle.text_parser.specs.Parsed.{Parsed, Reads, then_expects}
+use Rattle.text_parser.proofs.NamedFaults.{IsNamed, expects_named}
 use Rattle.problem_file.specs.Working.Followed.{Follows}
 
 module _ {V W : Type 0} (means : V → W) (ts : List Lexeme) (p : Terminal → Bool) where
-  pub followed_reads : (part result : Result (V × ℕ) TextFault) (m : Parsed W) → Reads ⊥ means ts part m → Follows ts p part result → Reads ⊥ means ts result (then_wants p m)
+  pub followed_reads : (part result : Result (V × ℕ) TextFault) (m : Parsed W) → Reads ⊥ means ts part m → Follows ts p part result → Reads ⊥ means ts result (then_expects p m)
   followed_reads (Ok x) (Ok y) m e h = rw (e, h.1, h.0) refl
-  followed_reads (Ok x) (Err NoMemory) m e h = elim (subst IsNamed h (wants_named p (drop x.1 ts))) [ ]
+  followed_reads (Ok x) (Err NoMemory) m e h = elim (subst IsNamed h (expects_named p (drop x.1 ts))) [ ]
   followed_reads (Ok x) (Err f) m e h = rw (e, h) refl
   followed_reads (Err NoMemory) result m e h = elim e [ ]
   followed_reads (Err f) result m e h = rw (h, e) refl

@@ -7,21 +7,21 @@ use Rattle.text_parser.specs.declared.terminal.Terminal.TheVariants.{Name, Keywo
 use Rattle.text_parser.specs.declared.terminal.Keyword.TheVariants as word
 use Rattle.text_parser.specs.declared.terminal.Separator.TheVariants.{Comma, Semicolon, CurlyOpen, CurlyClose, Equals}
 use Rattle.text_parser.specs.Lexemes.{Lexeme, lexeme, heads, is_terminal}
-use Rattle.text_parser.specs.Parsed.{Parsed, ◌>>=◌, before, wants, then_wants}
+use Rattle.text_parser.specs.Parsed.{Parsed, ◌>>=◌, before, expects, then_expects}
 use Rattle.text_parser.specs.Actions.{context}
 use Rattle.text_parser.specs.Conds.{parse_cond, disjunction}
 use Rattle.text_parser.specs.Terms.{parse_term, choice}
 use Rattle.text_parser.specs.Ends.{goes_on}
 use Rattle.text_parser.specs.Phrases.{term, cond, Leaf, Phrase, one_prod, one_star, bare, name_unit, cons_token, IsWithinLimits, IsPhrase}
 use Rattle.text_parser.proofs.Longest.{longest}
-use Rattle.text_parser.proofs.TerminalEquality.{wants_ok}
-use Rattle.text_parser.proofs.ParserSoundness.{leaf, bind_ok, chosen, changed_ok, before_ok, wanted_ok, terminal_headed, cond_found as conds_found, term_found as terms_found}
+use Rattle.text_parser.proofs.TerminalEquality.{expects_ok}
+use Rattle.text_parser.proofs.ParserSoundness.{leaf, bind_ok, chosen, changed_ok, before_ok, expected_ok, terminal_headed, cond_found as conds_found, term_found as terms_found}
 use Rattle.while_lang.specs.Blocks.{block as block_aim, parse_block}
 use Rattle.while_lang.specs.BlockPhrases.{block, IsBlockPhrase}
 use Rattle.while_lang.proofs.BlockSoundness.{block_found as blocks_found}
 use Rattle.problem_file.specs.Numbers.{until}
 use Rattle.problem_file.specs.ItemActions.{Measurement, SidesMeasurement, TripleMeasurement, ItemActions}
-use Rattle.problem_file.specs.Items.{name_at, number_at, at_number, lone_name, term_by, cond_by, block_by, program_by, named_or, side_by, braced_by, middle_by, triple_by, then_do, then_ask, meaning_by, definition_by, prog_by, zero_by, hyp_by, setting_by, sides_by, asked_by, item_by, items_within, items_by}
+use Rattle.problem_file.specs.Items.{name_at, number_at, at_number, lone_name, term_by, cond_by, block_by, program_by, named_or, side_by, braced_by, middle_by, triple_by, then_do, then_pose, meaning_by, definition_by, prog_by, zero_by, hyp_by, setting_by, sides_by, posed_by, item_by, items_within, items_by}
 use Rattle.problem_file.specs.declared.item_reading.Declared.TheVariants as what
 use Rattle.problem_file.specs.declared.item_reading.Setting.{Setting}
 use Rattle.problem_file.specs.Phrases.{Numeral, zero_number, one_number, other_number, Braced, TriplePhrase}
@@ -33,16 +33,16 @@ use Rattle.problem_file.proofs.NameWalks.{name_leaf, declaration_found}
 -- a value, used after a semicolon is read
 done_ok : {S M : Type 0} (f : M → Result S TextFault) (m : Parsed M) (y : S × List Lexeme) → then_do f m ≡ Ok y → (v : M) × (l : Leaf) × (m ≡ Ok (v, ended l y.1))
 done_ok f m y e =
-    let a = bind_ok (then_wants (is_terminal (Separator Semicolon)) m) (λ x. before x.1 (f x.0)) y e in
-    let b = wanted_ok (Separator Semicolon) m a.0 a.1 in
+    let a = bind_ok (then_expects (is_terminal (Separator Semicolon)) m) (λ x. before x.1 (f x.0)) y e in
+    let b = expected_ok (Separator Semicolon) m a.0 a.1 in
     let same = before_ok a.0.1 (f a.0.0) y.0 y.1 a.2 in
     (a.0.0, b.0, b.1 ∙ ap (λ us. Ok (a.0.0, ended b.0 us)) same)
 
 -- the same if the numbers of the item are checked first
-asked_ok : {S X M : Type 0} (g : ItemActions S X) (s : S) (us : List Lexeme) (f : M → Result S TextFault) (m : Parsed M) (y : S × List Lexeme) → then_ask g s us f m ≡ Ok y → (v : M) × (l : Leaf) × (m ≡ Ok (v, ended l y.1))
-asked_ok g s us f m y e =
-    let a = bind_ok (then_wants (is_terminal (Separator Semicolon)) m) (λ x. g.check_numbers s (until us x.1) >>= λ u. before x.1 (f x.0)) y e in
-    let b = wanted_ok (Separator Semicolon) m a.0 a.1 in
+posed_ok : {S X M : Type 0} (g : ItemActions S X) (s : S) (us : List Lexeme) (f : M → Result S TextFault) (m : Parsed M) (y : S × List Lexeme) → then_pose g s us f m ≡ Ok y → (v : M) × (l : Leaf) × (m ≡ Ok (v, ended l y.1))
+posed_ok g s us f m y e =
+    let a = bind_ok (then_expects (is_terminal (Separator Semicolon)) m) (λ x. g.check_numbers s (until us x.1) >>= λ u. before x.1 (f x.0)) y e in
+    let b = expected_ok (Separator Semicolon) m a.0 a.1 in
     let c = bind_ok (g.check_numbers s (until us a.0.1)) (λ u. before a.0.1 (f a.0.0)) y a.2 in
     let same = before_ok a.0.1 (f a.0.0) y.0 y.1 c.2 in
     (a.0.0, b.0, b.1 ∙ ap (λ vs. Ok (a.0.0, ended b.0 vs)) same)
@@ -150,9 +150,9 @@ module _ {S X : Type 0} (g : ItemActions S X) where
 
   braced_found : (s : S) (compares : Bool) (ts : List Lexeme) (y : Measurement X × List Lexeme) → braced_by g s compares ts ≡ Ok y → BracedFound ts y.1
   braced_found s compares ts y e =
-      let a = bind_ok (wants (is_terminal (Separator CurlyOpen)) ts) (λ us. then_wants (is_terminal (Separator CurlyClose)) (cond_by g s compares us)) y e in
-      let left = wants_ok (Separator CurlyOpen) ts a.0 a.1 in
-      let right = wanted_ok (Separator CurlyClose) (cond_by g s compares a.0) y a.2 in
+      let a = bind_ok (expects (is_terminal (Separator CurlyOpen)) ts) (λ us. then_expects (is_terminal (Separator CurlyClose)) (cond_by g s compares us)) y e in
+      let left = expects_ok (Separator CurlyOpen) ts a.0 a.1 in
+      let right = expected_ok (Separator CurlyClose) (cond_by g s compares a.0) y a.2 in
       let inner = cond_found s compares a.0 (y.0, cons_token (Separator CurlyClose) right.0 y.1) right.1 in
       record {
         braced = record { left = left.0; inner = inner.phrase; right = right.0 };
@@ -183,10 +183,10 @@ module _ {S X : Type 0} (g : ItemActions S X) where
 
   sides_found : (s : S) (ts : List Lexeme) (y : SidesMeasurement X × List Lexeme) → sides_by g s ts ≡ Ok y → SidesFound ts y.1
   sides_found s ts y e =
-      let a = bind_ok (then_wants (is_terminal (Separator Comma)) (side_by g s ts)) (λ x. side_by g s x.1 >>= λ v. Ok (record { left = x.0; right = v.0 }, v.1)) y e in
+      let a = bind_ok (then_expects (is_terminal (Separator Comma)) (side_by g s ts)) (λ x. side_by g s x.1 >>= λ v. Ok (record { left = x.0; right = v.0 }, v.1)) y e in
       let b = bind_ok (side_by g s a.0.1) (λ v. Ok (record { left = a.0.0; right = v.0 }, v.1)) y a.2 in
       let us : b.0.1 ≡ y.1 = ap (rest_or y.1) b.2 in
-      let comma = wanted_ok (Separator Comma) (side_by g s ts) a.0 a.1 in
+      let comma = expected_ok (Separator Comma) (side_by g s ts) a.0 a.1 in
       let right = subst (λ r. IsPhrase term 0 a.0.1 r) us (side_found s a.0.1 b.0 b.1) in
       let left = subst (λ r. IsPhrase term 0 ts r) (ap (cons_token (Separator Comma) comma.0) right.spelled) (side_found s ts (a.0.0, cons_token (Separator Comma) comma.0 a.0.1) comma.1) in
       record {
@@ -209,9 +209,9 @@ module _ {S X : Type 0} (g : ItemActions S X) where
       let a = bind_ok (name_at ts) _ y e in
       let b = bind_ok (g.check_new s (a.0).at (a.0).text) _ y a.2 in
       let c = bind_ok (meaning_by g s (drop 1 ts)) (λ x. before x.1 (g.define s at (a.0).text x.0)) y b.2 in
-      let d = bind_ok (wants (is_terminal (Separator Equals)) (drop 1 ts)) _ c.0 c.1 in
-      let terminal = wants_ok (Separator Equals) (drop 1 ts) d.0 d.1 in
-      let end = wanted_ok (Separator Semicolon) (term_by g s d.0) c.0 d.2 in
+      let d = bind_ok (expects (is_terminal (Separator Equals)) (drop 1 ts)) _ c.0 c.1 in
+      let terminal = expects_ok (Separator Equals) (drop 1 ts) d.0 d.1 in
+      let end = expected_ok (Separator Semicolon) (term_by g s d.0) c.0 d.2 in
       let same = before_ok c.0.1 (g.define s at (a.0).text c.0.0) y.0 y.1 c.2 in
       let p = subst (λ r. IsPhrase term 0 d.0 (ended end.0 r)) same (term_found s d.0 (c.0.0, ended end.0 c.0.1) end.1) in
       after_word (definition a.0 terminal.0 p.phrase end.0) at text ts y.1 (name_leaf ts a.0 a.1 ∙ ap (cons_token Name a.0) (terminal.1 ∙ ap (cons_token (Separator Equals) terminal.0) p.spelled)) p.obeys p.fits
@@ -229,15 +229,15 @@ module _ {S X : Type 0} (g : ItemActions S X) where
   setting_found : (what : Setting) (s : S) (at : ℕ) (ts : List Lexeme) (y : S × List Lexeme) → setting_by g what s at ts ≡ Ok y → (n : Numeral) × (end : Leaf) × (ts ≡ numeral_onto n (ended end y.1)) × NumeralFits n
   setting_found what s at ts y e =
       let a = bind_ok (g.begin_setting what s at) _ y e in
-      let b = wanted_ok (Separator Semicolon) (at_number (g.set what s) ts) y a.2 in
+      let b = expected_ok (Separator Semicolon) (at_number (g.set what s) ts) y a.2 in
       let c = number_found (g.set what s) ts (y.0, ended b.0 y.1) b.1 in
       (c.0, b.0, c.1, c.2)
 
   zero_found : (s : S) (at : ℕ) (text : List ℕ) (ts : List Lexeme) (y : S × List Lexeme) → zero_by g s at ts ≡ Ok y → ItemFound (lexeme (Keyword word.Hyp) at text ∷ ts) y.1
   zero_found s at text ts y e =
-      let a = done_ok (g.state_zero s at) (then_wants (is_terminal Zero) (then_wants (is_terminal (Separator Equals)) (term_by g s ts))) y e in
-      let b = wanted_ok Zero (then_wants (is_terminal (Separator Equals)) (term_by g s ts)) (a.0, ended a.1 y.1) a.2 in
-      let c = wanted_ok (Separator Equals) (term_by g s ts) (a.0, cons_token Zero b.0 (ended a.1 y.1)) b.1 in
+      let a = done_ok (g.state_zero s at) (then_expects (is_terminal Zero) (then_expects (is_terminal (Separator Equals)) (term_by g s ts))) y e in
+      let b = expected_ok Zero (then_expects (is_terminal (Separator Equals)) (term_by g s ts)) (a.0, ended a.1 y.1) a.2 in
+      let c = expected_ok (Separator Equals) (term_by g s ts) (a.0, cons_token Zero b.0 (ended a.1 y.1)) b.1 in
       let p = term_found s ts (a.0, cons_token (Separator Equals) c.0 (cons_token Zero b.0 (ended a.1 y.1))) c.1 in
       after_word (hypothesis p.phrase c.0 b.0 a.1) at text ts y.1 p.spelled p.obeys p.fits
 
@@ -253,21 +253,21 @@ module _ {S X : Type 0} (g : ItemActions S X) where
       (λ h k. zero_found s at text ts y k)
       a.2
 
-  asked_found : (s : S) (at : ℕ) (text : List ℕ) (ts : List Lexeme) (y : S × List Lexeme) → asked_by g s at ts ≡ Ok y → ItemFound (lexeme (Keyword word.Goal) at text ∷ ts) y.1
-  asked_found s at text [] y e = absurd cc
-  asked_found s at text (lexeme (Keyword word.Equal) place name ∷ ts) y e =
-      let a = asked_ok g s ts _ (sides_by g s ts) y e in
+  posed_found : (s : S) (at : ℕ) (text : List ℕ) (ts : List Lexeme) (y : S × List Lexeme) → posed_by g s at ts ≡ Ok y → ItemFound (lexeme (Keyword word.Goal) at text ∷ ts) y.1
+  posed_found s at text [] y e = absurd cc
+  posed_found s at text (lexeme (Keyword word.Equal) place name ∷ ts) y e =
+      let a = posed_ok g s ts _ (sides_by g s ts) y e in
       let x = sides_found s ts (a.0, ended a.1 y.1) a.2 in
       after_word (goal_equal (leaf place name) x.left x.comma x.right a.1) at text _ y.1 (ap (λ us. lexeme (Keyword word.Equal) place name ∷ us) x.spelled) x.obey x.fits
-  asked_found s at text (lexeme (Keyword word.Below) place name ∷ ts) y e =
-      let a = asked_ok g s ts _ (sides_by g s ts) y e in
+  posed_found s at text (lexeme (Keyword word.Below) place name ∷ ts) y e =
+      let a = posed_ok g s ts _ (sides_by g s ts) y e in
       let x = sides_found s ts (a.0, ended a.1 y.1) a.2 in
       after_word (goal_below (leaf place name) x.left x.comma x.right a.1) at text _ y.1 (ap (λ us. lexeme (Keyword word.Below) place name ∷ us) x.spelled) x.obey x.fits
-  asked_found s at text (lexeme (Keyword word.Triple) place name ∷ ts) y e =
-      let a = asked_ok g s ts (g.ask_triple s at) (triple_by g s true ts) y e in
+  posed_found s at text (lexeme (Keyword word.Triple) place name ∷ ts) y e =
+      let a = posed_ok g s ts (g.pose_triple s at) (triple_by g s true ts) y e in
       let x = triple_found s true ts (a.0, ended a.1 y.1) a.2 in
       after_word (goal_triple (leaf place name) x.triple a.1) at text _ y.1 (ap (λ us. lexeme (Keyword word.Triple) place name ∷ us) x.spelled) x.obeys x.fits
-  asked_found s at text (lexeme _ place name ∷ ts) y e = absurd cc
+  posed_found s at text (lexeme _ place name ∷ ts) y e = absurd cc
 
   item_found : (s : S) (ts : List Lexeme) (y : S × List Lexeme) → item_by g s ts ≡ Ok y → ItemFound ts y.1
   item_found s [] y e = absurd cc
@@ -279,7 +279,7 @@ module _ {S X : Type 0} (g : ItemActions S X) where
   item_found s (lexeme (Keyword word.Hyp) at text ∷ ts) y e = hyp_found s at text ts y e
   item_found s (lexeme (Keyword word.Rounds) at text ∷ ts) y e = let a = setting_found _ s at ts y e in after_word (rounds a.0 a.1) at text ts y.1 a.2 tt a.3
   item_found s (lexeme (Keyword word.Width) at text ∷ ts) y e = let a = setting_found _ s at ts y e in after_word (width a.0 a.1) at text ts y.1 a.2 tt a.3
-  item_found s (lexeme (Keyword word.Goal) at text ∷ ts) y e = let a = bind_ok (g.begin_goal s at) _ y e in asked_found s at text ts y a.2
+  item_found s (lexeme (Keyword word.Goal) at text ∷ ts) y e = let a = bind_ok (g.begin_goal s at) _ y e in posed_found s at text ts y a.2
   item_found s (lexeme _ at text ∷ ts) y e = absurd cc
 
   within_found : (n : ℕ) (s t : S) (ts : List Lexeme) → items_within (item_by g) n s ts ≡ Ok t → IsSomeFile ts

@@ -7,13 +7,13 @@ use Rattle.text_parser.specs.declared.terminal.Keyword.{Keyword as KeywordOf}
 use Rattle.text_parser.specs.declared.terminal.Keyword.TheVariants as word
 use Rattle.text_parser.specs.declared.terminal.Separator.TheVariants.{Semicolon, Equals}
 use Rattle.text_parser.specs.Lexemes.{Lexeme, lexeme, is_terminal}
-use Rattle.text_parser.specs.Parsed.{Parsed, before, then_wants}
+use Rattle.text_parser.specs.Parsed.{Parsed, before, then_expects}
 use Rattle.text_parser.specs.Phrases.{Leaf}
 use Rattle.problem_file.specs.declared.item_reading.Declared.TheVariants as what
 use Rattle.problem_file.specs.declared.item_reading.Setting.TheVariants as setting
 use Rattle.problem_file.specs.Numbers.{until}
 use Rattle.problem_file.specs.ItemActions.{Measurement, ItemActions}
-use Rattle.problem_file.specs.Items.{name_at, term_by, meaning_by, block_by, declaration_by, definition_by, prog_by, zero_by, hyp_by, setting_by, goal_by, then_ask, item_by}
+use Rattle.problem_file.specs.Items.{name_at, term_by, meaning_by, block_by, declaration_by, definition_by, prog_by, zero_by, hyp_by, setting_by, goal_by, then_pose, item_by}
 
 module _ {S X : Type 0} (g : ItemActions S X) (s : S) (at : ℕ) (ts us : List Lexeme) (next : drop 1 ts ≡ us) where
   module _ (l : Leaf) (n : name_at ts ≡ Ok l) where
@@ -42,7 +42,7 @@ module _ {S X : Type 0} (g : ItemActions S X) (s : S) (at : ℕ) (ts us : List L
 
 -- term "=" "0" ";"
 abbrev pub zero_phrase : {S X : Type 0} → ItemActions S X → S → List Lexeme → Parsed (Measurement X)
-zero_phrase g s ts = then_wants (is_terminal (Separator Semicolon)) (then_wants (is_terminal Zero) (then_wants (is_terminal (Separator Equals)) (term_by g s ts)))
+zero_phrase g s ts = then_expects (is_terminal (Separator Semicolon)) (then_expects (is_terminal Zero) (then_expects (is_terminal (Separator Equals)) (term_by g s ts)))
 
 -- a hypothesis that a term is 0, by that phrase
 module _ {S X : Type 0} (g : ItemActions S X) (s : S) (at : ℕ) (ts : List Lexeme) where
@@ -54,15 +54,15 @@ module _ {S X : Type 0} (g : ItemActions S X) (s : S) (at : ℕ) (ts : List Lexe
 
 -- a question, by the parts that it is about and the semicolon after them
 module _ {S X M : Type 0} (g : ItemActions S X) (s : S) (ts : List Lexeme) (f : M → Result S TextFault) (m : Parsed M) where
-  pub ask_unread : (e : TextFault) → then_wants (is_terminal (Separator Semicolon)) m ≡ Err e → then_ask g s ts f m ≡ Err e
-  ask_unread e h = rw (h) refl
+  pub pose_unread : (e : TextFault) → then_expects (is_terminal (Separator Semicolon)) m ≡ Err e → then_pose g s ts f m ≡ Err e
+  pose_unread e h = rw (h) refl
 
-  module _ (x : M × List Lexeme) (k : then_wants (is_terminal (Separator Semicolon)) m ≡ Ok x) where
-    pub ask_wide : (e : TextFault) → g.check_numbers s (until ts x.1) ≡ Err e → then_ask g s ts f m ≡ Err e
-    ask_wide e h = rw (k, h) refl
+  module _ (x : M × List Lexeme) (k : then_expects (is_terminal (Separator Semicolon)) m ≡ Ok x) where
+    pub pose_wide : (e : TextFault) → g.check_numbers s (until ts x.1) ≡ Err e → then_pose g s ts f m ≡ Err e
+    pose_wide e h = rw (k, h) refl
 
-    pub ask_ended : (v : Unit {0}) → g.check_numbers s (until ts x.1) ≡ Ok v → then_ask g s ts f m ≡ before x.1 (f x.0)
-    ask_ended v narrow = rw (k, narrow) refl
+    pub pose_ended : (v : Unit {0}) → g.check_numbers s (until ts x.1) ≡ Ok v → then_pose g s ts f m ≡ before x.1 (f x.0)
+    pose_ended v narrow = rw (k, narrow) refl
 
 -- an item, by its keyword
 module _ {S X : Type 0} (g : ItemActions S X) (s : S) (at : ℕ) (text : List ℕ) (ts us : List Lexeme) (t : Terminal) (seen : ts ≡ lexeme t at text ∷ us) (k : KeywordOf) (is : t ≡ Keyword k) where

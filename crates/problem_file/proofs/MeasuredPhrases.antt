@@ -19,7 +19,7 @@ use Rattle.text_parser.specs.ScopeParts.{ScopeParts}
 use Rattle.text_parser.specs.Building.{trees}
 use Rattle.text_parser.specs.Measuring.{extents}
 use Rattle.text_parser.specs.Sound.{IsSound, nesting}
-use Rattle.text_parser.specs.Laws.{told_nodes}
+use Rattle.text_parser.specs.Laws.{given_nodes}
 use Rattle.text_parser.proofs.Measured.{term_decided, cond_decided, term_measured, cond_measured}
 use Rattle.problem_file.specs.Files.{State}
 use Rattle.problem_file.specs.ItemActions.{Measurement}
@@ -102,14 +102,14 @@ cond_is w compares p m tree x = record { sound = x.sound; built = x.built; narro
 
 -- if the reported count of nodes is within the limit, then the condition and its expressions are, and the count is
 -- exact
-pub told_few : (largest size n : ℕ) → n ≡ told_nodes largest size → n ≤ MAX_TERM_NODES → (largest ≤ MAX_EXPR_NODES) × (size ≤ MAX_TERM_NODES) × (n ≡ size)
-told_few largest size n e few = by_width (nat_lt MAX_EXPR_NODES largest) refl e where
+pub given_few : (largest size n : ℕ) → n ≡ given_nodes largest size → n ≤ MAX_TERM_NODES → (largest ≤ MAX_EXPR_NODES) × (size ≤ MAX_TERM_NODES) × (n ≡ size)
+given_few largest size n e few = by_width (nat_lt MAX_EXPR_NODES largest) refl e where
   by_width : (b : Bool) → nat_lt MAX_EXPR_NODES largest ≡ b → n ≡ if_true b (MAX_TERM_NODES + 1) (capped size) → (largest ≤ MAX_EXPR_NODES) × (size ≤ MAX_TERM_NODES) × (n ≡ size)
   by_width true h k = absurd (omega (arith, k, few))
   by_width false h k = (ltb-false MAX_EXPR_NODES largest h, omega (arith, k, few), omega (arith, k, few))
 
-pub few_told : (largest size n : ℕ) → n ≡ told_nodes largest size → largest ≤ MAX_EXPR_NODES → size ≤ MAX_TERM_NODES → n ≡ size
-few_told largest size n e narrow small = by_width (nat_lt MAX_EXPR_NODES largest) refl e where
+pub few_given : (largest size n : ℕ) → n ≡ given_nodes largest size → largest ≤ MAX_EXPR_NODES → size ≤ MAX_TERM_NODES → n ≡ size
+few_given largest size n e narrow small = by_width (nat_lt MAX_EXPR_NODES largest) refl e where
   by_width : (b : Bool) → nat_lt MAX_EXPR_NODES largest ≡ b → n ≡ if_true b (MAX_TERM_NODES + 1) (capped size) → n ≡ size
   by_width true h k = absurd (omega (arith, ltb-true MAX_EXPR_NODES largest h, narrow))
   by_width false h k = omega (arith, k, small)
@@ -119,7 +119,7 @@ cond_walked w compares p m e few =
     let c = context 1 false compares in
     let x = cond_measured w c p m e in
     let sound = ((cond_decided w c p).0 (is_ok_of (fold (extents w) c p (λ m. m)) m e)).0 in
-    let h = told_few (largest_expr x.tree) (cond_size x.tree) m.nodes x.nodes few in (
+    let h = given_few (largest_expr x.tree) (cond_size x.tree) m.nodes x.nodes few in (
       x.tree,
       record {
         measured = e;
@@ -138,8 +138,8 @@ cond_walks w compares p tree fits h =
     let m = ok_value (fold (extents w) c p (λ m. m)) ((cond_decided w c p).1 (h.sound, fits)) in
     let x = cond_measured w c p m.0 m.1 in
     let same : x.tree ≡ tree = one_ok (fold (trees w) c p (λ b. b ∷ [])) x.tree tree x.built h.built in
-    let nodes : (m.0).nodes ≡ told_nodes (largest_expr tree) (cond_size tree) = x.nodes ∙ ap (λ b. told_nodes (largest_expr b) (cond_size b)) same in
-    let all : (m.0).nodes ≡ cond_size tree = few_told (largest_expr tree) (cond_size tree) (m.0).nodes nodes h.narrow h.small in (
+    let nodes : (m.0).nodes ≡ given_nodes (largest_expr tree) (cond_size tree) = x.nodes ∙ ap (λ b. given_nodes (largest_expr b) (cond_size b)) same in
+    let all : (m.0).nodes ≡ cond_size tree = few_given (largest_expr tree) (cond_size tree) (m.0).nodes nodes h.narrow h.small in (
       m.0,
       record {
         measured = m.1;

@@ -39,7 +39,7 @@ use Rattle.problem_file.specs.Sound.{IsBlock, named_by, IsSide, side_size, grown
 use Rattle.problem_file.proofs.Results.{ok_of, same_ok}
 use Rattle.problem_file.proofs.PhraseFronts.{text_of, lone_term}
 use Rattle.problem_file.proofs.BlockLevels.{block_fits}
-use Rattle.problem_file.proofs.MeasuredPhrases.{ok_value, is_ok_of, one_ok, told_few, few_told, TermWalk, term_is, term_walked, term_walks, tree_there}
+use Rattle.problem_file.proofs.MeasuredPhrases.{ok_value, is_ok_of, one_ok, given_few, few_given, TermWalk, term_is, term_walked, term_walks, tree_there}
 
 -- ---- blocks
 
@@ -57,7 +57,7 @@ pub block_walked : (w : ScopeParts) (ps : List ProgParts) (p : BlockPhrase block
 block_walked w ps p m limited fits e few =
     let x = measures_of_trees w ps 0 p m limited e in
     let sound = ((sound_measured w ps 0 p).0 (is_ok_of (fold_block (block_extents w ps) 0 p (extent 0 0)) m e)).0 in
-    let h = told_few (largest_in x.tree) (prog_size x.tree) m.nodes x.nodes few in (
+    let h = given_few (largest_in x.tree) (prog_size x.tree) m.nodes x.nodes few in (
       x.tree,
       record {
         measured = e;
@@ -78,7 +78,7 @@ block_walks w ps p tree limited fits h =
       record {
         measured = m.1;
         is_block = h;
-        nodes = few_told (largest_in x.tree) (prog_size x.tree) (m.0).nodes x.nodes narrow small ∙ ap prog_size same;
+        nodes = few_given (largest_in x.tree) (prog_size x.tree) (m.0).nodes x.nodes narrow small ∙ ap prog_size same;
         deep = omega (arith, x.levels, block_fits w ps 0 p h.sound fits (omega arith));
       },
     )
@@ -185,8 +185,8 @@ module _ (s : State) (p : Phrase term) (ts : List Lexeme) (ends : Ends term ts) 
 
   by_name : (o : Option ProgParts) → named_by s p ≡ o → (x : Measurement Extent) → fold_side making s p ts ≡ Ok x → (x.measure).nodes ≤ MAX_TERM_NODES → (side : SideTree) × SideWalk s p ts x.measure side
   by_name (Some d) e x h few =
-      let told : ok_of (record { measure = program_extent d; tokens = yield_before p ts }) ≡ Ok x = sym (measured_as (Some d) e) ∙ h in
-      let same = same_ok (record { measure = program_extent d; tokens = yield_before p ts }) x told in
+      let given : ok_of (record { measure = program_extent d; tokens = yield_before p ts }) ≡ Ok x = sym (measured_as (Some d) e) ∙ h in
+      let same = same_ok (record { measure = program_extent d; tokens = yield_before p ts }) x given in
       let n : (program_extent d).nodes ≤ MAX_TERM_NODES = subst (λ (y : Measurement Extent). (y.measure).nodes ≤ MAX_TERM_NODES) (sym same) few in
       (prog_side d.tree, subst (λ (y : Measurement Extent). SideWalk s p ts y.measure (prog_side d.tree)) same (prog_walk d e (omega (arith, n))))
   by_name None e x h few =

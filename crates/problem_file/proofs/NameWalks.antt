@@ -5,11 +5,11 @@ use Rattle.text_parser.specs.declared.fault.TextFault.{TextFault}
 use Rattle.text_parser.specs.declared.terminal.Terminal.TheVariants.{Name, Separator}
 use Rattle.text_parser.specs.declared.terminal.Separator.TheVariants.{Comma, Semicolon}
 use Rattle.text_parser.specs.Lexemes.{Lexeme, lexeme, heads, is_terminal}
-use Rattle.text_parser.specs.Parsed.{Parsed, ◌>>=◌, before, then_wants}
+use Rattle.text_parser.specs.Parsed.{Parsed, ◌>>=◌, before, then_expects}
 use Rattle.text_parser.specs.Phrases.{Leaf, cons_token}
-use Rattle.text_parser.proofs.Within.{Within, bind_within, if_within, weaken, before_within, then_wants_within}
-use Rattle.text_parser.proofs.NamedFaults.{IsNamed, then_named, bind_named, if_named, before_named, then_wants_named}
-use Rattle.text_parser.proofs.ParserSoundness.{leaf, bind_ok, chosen, before_ok, wanted_ok, terminal_headed}
+use Rattle.text_parser.proofs.Within.{Within, bind_within, if_within, weaken, before_within, then_expects_within}
+use Rattle.text_parser.proofs.NamedFaults.{IsNamed, then_named, bind_named, if_named, before_named, then_expects_named}
+use Rattle.text_parser.proofs.ParserSoundness.{leaf, bind_ok, chosen, before_ok, expected_ok, terminal_headed}
 use Rattle.text_parser.proofs.ParserCompleteness.{then_rest, closed}
 use Rattle.while_lang.proofs.BlockSoundness.{rest_of}
 use Rattle.problem_file.specs.Items.{name_at, at_name, names_within, over_names, declaration_by}
@@ -48,7 +48,7 @@ names_found {S} f (suc n) s ts y e =
 
 pub declaration_found : {S : Type 0} (f : S → ℕ → List ℕ → Result S TextFault) (s : S) (ts : List Lexeme) (y : S × List Lexeme) → declaration_by f s ts ≡ Ok y → (ns : Names) × (end : Leaf) × (ts ≡ names_onto ns (ended end y.1))
 declaration_found f s ts y e =
-    let a = wanted_ok (Separator Semicolon) (over_names f s ts) y e in
+    let a = expected_ok (Separator Semicolon) (over_names f s ts) y e in
     let b = names_found f (suc (length ts)) s ts (y.0, ended a.0 y.1) a.1 in
     (b.0, a.0, b.1)
 
@@ -69,7 +69,7 @@ module _ {S : Type 0} (f : S → ℕ → List ℕ → Result S TextFault) where
   names_folded (more_names l c ns) s ts (suc n) last le = then_rest (cons_token (Separator Comma) c (names_onto ns ts)) ts (f s l.at l.text) (λ x. if_true (heads (is_terminal (Separator Comma)) x.1) (names_within (suc n) f x.0 (drop 1 x.1)) (Ok x)) (λ u. fold_names f u ns) (λ u. names_folded ns u ts n last (omega (arith, le)))
 
   pub declaration_folded : (ns : Names) (s : S) (end : Leaf) (ts : List Lexeme) → declaration_by f s (names_onto ns (ended end ts)) ≡ before ts (fold_names f s ns)
-  declaration_folded ns s end ts = ap (then_wants (is_terminal (Separator Semicolon))) (names_folded ns s (ended end ts) (length (names_onto ns (ended end ts))) refl (omega arith)) ∙ closed (Separator Semicolon) end ts (fold_names f s ns) refl
+  declaration_folded ns s end ts = ap (then_expects (is_terminal (Separator Semicolon))) (names_folded ns s (ended end ts) (length (names_onto ns (ended end ts))) refl (omega arith)) ∙ closed (Separator Semicolon) end ts (fold_names f s ns) refl
 
 -- ---- fewer tokens remain, and no fault is `NoMemory`
 
@@ -99,7 +99,7 @@ names_short f (suc n) s ts = bind_within (length ts) (length ts) (at_name (f s) 
     (λ k. below))
 
 pub declaration_named : {S : Type 0} (f : S → ℕ → List ℕ → Result S TextFault) → ((s : S) (at : ℕ) (text : List ℕ) → IsNamed (f s at text)) → (s : S) (ts : List Lexeme) → IsNamed (declaration_by f s ts)
-declaration_named f h s ts = then_wants_named (is_terminal (Separator Semicolon)) (over_names f s ts) (names_named f h (suc (length ts)) s ts (omega arith))
+declaration_named f h s ts = then_expects_named (is_terminal (Separator Semicolon)) (over_names f s ts) (names_named f h (suc (length ts)) s ts (omega arith))
 
 pub declaration_short : {S : Type 0} (f : S → ℕ → List ℕ → Result S TextFault) (s : S) (ts : List Lexeme) → Within (length ts) (declaration_by f s ts)
-declaration_short f s ts = then_wants_within (is_terminal (Separator Semicolon)) (length ts) (over_names f s ts) (names_short f (suc (length ts)) s ts)
+declaration_short f s ts = then_expects_within (is_terminal (Separator Semicolon)) (length ts) (over_names f s ts) (names_short f (suc (length ts)) s ts)

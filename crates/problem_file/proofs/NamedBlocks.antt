@@ -6,11 +6,11 @@ use Rattle.text_parser.specs.declared.terminal.Terminal.TheVariants.{Name, Keywo
 use Rattle.text_parser.specs.declared.terminal.Keyword.TheVariants as word
 use Rattle.text_parser.specs.declared.terminal.Separator.TheVariants.{Semicolon, CurlyOpen, CurlyClose, Becomes}
 use Rattle.text_parser.specs.Lexemes.{Lexeme, lexeme, heads, is_terminal}
-use Rattle.text_parser.specs.Parsed.{Parsed, ◌>>=◌, before, change, wants, place_of}
+use Rattle.text_parser.specs.Parsed.{Parsed, ◌>>=◌, before, change, expects, place_of}
 use Rattle.text_parser.specs.Actions.{context}
 use Rattle.text_parser.specs.Exprs.{sums}
 use Rattle.text_parser.specs.Conds.{disjunction}
-use Rattle.text_parser.proofs.NamedFaults.{IsNamed, then_named, bind_named, if_named, before_named, change_named, then_wants_named, NameTerms, cond_named, expr_named}
+use Rattle.text_parser.proofs.NamedFaults.{IsNamed, then_named, bind_named, if_named, before_named, change_named, then_expects_named, NameTerms, cond_named, expr_named}
 use Rattle.while_lang.specs.BlockActions.{BlockActions}
 use Rattle.while_lang.specs.Blocks.{enter, BlockAim, block, stmts_after, stmt_after, branch_after, BlockParser, cond_by, expr_by, then_semicolon, block_by, stmts_by, assign_by, named_by, loop_by, stmt_by, else_by, branch_by}
 use Rattle.while_lang.specs.Blocks.{blocks_by, steps, block_within, parse_block}
@@ -23,9 +23,9 @@ pub record NameBlocks {E B L T M S : Type 0} (g : BlockActions E B L T M S) : Ty
   pub named : (d at : ℕ) (text : List ℕ) (s : S) → IsNamed (g.named d at text s)
   pub target : (at : ℕ) (text : List ℕ) → IsNamed (g.target at text)
 
-pub wanted_named : {V : Type 0} (p : Terminal → Bool) (ts : List Lexeme) (k : List Lexeme → Parsed V) → ((us : List Lexeme) → length us < length ts → IsNamed (k us)) → IsNamed (wants p ts >>= k)
-wanted_named p [] k h = tt
-wanted_named p (lexeme s at text ∷ ts) k h = elim (p s) as (λ b. IsNamed (if_true b (Ok ts) (Err (Syntax at)) >>= k)) [ true ↦ h ts (omega arith) | false ↦ tt ]
+pub expected_named : {V : Type 0} (p : Terminal → Bool) (ts : List Lexeme) (k : List Lexeme → Parsed V) → ((us : List Lexeme) → length us < length ts → IsNamed (k us)) → IsNamed (expects p ts >>= k)
+expected_named p [] k h = tt
+expected_named p (lexeme s at text ∷ ts) k h = elim (p s) as (λ b. IsNamed (if_true b (Ok ts) (Err (Syntax at)) >>= k)) [ true ↦ h ts (omega arith) | false ↦ tt ]
 
 module _ {E B L T M S : Type 0} (g : BlockActions E B L T M S) (names : NameBlocks g) where
   abbrev NamesBelow : BlockParser S → ℕ → Type 0
@@ -38,7 +38,7 @@ module _ {E B L T M S : Type 0} (g : BlockActions E B L T M S) (names : NameBloc
   expr_by_named d ts = expr_named g.phrases.conds.exprs names.phrases.conds.exprs sums (context d false true) ts
 
   block_by_named : (f : BlockParser S) (d : ℕ) (ts : List Lexeme) → NamesBelow f (2 * length ts) → IsNamed (block_by g f d ts)
-  block_by_named f d ts a = wanted_named (is_terminal (Separator CurlyOpen)) ts _
+  block_by_named f d ts a = expected_named (is_terminal (Separator CurlyOpen)) ts _
       (λ us lt. then_named (enter d (place_of ts)) _ (enter_named d (place_of ts))
       (λ e. change_named g.braced (f (stmts_after g.none) e us) (a (stmts_after g.none) e us (omega arith))))
 
@@ -50,8 +50,8 @@ module _ {E B L T M S : Type 0} (g : BlockActions E B L T M S) (names : NameBloc
   name_by_named : (v : S) (d at : ℕ) (name : List ℕ) (ts : List Lexeme) → IsNamed (named_by g v d at name ts)
   name_by_named v d at name ts = if_named (heads (is_terminal (Separator Becomes)) ts) (assign_by g v d at name (drop 1 ts)) (then_semicolon (before ts (g.named d at name v)))
       (λ h. then_named (g.target at name) _ (names.target at name)
-      (λ u. change_named (g.assign v name) (then_semicolon (expr_by g d (drop 1 ts))) (then_wants_named (is_terminal (Separator Semicolon)) (expr_by g d (drop 1 ts)) (expr_by_named d (drop 1 ts)))))
-      (λ h. then_wants_named (is_terminal (Separator Semicolon)) (before ts (g.named d at name v)) (before_named ts (g.named d at name v) (names.named d at name v)))
+      (λ u. change_named (g.assign v name) (then_semicolon (expr_by g d (drop 1 ts))) (then_expects_named (is_terminal (Separator Semicolon)) (expr_by g d (drop 1 ts)) (expr_by_named d (drop 1 ts)))))
+      (λ h. then_expects_named (is_terminal (Separator Semicolon)) (before ts (g.named d at name v)) (before_named ts (g.named d at name v) (names.named d at name v)))
 
   loop_by_named : (f : BlockParser S) (v : S) (d : ℕ) (ts : List Lexeme) → NamesBelow f (2 * length ts) → IsNamed (loop_by g f v d ts)
   loop_by_named f v d ts a = bind_named (length ts) (cond_by g d ts) (λ b. change (g.turn v b.0) (f block d b.1)) (cond_by_named d ts) (cond_short g d ts)
@@ -59,9 +59,9 @@ module _ {E B L T M S : Type 0} (g : BlockActions E B L T M S) (names : NameBloc
 
   stmt_by_named : (f : BlockParser S) (v : S) (d : ℕ) (ts : List Lexeme) → NamesBelow f (2 * length ts) → IsNamed (stmt_by g f v d ts)
   stmt_by_named f v d [] a = tt
-  stmt_by_named f v d (lexeme (Keyword word.Skip) at text ∷ ts) a = then_wants_named (is_terminal (Separator Semicolon)) (Ok (g.skip v, ts)) tt
-  stmt_by_named f v d (lexeme (Keyword word.Abort) at text ∷ ts) a = then_wants_named (is_terminal (Separator Semicolon)) (Ok (g.abort v, ts)) tt
-  stmt_by_named f v d (lexeme (Keyword word.Assert) at text ∷ ts) a = change_named (g.assert v) (then_semicolon (cond_by g d ts)) (then_wants_named (is_terminal (Separator Semicolon)) (cond_by g d ts) (cond_by_named d ts))
+  stmt_by_named f v d (lexeme (Keyword word.Skip) at text ∷ ts) a = then_expects_named (is_terminal (Separator Semicolon)) (Ok (g.skip v, ts)) tt
+  stmt_by_named f v d (lexeme (Keyword word.Abort) at text ∷ ts) a = then_expects_named (is_terminal (Separator Semicolon)) (Ok (g.abort v, ts)) tt
+  stmt_by_named f v d (lexeme (Keyword word.Assert) at text ∷ ts) a = change_named (g.assert v) (then_semicolon (cond_by g d ts)) (then_expects_named (is_terminal (Separator Semicolon)) (cond_by g d ts) (cond_by_named d ts))
   stmt_by_named f v d (lexeme (Keyword word.If) at text ∷ ts) a = a (branch_after v) d ts (omega arith)
   stmt_by_named f v d (lexeme (Keyword word.While) at text ∷ ts) a = loop_by_named f v d ts (λ x e us lt. a x e us (omega arith))
   stmt_by_named f v d (lexeme Name at text ∷ ts) a = name_by_named v d at text ts

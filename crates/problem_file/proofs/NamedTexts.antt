@@ -40,7 +40,7 @@ use Rattle.problem_file.specs.Files.{State, start, most_goals, goal_fault, is_kn
 use Rattle.problem_file.specs.Numbers.{check_number, check_numbers}
 use Rattle.problem_file.specs.Items.{lone_name}
 use Rattle.problem_file.specs.Syntax.{checking, scan_file}
-use Rattle.problem_file.specs.Making.{declare, begin_setting, set, built_term, built_cond, built_block, program_or, built_side, built_triple, built_goal, count, triple_nodes, count_sides, count_parts, ask_sides, ask_triple, making, parse_items}
+use Rattle.problem_file.specs.Making.{declare, begin_setting, set, built_term, built_cond, built_block, program_or, built_side, built_triple, built_goal, count, triple_nodes, count_sides, count_parts, pose_sides, pose_triple, making, parse_items}
 use Rattle.problem_file.specs.Reads.{files_with, check_goal, tested}
 use Rattle.problem_file.proofs.NamedBlocks.{NameBlocks, block_named}
 use Rattle.problem_file.proofs.NamedItems.{NameItems, items_named}
@@ -141,8 +141,8 @@ checking_named = record {
   set = λ what s at n. tt;
   check_numbers = λ s ts. tt;
   begin_goal = λ s at. tt;
-  ask_sides = λ c s at m. tt;
-  ask_triple = λ s at m. tt;
+  pose_sides = λ c s at m. tt;
+  pose_triple = λ s at m. tt;
 }
 
 declared_named : (d : Declared) (s : State) (at : ℕ) (name : List ℕ) → IsNamed (declare d s at name)
@@ -212,13 +212,13 @@ built_goal_named s m =
     (λ x. then_named (built_side s (m.body).tokens) _ (built_side_named s (m.body).tokens)
     (λ y. then_named (built_cond s true (m.post).tokens) _ (built_cond_named s true (m.post).tokens) (λ z. tt)))
 
-ask_sides_named : (c : Comparison) (s : State) (at : ℕ) (m : SidesMeasurement Extent) → IsNamed (ask_sides c s at m)
-ask_sides_named c s at m =
+pose_sides_named : (c : Comparison) (s : State) (at : ℕ) (m : SidesMeasurement Extent) → IsNamed (pose_sides c s at m)
+pose_sides_named c s at m =
     then_named (count_sides s at m) _ (then_named (check_size at ((m.left).measure).nodes) _ (size_named at ((m.left).measure).nodes) (λ u. then_named (check_size at ((m.right).measure).nodes) _ (size_named at ((m.right).measure).nodes) (λ v. grow_named s at (((m.left).measure).nodes + ((m.right).measure).nodes))))
     (λ t. then_named (built_side t (m.left).tokens) _ (built_side_named t (m.left).tokens) (λ x. then_named (built_side t (m.right).tokens) _ (built_side_named t (m.right).tokens) (λ y. tt)))
 
-ask_triple_named : (s : State) (at : ℕ) (m : TripleMeasurement Extent) → IsNamed (ask_triple s at m)
-ask_triple_named s at m =
+pose_triple_named : (s : State) (at : ℕ) (m : TripleMeasurement Extent) → IsNamed (pose_triple s at m)
+pose_triple_named s at m =
     then_named (count_parts s at m) _ (then_named (check_size at ((m.pre).measure).nodes) _ (size_named at ((m.pre).measure).nodes) (λ u. then_named (check_size at ((m.body).measure).nodes) _ (size_named at ((m.body).measure).nodes)
     (λ v. then_named (check_size at ((m.post).measure).nodes) _ (size_named at ((m.post).measure).nodes) (λ w. grow_named s at (triple_nodes m)))))
     (λ t. then_named (built_goal t m) _ (built_goal_named t m) (λ x. tt))
@@ -238,8 +238,8 @@ making_named = record {
   set = set_named;
   check_numbers = λ s ts. numbers_named _ ts;
   begin_goal = λ s at. if_named (nat_lt (length s.goals) (most_goals s.limit)) (Ok tt) (Err (goal_fault s.limit at)) (λ e. tt) (λ e. goal_fault_named s.limit at);
-  ask_sides = ask_sides_named;
-  ask_triple = ask_triple_named;
+  pose_sides = pose_sides_named;
+  pose_triple = pose_triple_named;
 }
 
 -- ---- texts

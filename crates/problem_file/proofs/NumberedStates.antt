@@ -30,9 +30,9 @@ use Rattle.problem_file.specs.Working.Numbers.{AreNumbered}
 use Rattle.while_lang.specs.Files.{FileParts, SideTree, term_side, prog_side, GoalTree, equal, below, triple, prog_meant}
 use Rattle.problem_file.specs.Files.{State, start, file_of, add_prog, state_hyp, state_goal, triple_term}
 use Rattle.problem_file.specs.Phrases.{Names, one_name, more_names, Body, tests, actions, variables, definition, program, hypothesis, hyp_triple, rounds, width, goal_equal, goal_below, goal_triple, Item, lone_leaf}
-use Rattle.problem_file.specs.Sound.{with_test, with_action, with_var, grown, EachName, DeclaresTest, DeclaresAction, DeclaresVar, named_by, IsSide, side_size, AsksSides, Makes, MakeAll}
+use Rattle.problem_file.specs.Sound.{with_test, with_action, with_var, grown, EachName, DeclaresTest, DeclaresAction, DeclaresVar, named_by, IsSide, side_size, PosesSides, Makes, MakeAll}
 use Rattle.while_lang.specs.Ranges.{IsExprInRange, IsCondInRange, IsProgInRange, AreProgsInRange, IsSideInRange, IsGoalInRange, AreNamed, AreNamesOfProgs, IsNumbered}
-use Rattle.problem_file.specs.Reads.{Says}
+use Rattle.problem_file.specs.Reads.{Denotes}
 use Rattle.problem_file.specs.Laws.{AreInRanges, AreAllInRanges}
 use Rattle.problem_file.proofs.Numbering.{same_bound, next_bound, empty_numbered, test_numbered, action_numbered, var_numbered, prog_numbered, term_numbered}
 use Rattle.problem_file.proofs.InRanges.{DefinedInRange, test_of_in, term_in, cond_in}
@@ -333,15 +333,15 @@ module _ (s : State) (r : Ranged s) where
   term_ranged p e h = term_in s.tests s.actions s.vars s.world (length s.progs) r.numbers r.defined (context 0 false false) p e h.built
 
   leaf_ranged : (p : Phrase term) (o : Option Leaf) (d : ProgParts) → lone_leaf p ≡ o → named_by s p ≡ Some d → IsProgInRange s.tests s.actions s.vars d.tree
-  leaf_ranged p None d h e = let told : named_by s p ≡ None = rw (h) refl in absurd (none-some d (sym told ∙ e))
-  leaf_ranged p (Some l) d h e = let told : named_by s p ≡ prog_meant s.progs (get s.world.meanings l.text) = rw (h) refl in meant_in s.tests s.actions s.vars s.progs (get s.world.meanings l.text) d r.progs (sym told ∙ e)
+  leaf_ranged p None d h e = let given : named_by s p ≡ None = rw (h) refl in absurd (none-some d (sym given ∙ e))
+  leaf_ranged p (Some l) d h e = let given : named_by s p ≡ prog_meant s.progs (get s.world.meanings l.text) = rw (h) refl in meant_in s.tests s.actions s.vars s.progs (get s.world.meanings l.text) d r.progs (sym given ∙ e)
 
   side_ranged : (p : Phrase term) (side : SideTree) → IsSide s p side → IsSideInRange s.tests s.actions s.vars side
   side_ranged p (term_side e) h = term_ranged p e h
   side_ranged p (prog_side q) h = subst (IsProgInRange s.tests s.actions s.vars) (sym h.same) (leaf_ranged p (lone_leaf p) h.parts refl h.named)
 
 sides_ranged : (f : SideTree → SideTree → GoalTree) → ((t a v : ℕ) (l r : SideTree) → IsSideInRange t a v l → IsSideInRange t a v r → IsGoalInRange t a v (f l r)) →
-    (s t : State) (p : Phrase term) (c : Leaf) (q : Phrase term) (e : Leaf) → AsksSides f s p c q e t → Ranged s → Ranged t
+    (s t : State) (p : Phrase term) (c : Leaf) (q : Phrase term) (e : Leaf) → PosesSides f s p c q e t → Ranged s → Ranged t
 sides_ranged f joins s t p c q e h r =
     let left = side_ranged s r p h.left h.is_left in
     let right = side_ranged s r q h.right h.is_right in
@@ -439,21 +439,21 @@ file_numbered s g goal r = record {
   goal = goal;
 }
 
-module _ (limit : GoalLimit) (bytes : List ℕ) (x : Says limit bytes) where
-  said_ranged : Ranged x.state
-  said_ranged = all_ranged x.items (start limit) x.state x.make (start_ranged limit)
+module _ (limit : GoalLimit) (bytes : List ℕ) (x : Denotes limit bytes) where
+  denoted_ranged : Ranged x.state
+  denoted_ranged = all_ranged x.items (start limit) x.state x.make (start_ranged limit)
 
-  said_numbered : IsNumbered (file_of x.state x.goal)
-  said_numbered = file_numbered x.state x.goal (first_goal (x.state).tests (x.state).actions (x.state).vars (x.state).goals x.goal x.has_goal said_ranged.goals) said_ranged
+  denoted_numbered : IsNumbered (file_of x.state x.goal)
+  denoted_numbered = file_numbered x.state x.goal (first_goal (x.state).tests (x.state).actions (x.state).vars (x.state).goals x.goal x.has_goal denoted_ranged.goals) denoted_ranged
 
 pub are_in_ranges : AreInRanges
-are_in_ranges bytes f reads = subst IsNumbered (sym reads.file) (said_numbered One bytes reads.says)
+are_in_ranges bytes f reads = subst IsNumbered (sym reads.file) (denoted_numbered One bytes reads.denotes)
 
 pub all_are_in_ranges : AreAllInRanges
 all_are_in_ranges = record {
-  file = λ bytes f more reads. subst IsNumbered (sym reads.file) (said_numbered Batch bytes reads.says);
+  file = λ bytes f more reads. subst IsNumbered (sym reads.file) (denoted_numbered Batch bytes reads.denotes);
   goals = λ bytes f more reads g has.
-      let s = (reads.says).state in
-      let goal : IsGoalInRange s.tests s.actions s.vars g = later_goal s.tests s.actions s.vars s.goals g (subst (λ gs. Has gs g) reads.goals has) (said_ranged Batch bytes reads.says).goals in
+      let s = (reads.denotes).state in
+      let goal : IsGoalInRange s.tests s.actions s.vars g = later_goal s.tests s.actions s.vars s.goals g (subst (λ gs. Has gs g) reads.goals has) (denoted_ranged Batch bytes reads.denotes).goals in
       subst (λ (x : FileParts). IsGoalInRange x.tests x.actions x.vars g) (sym reads.file) goal;
 }

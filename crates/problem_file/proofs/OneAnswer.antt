@@ -14,13 +14,13 @@ use Rattle.while_lang.specs.Files.{GoalTree, FileParts}
 use Rattle.problem_file.specs.Files.{State, start, file_of}
 use Rattle.problem_file.specs.Syntax.{scan_file}
 use Rattle.problem_file.specs.Making.{parse_items}
-use Rattle.problem_file.specs.Reads.{Says, Reads, FirstFault, FirstFaultOfAll, files_with, check_goal, tested}
+use Rattle.problem_file.specs.Reads.{Denotes, Reads, FirstFault, FirstFaultOfAll, files_with, check_goal, tested}
 use Rattle.problem_file.specs.Laws.{HaveOneAnswer, ReadsBoth}
 use Rattle.problem_file.proofs.Results.{same_ok}
 use Rattle.problem_file.proofs.ScannedFiles.{files_are_scanned}
 use Rattle.problem_file.proofs.WalkedItems.{items_are_made}
 use Rattle.problem_file.proofs.NamedTexts.{tested_named}
-use Rattle.problem_file.proofs.TextAnswers.{Tells, one_answer}
+use Rattle.problem_file.proofs.TextAnswers.{Represents, one_answer}
 
 -- ---- the result of the token checks
 
@@ -32,27 +32,27 @@ start_limited : (limit : GoalLimit) → AreLimited (start limit).progs
 start_limited limit i p e = absurd (no_prog i p e)
 
 -- the file that the bytes denote, and the goals after its first
-abbrev pub said : {limit : GoalLimit} {bytes : List ℕ} → Says limit bytes → FileParts × List GoalTree
-said x = (file_of x.state x.goal, drop 1 (x.state).goals)
+abbrev pub denoted : {limit : GoalLimit} {bytes : List ℕ} → Denotes limit bytes → FileParts × List GoalTree
+denoted x = (file_of x.state x.goal, drop 1 (x.state).goals)
 
 module _ (limit : GoalLimit) (bytes : List ℕ) where
-  said_tested : (x : Says limit bytes) → tested limit (map lexeme_of x.parts_of_tokens) ≡ Ok (said x)
-  said_tested x =
+  denoted_tested : (x : Denotes limit bytes) → tested limit (map lexeme_of x.parts_of_tokens) ≡ Ok (denoted x)
+  denoted_tested x =
       let ts = map lexeme_of x.parts_of_tokens in
       let scanned : scan_file ts ≡ Ok tt = (files_are_scanned ts).1 (x.items, x.spells) in
       let walked : parse_items (start limit) ts ≡ Ok x.state = (items_are_made (start limit) x.state x.items ts (start_limited limit) x.spells).1 x.make in
       rw (scanned, walked, x.has_goal) refl
 
-  goal_told : (s : State) (y : FileParts × List GoalTree) (o : Option GoalTree) → files_with s o ≡ Ok y → (goal : GoalTree) × (o ≡ Some goal) × (y ≡ (file_of s goal, drop 1 s.goals))
-  goal_told s y None e = absurd cc
-  goal_told s y (Some goal) e = (goal, refl, sym (same_ok (file_of s goal, drop 1 s.goals) y e))
+  goal_given : (s : State) (y : FileParts × List GoalTree) (o : Option GoalTree) → files_with s o ≡ Ok y → (goal : GoalTree) × (o ≡ Some goal) × (y ≡ (file_of s goal, drop 1 s.goals))
+  goal_given s y None e = absurd cc
+  goal_given s y (Some goal) e = (goal, refl, sym (same_ok (file_of s goal, drop 1 s.goals) y e))
 
-  pub tested_says : (ms : List TokenParts) → Lexes bytes ms → (y : FileParts × List GoalTree) → tested limit (map lexeme_of ms) ≡ Ok y → (x : Says limit bytes) × (y ≡ said x)
-  tested_says ms lexes y t =
+  pub tested_denotes : (ms : List TokenParts) → Lexes bytes ms → (y : FileParts × List GoalTree) → tested limit (map lexeme_of ms) ≡ Ok y → (x : Denotes limit bytes) × (y ≡ denoted x)
+  tested_denotes ms lexes y t =
       let ts = map lexeme_of ms in
       let scanned = bind_ok (scan_file ts) (λ u. parse_items (start limit) ts >>= check_goal) y t in
       let walked = bind_ok (parse_items (start limit) ts) check_goal y scanned.2 in
-      let goal = goal_told walked.0 y (slice_get (walked.0).goals 0) walked.2 in
+      let goal = goal_given walked.0 y (slice_get (walked.0).goals 0) walked.2 in
       let file = (files_are_scanned ts).0 scanned.1 in (
         record {
           parts_of_tokens = ms;
@@ -67,26 +67,26 @@ module _ (limit : GoalLimit) (bytes : List ℕ) where
         goal.2,
       )
 
-  pub told_says : (x : FileParts × List GoalTree) → Tells (tested limit) bytes x → (s : Says limit bytes) × (x ≡ said s)
-  told_says x t = tested_says t.parts_of_tokens t.lexes x t.tests_pass
+  pub given_denotes : (x : FileParts × List GoalTree) → Represents (tested limit) bytes x → (s : Denotes limit bytes) × (x ≡ denoted s)
+  given_denotes x t = tested_denotes t.parts_of_tokens t.lexes x t.tests_pass
 
-  pub says_told : (s : Says limit bytes) → Tells (tested limit) bytes (said s)
-  says_told s = record { parts_of_tokens = s.parts_of_tokens; lexes = s.lexes; tests_pass = said_tested s }
+  pub denotes_given : (s : Denotes limit bytes) → Represents (tested limit) bytes (denoted s)
+  denotes_given s = record { parts_of_tokens = s.parts_of_tokens; lexes = s.lexes; tests_pass = denoted_tested s }
 
 -- ---- texts of one goal, and of up to `MAX_GOALS`
 
 pub have_one_answer : HaveOneAnswer Reads FirstFault
 have_one_answer = one_answer (tested One) Reads (λ x. x.0) (record {
-  told = λ bytes x t. let s = told_says One bytes x t in record { says = s.0; file = ap (λ (y : FileParts × List GoalTree). y.0) s.1 };
-  pass = λ bytes f r. (said r.says, says_told One bytes r.says, r.file);
+  given = λ bytes x t. let s = given_denotes One bytes x t in record { denotes = s.0; file = ap (λ (y : FileParts × List GoalTree). y.0) s.1 };
+  pass = λ bytes f r. (denoted r.denotes, denotes_given One bytes r.denotes, r.file);
   named = tested_named One;
 })
 
 pub all_have_one_answer : HaveOneAnswer ReadsBoth FirstFaultOfAll
 all_have_one_answer = one_answer (tested Batch) ReadsBoth (λ x. x) (record {
-  told = λ bytes x t. let s = told_says Batch bytes x t in record { says = s.0; file = ap (λ (y : FileParts × List GoalTree). y.0) s.1; goals = ap (λ (y : FileParts × List GoalTree). y.1) s.1 };
-  pass = λ bytes x r. (said r.says, says_told Batch bytes r.says, both_said x (said r.says) r.file r.goals);
+  given = λ bytes x t. let s = given_denotes Batch bytes x t in record { denotes = s.0; file = ap (λ (y : FileParts × List GoalTree). y.0) s.1; goals = ap (λ (y : FileParts × List GoalTree). y.1) s.1 };
+  pass = λ bytes x r. (denoted r.denotes, denotes_given Batch bytes r.denotes, both_denoted x (denoted r.denotes) r.file r.goals);
   named = tested_named Batch;
 }) where
-  both_said : (x y : FileParts × List GoalTree) → x.0 ≡ y.0 → x.1 ≡ y.1 → x ≡ y
-  both_said x y p q = ap₂ (λ f gs. (f, gs)) p q
+  both_denoted : (x y : FileParts × List GoalTree) → x.0 ≡ y.0 → x.1 ≡ y.1 → x ≡ y
+  both_denoted x y p q = ap₂ (λ f gs. (f, gs)) p q

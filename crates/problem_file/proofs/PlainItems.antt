@@ -73,7 +73,7 @@ AreWritable names w [] = Unit {0}
 AreWritable names w (e ∷ es) = IsWritable names w e × AreWritable names w es
 
 -- `t` adds the hypotheses `more` and this goal to `s`
-pub record Asks (s : State) (more : List Term) (left right : Term) (t : State) : Type 0 where
+pub record Poses (s : State) (more : List Term) (left right : Term) (t : State) : Type 0 where
   pub tests : t.tests ≡ s.tests
   pub actions : t.actions ≡ s.actions
   pub hyps : t.hyps ≡ s.hyps ++ more
@@ -87,7 +87,7 @@ module _ (names : Meaning → List ℕ) where
     small = writable.small;
   }
 
-  goal_items : (s : State) (at : ℕ) (left right : Term) → IsWritable names s.world left → IsWritable names s.world right → s.size + (term_size left + term_size right) ≤ MAX_TEXT_NODES → length s.goals < most_goals s.limit → AreItems s at (goal_pieces names left right) (Asks s [] left right)
+  goal_items : (s : State) (at : ℕ) (left right : Term) → IsWritable names s.world left → IsWritable names s.world right → s.size + (term_size left + term_size right) ≤ MAX_TEXT_NODES → length s.goals < most_goals s.limit → AreItems s at (goal_pieces names left right) (Poses s [] left right)
   goal_items s at left right l r room first =
       let a = (term_back s.world names left l.named).0 (at + 4 + 1 + 5 + 1) (right_pieces names right) in
       let b = (term_back s.world names right r.named).0 (a.end + 1 + 1) end_pieces in
@@ -114,10 +114,10 @@ module _ (names : Meaning → List ℕ) where
         holds = record { tests = refl; actions = refl; hyps = sym (append-nil s.hyps); goals = refl };
       }
 
-  pub hyps_items : (cs : List (List (List ℕ))) (hyps : List Term) (s : State) (at : ℕ) (left right : Term) → AreWritable names s.world hyps → IsWritable names s.world left → IsWritable names s.world right → length s.hyps + length hyps ≤ MAX_HYPS → s.size + (terms_size hyps + (term_size left + term_size right)) ≤ MAX_TEXT_NODES → length s.goals < most_goals s.limit → AreItems s at (hyps_pieces names cs hyps (goal_pieces names left right)) (Asks s hyps left right)
+  pub hyps_items : (cs : List (List (List ℕ))) (hyps : List Term) (s : State) (at : ℕ) (left right : Term) → AreWritable names s.world hyps → IsWritable names s.world left → IsWritable names s.world right → length s.hyps + length hyps ≤ MAX_HYPS → s.size + (terms_size hyps + (term_size left + term_size right)) ≤ MAX_TEXT_NODES → length s.goals < most_goals s.limit → AreItems s at (hyps_pieces names cs hyps (goal_pieces names left right)) (Poses s hyps left right)
   hyps_items cs [] s at left right h l r few room first = goal_items s at left right l r (omega arith) first
   hyps_items cs (e ∷ es) s at left right h l r few room first =
-      comments_items (first_comments cs) s at (hyp_pieces names e (hyps_pieces names (later_comments cs) es (goal_pieces names left right))) (Asks s (e ∷ es) left right) (λ n.
+      comments_items (first_comments cs) s at (hyp_pieces names e (hyps_pieces names (later_comments cs) es (goal_pieces names left right))) (Poses s (e ∷ es) left right) (λ n.
       let a = (term_back s.world names e h.0.named).0 (n + 3 + 1) (zero_pieces (hyps_pieces names (later_comments cs) es (goal_pieces names left right))) in
       let next = a.end + 1 + 1 + 1 + 1 + 1 + 1 in
       let u = state_hyp (grown s (term_size e)) e in

@@ -11,7 +11,7 @@ use Rattle.text_parser.specs.ScopeParts.{ScopeParts}
 use Rattle.text_print.specs.Printing.{cond_of, is_star, in_round, spaced, cond_pieces, test_pieces, term_pieces, TermIsNamed}
 use Rattle.problem_file.specs.CommentedTexts.{Comments, first_comments, later_comments, AreComments, EachAreComments}
 use Rattle.problem_file.proofs.Lines.{Line, code, remark, comment_pieces, lines_pieces, AreLines}
-use Rattle.problem_file.proofs.PlainPieces.{names_pieces, declaration_pieces, hyp_pieces, comments_pieces, hyps_pieces, goal_pieces, test_names, action_names, asked_pieces, acting_pieces, question_pieces, AreIdentifiers, declaration_separate, AreNamed, hyp_separate, goal_separate}
+use Rattle.problem_file.proofs.PlainPieces.{names_pieces, declaration_pieces, hyp_pieces, comments_pieces, hyps_pieces, goal_pieces, test_names, action_names, posed_pieces, acting_pieces, question_pieces, AreIdentifiers, declaration_separate, AreNamed, hyp_separate, goal_separate}
 
 -- ---- phrases before two lists of pieces
 
@@ -133,11 +133,11 @@ module _ (names : Meaning → List ℕ) where
   abbrev goal_line : Term → Term → List Piece
   goal_line left right = word (codes "goal") ∷ gap 32 ∷ word (codes "equal") ∷ gap 32 ∷ term_pieces names left (right_line right)
 
-  abbrev pub asked_lines : Comments → ProblemParts → List Line
-  asked_lines c q = hyps_lines c.hyps q.hyps (code (goal_line q.left q.right) ∷ [])
+  abbrev pub posed_lines : Comments → ProblemParts → List Line
+  posed_lines c q = hyps_lines c.hyps q.hyps (code (goal_line q.left q.right) ∷ [])
 
   abbrev acting_lines : Comments → ProblemParts → List Line
-  acting_lines c q = comments_lines c.actions (declaration_lines (codes "action") (action_names names 0 q.actions) (asked_lines c q))
+  acting_lines c q = comments_lines c.actions (declaration_lines (codes "action") (action_names names 0 q.actions) (posed_lines c q))
 
   abbrev pub question_lines : Comments → ProblemParts → List Line
   question_lines c q = comments_lines c.tests (declaration_lines (codes "test") (test_names names 0 q.tests) (acting_lines c q))
@@ -162,9 +162,9 @@ module _ (names : Meaning → List ℕ) where
 
   pub question_are : (c : Comments) (q : ProblemParts) → question_pieces names c q ≡ lines_pieces (question_lines c q)
   question_are c q =
-      let asked = hyps_are c.hyps q.hyps (goal_pieces names q.left q.right) (code (goal_line q.left q.right) ∷ []) (goal_is q.left q.right) in
-      let actions = declaration_are (codes "action") (action_names names 0 q.actions) (asked_pieces names c q) (asked_lines c q) asked in
-      let acting = comments_are c.actions (declaration_pieces (codes "action") (action_names names 0 q.actions) (asked_pieces names c q)) (declaration_lines (codes "action") (action_names names 0 q.actions) (asked_lines c q)) actions in
+      let posed = hyps_are c.hyps q.hyps (goal_pieces names q.left q.right) (code (goal_line q.left q.right) ∷ []) (goal_is q.left q.right) in
+      let actions = declaration_are (codes "action") (action_names names 0 q.actions) (posed_pieces names c q) (posed_lines c q) posed in
+      let acting = comments_are c.actions (declaration_pieces (codes "action") (action_names names 0 q.actions) (posed_pieces names c q)) (declaration_lines (codes "action") (action_names names 0 q.actions) (posed_lines c q)) actions in
       comments_are c.tests (declaration_pieces (codes "test") (test_names names 0 q.tests) (acting_pieces names c q)) (declaration_lines (codes "test") (test_names names 0 q.tests) (acting_lines c q))
       (declaration_are (codes "test") (test_names names 0 q.tests) (acting_pieces names c q) (acting_lines c q) acting)
 
@@ -177,14 +177,14 @@ module _ (names : Meaning → List ℕ) where
         comments_good (first_comments cs) (code (hyp_line e) ∷ hyps_lines (later_comments cs) es ls) (first_are cs comments)
         (subst AreSeparate (hyp_is e []) (hyp_separate names w e [] is.0 tt), hyps_good (later_comments cs) es ls (later_are cs comments) is.1 good)
 
-    pub asked_good : (c : Comments) (q : ProblemParts) → EachAreComments c.hyps → AreNamed names w q.hyps → TermIsNamed w names q.left → TermIsNamed w names q.right → AreLines (asked_lines c q)
-    asked_good c q comments hyps left right =
+    pub posed_good : (c : Comments) (q : ProblemParts) → EachAreComments c.hyps → AreNamed names w q.hyps → TermIsNamed w names q.left → TermIsNamed w names q.right → AreLines (posed_lines c q)
+    posed_good c q comments hyps left right =
         hyps_good c.hyps q.hyps (code (goal_line q.left q.right) ∷ []) comments hyps (subst AreSeparate (goal_is q.left q.right) (goal_separate names w q.left q.right left right), tt)
 
   pub question_good : (c : Comments) (q : ProblemParts) → AreComments c.tests → AreComments c.actions → IsToken Name (codes "test") → IsToken Name (codes "action") → AreIdentifiers (test_names names 0 q.tests) → AreIdentifiers (action_names names 0 q.actions)
-      → AreLines (asked_lines c q) → AreLines (question_lines c q)
-  question_good c q tests actions test_word action_word test_names_are action_names_are asked =
+      → AreLines (posed_lines c q) → AreLines (question_lines c q)
+  question_good c q tests actions test_word action_word test_names_are action_names_are posed =
       comments_good c.tests (declaration_lines (codes "test") (test_names names 0 q.tests) (acting_lines c q)) tests
       (declaration_good (codes "test") (test_names names 0 q.tests) (acting_lines c q) test_word test_names_are
-      (comments_good c.actions (declaration_lines (codes "action") (action_names names 0 q.actions) (asked_lines c q)) actions
-      (declaration_good (codes "action") (action_names names 0 q.actions) (asked_lines c q) action_word action_names_are asked)))
+      (comments_good c.actions (declaration_lines (codes "action") (action_names names 0 q.actions) (posed_lines c q)) actions
+      (declaration_good (codes "action") (action_names names 0 q.actions) (posed_lines c q) action_word action_names_are posed)))

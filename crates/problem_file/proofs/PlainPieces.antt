@@ -124,12 +124,12 @@ module _ (names : Meaning → List ℕ) where
   abbrev pub action_names : ℕ → ℕ → List (List ℕ)
   action_names k n = map (λ j. names (Action j)) (range_with_len k n)
 
-  abbrev pub asked_pieces : Comments → ProblemParts → List Piece
-  asked_pieces c q = hyps_pieces c.hyps q.hyps (goal_pieces q.left q.right)
+  abbrev pub posed_pieces : Comments → ProblemParts → List Piece
+  posed_pieces c q = hyps_pieces c.hyps q.hyps (goal_pieces q.left q.right)
 
   -- the actions, and what follows them
   abbrev pub acting_pieces : Comments → ProblemParts → List Piece
-  acting_pieces c q = comments_pieces c.actions (declaration_pieces (codes "action") (action_names 0 q.actions) (asked_pieces c q))
+  acting_pieces c q = comments_pieces c.actions (declaration_pieces (codes "action") (action_names 0 q.actions) (posed_pieces c q))
 
   abbrev pub question_pieces : Comments → ProblemParts → List Piece
   question_pieces c q = comments_pieces c.tests (declaration_pieces (codes "test") (test_names 0 q.tests) (acting_pieces c q))
@@ -167,8 +167,8 @@ module _ (names : Meaning → List ℕ) where
   pub question_spells : (c : Comments) (q : ProblemParts) → spelled (question_pieces c q) ≡ commented_text names c q
   question_spells c q =
       let goal = goal_pieces q.left q.right in
-      let asked = asked_pieces c q in
-      let actions = declaration_pieces (codes "action") (action_names 0 q.actions) asked in
+      let posed = posed_pieces c q in
+      let actions = declaration_pieces (codes "action") (action_names 0 q.actions) posed in
       let acting = acting_pieces c q in
       comments_spell c.tests (declaration_pieces (codes "test") (test_names 0 q.tests) acting)
       ∙ ap (λ (l : List ℕ). comments_text c.tests ++ l)
@@ -176,7 +176,7 @@ module _ (names : Meaning → List ℕ) where
       ∙ ap (λ (l : List ℕ). tests_line q ++ l)
       (comments_spell c.actions actions
       ∙ ap (λ (l : List ℕ). comments_text c.actions ++ l)
-      (declaration_spells (codes "action") (action_names 0 q.actions) asked
+      (declaration_spells (codes "action") (action_names 0 q.actions) posed
       ∙ ap (λ (l : List ℕ). actions_line q ++ l) (hyps_spell c.hyps q.hyps goal ∙ ap (λ (l : List ℕ). commented_hyps names c.hyps q.hyps ++ l) (goal_spells q.left q.right)))))
       ∙ sym (question_regrouped (comments_text c.tests) (tests_line q) (comments_text c.actions) (actions_line q) (commented_hyps names c.hyps q.hyps) (goal_text names q.left q.right))
 

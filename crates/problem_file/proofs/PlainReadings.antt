@@ -18,13 +18,13 @@ use Rattle.problem_file.specs.Reads.{start_one}
 use Rattle.problem_file.specs.Questions.{plain_name, question_text, IsPrintable}
 use Rattle.problem_file.specs.NamedTexts.{AreNames, named_text, IsNamedPrintable}
 use Rattle.problem_file.specs.CommentedTexts.{Comments, commented_text, IsCommentedPrintable}
-use Rattle.problem_file.specs.TextLaws.{AsksEqual}
+use Rattle.problem_file.specs.TextLaws.{PosesEqual}
 use Rattle.problem_file.specs.Working.Scopes.{DeclaresNames}
 use Rattle.problem_file.proofs.PlainNames.{plain_are_names}
 use Rattle.problem_file.proofs.PlainScopes.{empty_declares, declares_as, term_named}
-use Rattle.problem_file.proofs.PlainPieces.{declaration_pieces, test_names, action_names, asked_pieces, acting_pieces, question_pieces, question_spells, no_comments, uncommented_text, AreNamed}
+use Rattle.problem_file.proofs.PlainPieces.{declaration_pieces, test_names, action_names, posed_pieces, acting_pieces, question_pieces, question_spells, no_comments, uncommented_text, AreNamed}
 use Rattle.problem_file.proofs.Lines.{AreLines, lines_pieces, lines_printed}
-use Rattle.problem_file.proofs.PlainLines.{asked_lines, question_lines, question_are, asked_good, question_good}
+use Rattle.problem_file.proofs.PlainLines.{posed_lines, question_lines, question_are, posed_good, question_good}
 use Rattle.problem_file.proofs.PlainItems.{AreItems, IsWritable, AreWritable, comments_items, hyps_items, Declares, tests_items, actions_items, tests_are_identifiers, actions_are_identifiers}
 
 -- the text of the term is within the limit on nesting
@@ -48,15 +48,15 @@ same_parts : (q : ProblemParts) (tests actions : ℕ) (hyps : List Term) → tes
 same_parts q tests actions hyps e f g = rw (e, f, g) refl
 
 -- the state has the question, and no piece after the declarations extends the one before it
-record IsAsked (names : Meaning → List ℕ) (c : Comments) (q : ProblemParts) (t : State) : Type 0 where
+record IsPosed (names : Meaning → List ℕ) (c : Comments) (q : ProblemParts) (t : State) : Type 0 where
   goals : t.goals ≡ equal (term_side q.left) (term_side q.right) ∷ []
   question : q ≡ record { tests = t.tests; actions = t.actions; hyps = t.hyps; left = q.left; right = q.right }
-  separate : AreLines (asked_lines names c q)
+  separate : AreLines (posed_lines names c q)
 
 module _ (names : Meaning → List ℕ) (c : Comments) (q : ProblemParts) (printable : IsCommentedPrintable names c q) where
   -- the pieces after the declarations are items
-  asked_items : (u : State) (at : ℕ) → Declares names start_one q.tests q.actions u → AreItems u at (asked_pieces names c q) (IsAsked names c q)
-  asked_items u at d =
+  posed_items : (u : State) (at : ℕ) → Declares names start_one q.tests q.actions u → AreItems u at (posed_pieces names c q) (IsPosed names c q)
+  posed_items u at d =
       let problem = printable.problem in
       let shallow = All-tail IsShallow q.left (q.right ∷ q.hyps) printable.shallow in
       let size = problem.size in
@@ -74,21 +74,21 @@ module _ (names : Meaning → List ℕ) (c : Comments) (q : ProblemParts) (print
         holds = record {
           goals = made.holds.goals ∙ ap (λ (l : List GoalTree). l ++ equal (term_side q.left) (term_side q.right) ∷ []) d.goals;
           question = same_parts q (made.final).tests (made.final).actions (made.final).hyps (made.holds.tests ∙ d.tests) (made.holds.actions ∙ d.actions) (made.holds.hyps ∙ ap (λ (l : List Term). l ++ q.hyps) d.hyps);
-          separate = asked_good names u.world c q printable.comments.hyps (all_named names u.world q.hyps hyps) left.named right.named;
+          separate = posed_good names u.world c q printable.comments.hyps (all_named names u.world q.hyps hyps) left.named right.named;
         };
       }
 
-  question_items : AreItems start_one 0 (question_pieces names c q) (IsAsked names c q)
+  question_items : AreItems start_one 0 (question_pieces names c q) (IsPosed names c q)
   question_items =
       let problem = printable.problem in
       let few = problem.tests in
       let small = problem.actions in
-      comments_items c.tests start_one 0 (declaration_pieces (codes "test") (test_names names 0 q.tests) (acting_pieces names c q)) (IsAsked names c q) (λ n.
-      tests_items names q.tests q.actions few small printable.named q.tests start_one n (acting_pieces names c q) (IsAsked names c q) (omega arith) (omega arith) (empty_declares names)
-      (λ t at d. comments_items c.actions t at (declaration_pieces (codes "action") (action_names names 0 q.actions) (asked_pieces names c q)) (IsAsked names c q) (λ m.
-      subst (λ (k : ℕ). AreItems t m (declaration_pieces (codes "action") (action_names names k q.actions) (asked_pieces names c q)) (IsAsked names c q)) d.actions
-      (actions_items names q.tests q.actions few small printable.named q.actions t m (asked_pieces names c q) (IsAsked names c q) (omega (arith, d.actions)) (omega (arith, d.tests)) (rw (d.tests, d.actions) d.declares)
-      (λ u next e. asked_items u next (record {
+      comments_items c.tests start_one 0 (declaration_pieces (codes "test") (test_names names 0 q.tests) (acting_pieces names c q)) (IsPosed names c q) (λ n.
+      tests_items names q.tests q.actions few small printable.named q.tests start_one n (acting_pieces names c q) (IsPosed names c q) (omega arith) (omega arith) (empty_declares names)
+      (λ t at d. comments_items c.actions t at (declaration_pieces (codes "action") (action_names names 0 q.actions) (posed_pieces names c q)) (IsPosed names c q) (λ m.
+      subst (λ (k : ℕ). AreItems t m (declaration_pieces (codes "action") (action_names names k q.actions) (posed_pieces names c q)) (IsPosed names c q)) d.actions
+      (actions_items names q.tests q.actions few small printable.named q.actions t m (posed_pieces names c q) (IsPosed names c q) (omega (arith, d.actions)) (omega (arith, d.tests)) (rw (d.tests, d.actions) d.declares)
+      (λ u next e. posed_items u next (record {
         tests = e.tests ∙ d.tests ∙ omega arith;
         actions = omega (arith, e.actions, d.actions);
         hyps = e.hyps ∙ d.hyps;
@@ -98,13 +98,13 @@ module _ (names : Meaning → List ℕ) (c : Comments) (q : ProblemParts) (print
         declares = declares_as names u.world t.tests q.tests (t.actions + q.actions) q.actions (d.tests ∙ omega arith) (omega (arith, d.actions)) e.declares;
       }))))))
 
-  question_separate : AreLines (asked_lines names c q) → AreLines (question_lines names c q)
-  question_separate asked =
+  question_separate : AreLines (posed_lines names c q) → AreLines (question_lines names c q)
+  question_separate posed =
       let problem = printable.problem in
       let few = problem.tests in
       let small = problem.actions in
       question_good names c q printable.comments.tests printable.comments.actions (keyword_is_name (codes "test") refl) (keyword_is_name (codes "action") refl) (tests_are_identifiers names q.tests q.actions few small printable.named q.tests 0 (omega arith))
-      (actions_are_identifiers names q.tests q.actions few small printable.named q.actions 0 (omega arith)) asked
+      (actions_are_identifiers names q.tests q.actions few small printable.named q.actions 0 (omega arith)) posed
 
   -- the tokens of the text are those of its pieces
   question_lexes : AreLines (question_lines names c q) → Lexes (commented_text names c q) (parts_from 0 (question_pieces names c q))
@@ -115,7 +115,7 @@ module _ (names : Meaning → List ℕ) (c : Comments) (q : ProblemParts) (print
       subst (λ (ps : List Piece). Lexes (commented_text names c q) (parts_from 0 ps)) (sym lines)
       (subst (λ (l : List ℕ). Lexes l (parts_from 0 (lines_pieces (question_lines names c q)))) text (lines_printed (question_lines names c q) good short))
 
-  pub commented_reads_back : AsksEqual (commented_text names c q) q
+  pub commented_reads_back : PosesEqual (commented_text names c q) q
   commented_reads_back =
       let made = question_items in
       let pieces = question_pieces names c q in
@@ -123,7 +123,7 @@ module _ (names : Meaning → List ℕ) (c : Comments) (q : ProblemParts) (print
       record {
         file = file_of made.final goal;
         reads = record {
-          says = record {
+          denotes = record {
             parts_of_tokens = parts_from 0 pieces;
             lexes = question_lexes (question_separate made.holds.separate);
             items = made.items;
@@ -140,9 +140,9 @@ module _ (names : Meaning → List ℕ) (c : Comments) (q : ProblemParts) (print
       }
 
 -- the text without comments
-pub named_reads_back : (names : Meaning → List ℕ) (q : ProblemParts) → IsNamedPrintable names q → AsksEqual (named_text names q) q
+pub named_reads_back : (names : Meaning → List ℕ) (q : ProblemParts) → IsNamedPrintable names q → PosesEqual (named_text names q) q
 named_reads_back names q printable =
-    subst (λ (l : List ℕ). AsksEqual l q) (uncommented_text names q)
+    subst (λ (l : List ℕ). PosesEqual l q) (uncommented_text names q)
     (commented_reads_back names no_comments q (record {
       problem = printable.problem;
       named = printable.named;
@@ -153,7 +153,7 @@ named_reads_back names q printable =
     }))
 
 -- the text with the plain names
-pub reads_back : (q : ProblemParts) → IsPrintable q → AsksEqual (question_text q) q
+pub reads_back : (q : ProblemParts) → IsPrintable q → PosesEqual (question_text q) q
 reads_back q printable =
     let problem = printable.problem in
     named_reads_back plain_name q (record {

@@ -13,7 +13,7 @@ use Rattle.text_print.proofs.WordTerminals.{zero_written, one_written}
 use Rattle.while_lang.specs.Programs.{ProgTree, empty, skip_then, assign_then, loop_then}
 use Rattle.while_lang.specs.Files.{GoalTree, prog_side, equal, triple}
 use Rattle.problem_file.specs.ProgramTexts.{one_program_text, programs_text, triple_text, IsOnePrintable, ArePrintable, IsTriplePrintable}
-use Rattle.problem_file.specs.TextLaws.{AsksOfPrograms, SaysProgram}
+use Rattle.problem_file.specs.TextLaws.{PosesPrograms, DenotesProgram}
 use Rattle.problem_file.proofs.ProgramReadings.{program_reads_back, programs_read_back, triples_read_back}
 
 -- ---- two programs
@@ -56,8 +56,8 @@ two_printable = record {
   short = subst (λ (l : List ℕ). length l ≤ MAX_TEXT_BYTES) (sym two_spelled) (let bytes : 82 ≤ 1048576 = omega arith in bytes);
 }
 
-two_asked : AsksOfPrograms two_text W8 2 two_goal
-two_asked = subst (λ (l : List ℕ). AsksOfPrograms l W8 2 two_goal) two_spelled (programs_read_back W8 2 adds skips two_printable)
+two_posed : PosesPrograms two_text W8 2 two_goal
+two_posed = subst (λ (l : List ℕ). PosesPrograms l W8 2 two_goal) two_spelled (programs_read_back W8 2 adds skips two_printable)
 
 -- ---- a triple
 
@@ -104,8 +104,8 @@ loop_printable = record {
   short = subst (λ (l : List ℕ). length l ≤ MAX_TEXT_BYTES) (sym loop_spelled) (let bytes : 90 ≤ 1048576 = omega arith in bytes);
 }
 
-loop_asked : AsksOfPrograms loop_text W8 1 loop_goal
-loop_asked = subst (λ (l : List ℕ). AsksOfPrograms l W8 1 loop_goal) loop_spelled (triples_read_back W8 1 always sets is_one loop_printable)
+loop_posed : PosesPrograms loop_text W8 1 loop_goal
+loop_posed = subst (λ (l : List ℕ). PosesPrograms l W8 1 loop_goal) loop_spelled (triples_read_back W8 1 always sets is_one loop_printable)
 
 -- ---- one program, over variables of other names
 
@@ -160,5 +160,5 @@ stops_printable = record {
   short = subst (λ (l : List ℕ). length l ≤ MAX_TEXT_BYTES) (sym stops_spelled) (let bytes : 101 ≤ 1048576 = omega arith in bytes);
 }
 
-stops_said : SaysProgram stops_text two_names W8 2 (codes "main") stops
-stops_said = subst (λ (l : List ℕ). SaysProgram l two_names W8 2 (codes "main") stops) stops_spelled (program_reads_back two_names W8 2 (codes "main") stops stops_printable)
+stops_denoted : DenotesProgram stops_text two_names W8 2 (codes "main") stops
+stops_denoted = subst (λ (l : List ℕ). DenotesProgram l two_names W8 2 (codes "main") stops) stops_spelled (program_reads_back two_names W8 2 (codes "main") stops stops_printable)

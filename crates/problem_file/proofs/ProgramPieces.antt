@@ -126,10 +126,10 @@ programs_spell w v p q =
     let goal = equal_pieces (codes "P") (codes "Q") in
     let second = prog_pieces var_name (codes "Q") q goal in
     let first = prog_pieces var_name (codes "P") p second in
-    let asked : List ℕ = codes "goal equal P, Q;\n" in
-    let last : List ℕ = prog_text var_name (codes "Q") q ++ asked in
+    let posed : List ℕ = codes "goal equal P, Q;\n" in
+    let last : List ℕ = prog_text var_name (codes "Q") q ++ posed in
     header_spells var_name w v first (prog_text var_name (codes "P") p ++ last)
-    (prog_spells var_name (codes "P") p second last (prog_spells var_name (codes "Q") q goal asked refl))
+    (prog_spells var_name (codes "P") p second last (prog_spells var_name (codes "Q") q goal posed refl))
     ∙ sym (programs_regrouped (width_text w) (vars_text var_name v) (prog_text var_name (codes "P") p) (prog_text var_name (codes "Q") q) (codes "goal equal P, Q;\n"))
 
 goal_spells : (b c : CondTree) → spelled (triple_goal_pieces b c) ≡ codes "goal triple {" ++ (cond_text var_name b ++ (codes "} P {" ++ (cond_text var_name c ++ codes "};\n")))
@@ -145,8 +145,8 @@ pub triple_spells : (w : Width) (v : ℕ) (b : CondTree) (p : ProgTree) (c : Con
 triple_spells w v b p c =
     let goal = triple_goal_pieces b c in
     let first = prog_pieces var_name (codes "P") p goal in
-    let asked : List ℕ = codes "goal triple {" ++ (cond_text var_name b ++ (codes "} P {" ++ (cond_text var_name c ++ codes "};\n"))) in
-    header_spells var_name w v first (prog_text var_name (codes "P") p ++ asked) (prog_spells var_name (codes "P") p goal asked (goal_spells b c))
+    let posed : List ℕ = codes "goal triple {" ++ (cond_text var_name b ++ (codes "} P {" ++ (cond_text var_name c ++ codes "};\n"))) in
+    header_spells var_name w v first (prog_text var_name (codes "P") p ++ posed) (prog_spells var_name (codes "P") p goal posed (goal_spells b c))
     ∙ sym (triple_regrouped (width_text w) (vars_text var_name v) (prog_text var_name (codes "P") p) (cond_text var_name b) (cond_text var_name c))
 
 -- ---- the pieces are separate

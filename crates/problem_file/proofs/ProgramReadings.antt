@@ -22,7 +22,7 @@ use Rattle.problem_file.specs.Files.{State, rounds_of, width_of, file_of}
 use Rattle.problem_file.specs.Sound.{MakeAll}
 use Rattle.problem_file.specs.Reads.{start_one}
 use Rattle.problem_file.specs.ProgramTexts.{one_program_text, IsOnePrintable, var_name, programs_text, triple_text, ArePrintable, IsTriplePrintable}
-use Rattle.problem_file.specs.TextLaws.{AsksOfPrograms, SaysProgram}
+use Rattle.problem_file.specs.TextLaws.{PosesPrograms, DenotesProgram}
 use Rattle.problem_file.proofs.PlainNames.{var_no_letter}
 use Rattle.problem_file.proofs.PlainItems.{AreItems}
 use Rattle.problem_file.proofs.ProgramScopes.{plain_names, vars_scope, no_terms, name_is_new, vars_known, VarsNamed, vars_named, kept, declared_means, still_named, cond_named, prog_named}
@@ -32,11 +32,11 @@ use Rattle.problem_file.proofs.ProgramItems.{width_items, vars_state, vars_are_i
 
 -- the reading of pieces that are items
 read_as : (pieces : List Piece) (text : List ℕ) (w : Width) (v : ℕ) (final : State) (goal : GoalTree) → spelled pieces ≡ text → AreSeparate pieces → length text ≤ MAX_LEN → AreItems start_one 0 pieces (λ t. t ≡ final)
-    → slice_get final.goals 0 ≡ Some goal → width_of final ≡ w → final.vars ≡ v → rounds_of final ≡ 1 → IsConcrete (file_of final goal) → AsksOfPrograms text w v goal
-read_as pieces text w v final goal is separate short made asked width vars rounds concrete = record {
+    → slice_get final.goals 0 ≡ Some goal → width_of final ≡ w → final.vars ≡ v → rounds_of final ≡ 1 → IsConcrete (file_of final goal) → PosesPrograms text w v goal
+read_as pieces text w v final goal is separate short made posed width vars rounds concrete = record {
   file = file_of final goal;
   reads = record {
-    says = record {
+    denotes = record {
       parts_of_tokens = parts_from 0 pieces;
       lexes = subst (λ (l : List ℕ). Lexes l (parts_from 0 pieces)) is (printed pieces separate (subst (λ (l : List ℕ). length l ≤ MAX_LEN) (sym is) short));
       items = made.items;
@@ -44,7 +44,7 @@ read_as pieces text w v final goal is separate short made asked width vars round
       state = final;
       make = subst (MakeAll start_one made.items) made.holds made.make;
       goal = goal;
-      has_goal = asked;
+      has_goal = posed;
     };
     file = refl;
   };
@@ -95,16 +95,16 @@ module _ (names : Meaning → List ℕ) (w : Width) (v : ℕ) (name : List ℕ) 
       header_separate names w v (prog_pieces names name p goal) (vars_are_identifiers names v 0 v (omega arith) h.var_names)
       (prog_separate (vars_scope names v) names name p goal h.identifier all_named (equal_separate name name h.identifier h.identifier))
 
-  one_asked : AsksOfPrograms (one_program_text names w v name p) w v (equal (prog_side p) (prog_side p))
-  one_asked =
+  one_posed : PosesPrograms (one_program_text names w v name p) w v (equal (prog_side p) (prog_side p))
+  one_posed =
       read_as (one_program_pieces names w v name p) (one_program_text names w v name p) w v (equal_state after_prog p p) (equal (prog_side p) (prog_side p))
       (one_program_spells names w v name p) one_separate h.short one_items refl refl refl refl
-      (record { tests = refl; actions = refl; terms = ap length (no_terms names v); hyps = refl; asks = tt })
+      (record { tests = refl; actions = refl; terms = ap length (no_terms names v); hyps = refl; poses = tt })
 
-  pub program_reads_back : SaysProgram (one_program_text names w v name p) names w v name p
-  unfolding one_asked read_as
+  pub program_reads_back : DenotesProgram (one_program_text names w v name p) names w v name p
+  unfolding one_posed read_as
   program_reads_back = record {
-    asks = one_asked;
+    poses = one_posed;
     variables = λ k below. (still_named names (vars_scope names v) v name 0 name_new names_known k below).means;
     program = ap (λ m. option_map (λ d. d.tree) (prog_meant after_prog.progs m)) (declared_means (vars_scope names v) name (Prog 0));
   }
@@ -228,14 +228,14 @@ module _ (v : ℕ) (few : v ≤ MAX_VARS) where
         header_separate var_name w v (prog_pieces var_name (codes "P") p goal) (vars_are_identifiers var_name v 0 v (omega arith) (plain_names v few))
         (prog_separate (vars_scope var_name v) var_name (codes "P") p goal p_identifier body_named (triple_separate (p_scope v) b c pre_named post_named))
 
-pub programs_read_back : (w : Width) (v : ℕ) (p q : ProgTree) → ArePrintable w v p q → AsksOfPrograms (programs_text w v p q) w v (equal (prog_side p) (prog_side q))
+pub programs_read_back : (w : Width) (v : ℕ) (p q : ProgTree) → ArePrintable w v p q → PosesPrograms (programs_text w v p q) w v (equal (prog_side p) (prog_side q))
 programs_read_back w v p q h =
     read_as (programs_pieces w v p q) (programs_text w v p q) w v (equal_state (after_q v h.vars w p q h) p q) (equal (prog_side p) (prog_side q))
     (programs_spell w v p q) (programs_separate v h.vars w p q h) h.short (programs_items v h.vars w p q h) refl refl refl refl
-    (record { tests = refl; actions = refl; terms = ap length (no_terms var_name v); hyps = refl; asks = tt })
+    (record { tests = refl; actions = refl; terms = ap length (no_terms var_name v); hyps = refl; poses = tt })
 
-pub triples_read_back : (w : Width) (v : ℕ) (b : CondTree) (p : ProgTree) (c : CondTree) → IsTriplePrintable w v b p c → AsksOfPrograms (triple_text w v b p c) w v (triple b (prog_side p) c)
+pub triples_read_back : (w : Width) (v : ℕ) (b : CondTree) (p : ProgTree) (c : CondTree) → IsTriplePrintable w v b p c → PosesPrograms (triple_text w v b p c) w v (triple b (prog_side p) c)
 triples_read_back w v b p c h =
     read_as (triple_pieces w v b p c) (triple_text w v b p c) w v (triple_state (after_body v h.vars w b p c h) b p c) (triple b (prog_side p) c)
     (triple_spells w v b p c) (pieces_separate v h.vars w b p c h) h.short (triple_are_items v h.vars w b p c h) refl refl refl refl
-    (record { tests = refl; actions = refl; terms = ap length (no_terms var_name v); hyps = refl; asks = tt })
+    (record { tests = refl; actions = refl; terms = ap length (no_terms var_name v); hyps = refl; poses = tt })

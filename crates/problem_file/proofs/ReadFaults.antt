@@ -6,8 +6,8 @@ use Rattle.text_parser.specs.declared.fault.TextFault.{TextFault}
 use Rattle.text_parser.specs.declared.fault.TextFault.TheVariants.{NoMemory}
 use Rattle.text_parser.specs.declared.terminal.Terminal.{Terminal}
 use Rattle.text_parser.specs.Lexemes.{Lexeme}
-use Rattle.text_parser.specs.Parsed.{Parsed, ◌>>=◌, before, Makes, Reads, Wants, wants}
-use Rattle.text_parser.proofs.NamedFaults.{IsNamedFault, IsNamed, wants_named}
+use Rattle.text_parser.specs.Parsed.{Parsed, ◌>>=◌, before, Makes, Reads, Expects, expects}
+use Rattle.text_parser.proofs.NamedFaults.{IsNamedFault, IsNamed, expects_named}
 use Rattle.while_lang.proofs.BlockFaults.{returned}
 use Rattle.problem_file.specs.Working.Walks.{StepEnds, Does}
 
@@ -56,7 +56,7 @@ made_within P end (Err e) r is h = rw (is) tt
 
 -- the item ends with a token
 module _ {S : Type 0} (memory : Type 0) (ts : List Lexeme) (s : S) (p : Terminal → Bool) (us : List Lexeme) where
-  pub token_ends : (r : Result ℕ TextFault) → Wants ts r (wants p us) → StepEnds memory ts r s (wants p us >>= λ l. Ok (s, l))
+  pub token_ends : (r : Result ℕ TextFault) → Expects ts r (expects p us) → StepEnds memory ts r s (expects p us >>= λ l. Ok (s, l))
   token_ends (Ok end) h = rw (h) refl
-  token_ends (Err NoMemory) h = elim (subst IsNamed h (wants_named p us)) [ ]
+  token_ends (Err NoMemory) h = elim (subst IsNamed h (expects_named p us)) [ ]
   token_ends (Err e) h = rw (h) refl

@@ -17,10 +17,10 @@ use Rattle.problem_file.specs.declared.goal_limit.GoalLimit.{GoalLimit}
 use Rattle.problem_file.specs.declared.goal_limit.GoalLimit.TheVariants.{Batch}
 use Rattle.while_lang.specs.Files.{GoalTree, FileParts}
 use Rattle.while_lang.specs.Trees.{goal_tree}
-use Rattle.problem_file.specs.Reads.{Says, ReadsAll, HasFirstFault, FirstFaultOfAll, tested}
-use Rattle.problem_file.specs.Working.Files.{AreSaid, AnswersFor}
-use Rattle.problem_file.proofs.TextAnswers.{no_fault as none_told}
-use Rattle.problem_file.proofs.OneAnswer.{said, tested_says, says_told}
+use Rattle.problem_file.specs.Reads.{Denotes, ReadsAll, HasFirstFault, FirstFaultOfAll, tested}
+use Rattle.problem_file.specs.Working.Files.{AreDenoted, AnswersFor}
+use Rattle.problem_file.proofs.TextAnswers.{no_fault as none_given}
+use Rattle.problem_file.proofs.OneAnswer.{denoted, tested_denotes, denotes_given}
 
 -- each token of a text is valid for its kind
 pub lexed_tokens : (text : List ℕ) (ts : List Token) → Lexes text (parts_of_tokens ts) → AreTokens ts
@@ -36,19 +36,19 @@ abbrev pub with_trees : FileParts × Vec Goal Global → FileParts × List GoalT
 with_trees x = (x.0, map goal_tree x.1.items)
 
 module _ (limit : GoalLimit) (text : List ℕ) where
-  pub file_told : (ts : List Token) (x : FileParts × Vec Goal Global) → Lexes text (parts_of_tokens ts) → Makes (Unit {0}) with_trees (Ok x) (tested limit (lexemes ts)) → AreSaid limit text x
-  file_told ts x lexes h =
-      let s = tested_says limit text (parts_of_tokens ts) lexes (with_trees x) h in
-      record { says = s.0; file = ap (λ y. y.0) s.1; goals = ap (λ y. y.1) s.1 }
+  pub file_given : (ts : List Token) (x : FileParts × Vec Goal Global) → Lexes text (parts_of_tokens ts) → Makes (Unit {0}) with_trees (Ok x) (tested limit (lexemes ts)) → AreDenoted limit text x
+  file_given ts x lexes h =
+      let s = tested_denotes limit text (parts_of_tokens ts) lexes (with_trees x) h in
+      record { denotes = s.0; file = ap (λ y. y.0) s.1; goals = ap (λ y. y.1) s.1 }
 
   -- bytes that denote a file have no first fault
-  pub no_fault : Says limit text → (e : TextFault) → (e ≡ NoMemory) ⊎ HasFirstFault limit text e → e ≡ NoMemory
-  no_fault says e h = none_told (tested limit) text (said says) e (says_told limit text says) h
+  pub no_fault : Denotes limit text → (e : TextFault) → (e ≡ NoMemory) ⊎ HasFirstFault limit text e → e ≡ NoMemory
+  no_fault denotes e h = none_given (tested limit) text (denoted denotes) e (denotes_given limit text denotes) h
 
-  pub only_memory : Says limit text → (r : Result (FileParts × Vec Goal Global) TextFault) → AnswersFor limit text r → IfErr r (λ e. e ≡ NoMemory)
-  only_memory says (Ok x) h = tt
-  only_memory says (Err e) h = no_fault says e h
+  pub only_memory : Denotes limit text → (r : Result (FileParts × Vec Goal Global) TextFault) → AnswersFor limit text r → IfErr r (λ e. e ≡ NoMemory)
+  only_memory denotes (Ok x) h = tt
+  only_memory denotes (Err e) h = no_fault denotes e h
 
 pub all_answered : (bytes : List ℕ) (r : Result (FileParts × Vec Goal Global) TextFault) → AnswersFor Batch bytes r → MatchResult r (λ x. ReadsAll bytes x.0 (map goal_tree x.1.items)) (λ e. (e ≡ NoMemory) ⊎ FirstFaultOfAll bytes e)
-all_answered bytes (Ok x) h = record { says = h.says; file = h.file; goals = h.goals }
+all_answered bytes (Ok x) h = record { denotes = h.denotes; file = h.file; goals = h.goals }
 all_answered bytes (Err e) h = h

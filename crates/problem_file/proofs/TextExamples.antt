@@ -157,9 +157,9 @@ bc_left_is = record {
 bc_right_is : IsTerm bc_scope bc_right (test (prim 0))
 bc_right_is = record { sound = subst (IsTermName bc_scope (context 0 false false)) (sym b_means) tt; built = rw b_means refl; small = omega arith }
 
-bc_says : Reads bc_text (file_of bc_state (equal (term_side (test (meet (prim 0) (prim 1)))) (term_side (test (prim 0)))))
-bc_says = record {
-  says = record {
+bc_denotes : Reads bc_text (file_of bc_state (equal (term_side (test (meet (prim 0) (prim 1)))) (term_side (test (prim 0)))))
+bc_denotes = record {
+  denotes = record {
     parts_of_tokens = parts_from 0 bc_pieces;
     lexes = printed bc_pieces bc_separate (omega arith);
     items =
@@ -387,9 +387,9 @@ pb_declared = with_test (with_action start_one (codes "p")) (codes "b")
 abbrev pb_stated : State
 pb_stated = record { limit = (start_one).limit; world = pb_scope; tests = 1; actions = 1; vars = 0; progs = []; prog_names = []; hyps = product (act 0) (test (prim 0)) ∷ []; rounds = None; width = None; goals = []; size = 4 }
 
-pb_says : Reads pb_text (file_of pb_state (triple (named 0) (term_side (star_term (act 0))) (negation (named 0))))
-pb_says = record {
-  says = record {
+pb_denotes : Reads pb_text (file_of pb_state (triple (named 0) (term_side (star_term (act 0))) (negation (named 0))))
+pb_denotes = record {
+  denotes = record {
     parts_of_tokens = parts_from 0 pb_pieces;
     lexes = printed pb_pieces pb_separate (omega arith);
     items =

@@ -25,11 +25,11 @@ use Rattle.while_lang.specs.Files.{SideTree, triple}
 use Rattle.problem_file.specs.Files.{State, most_goals, width_of, state_goal}
 use Rattle.problem_file.specs.Numbers.{AreNarrow, check_numbers}
 use Rattle.problem_file.specs.ItemActions.{Measurement, SidesMeasurement, TripleMeasurement}
-use Rattle.problem_file.specs.Making.{built_cond, built_side, built_goal, count_sides, count_parts, begin_goal, compared, ask_sides, ask_triple, making}
+use Rattle.problem_file.specs.Making.{built_cond, built_side, built_goal, count_sides, count_parts, begin_goal, compared, pose_sides, pose_triple, making}
 use Rattle.problem_file.specs.Phrases.{Names, one_name, more_names, TriplePhrase, Body, tests, actions, variables, definition, program, hypothesis, hyp_triple, rounds, width, goal_equal, goal_below, goal_triple, Item}
 use Rattle.problem_file.specs.Phrases.{braced_onto, triple_onto, sides_onto, ended, spelled, TripleObeys, SidesObey, BodyObeys, ItemsObey, TripleFits, BodyFits, ItemsFit}
 use Rattle.problem_file.specs.Folds.{fold_side, fold_triple, fold_sides, fold_comparison, fold_triple_goal, fold_body, fold_item, fold_items}
-use Rattle.problem_file.specs.Sound.{EachName, DeclaresTest, DeclaresAction, DeclaresVar, side_size, grown, HasRoom, AsksSides, AsksTriple, Makes, MakeAll}
+use Rattle.problem_file.specs.Sound.{EachName, DeclaresTest, DeclaresAction, DeclaresVar, side_size, grown, HasRoom, PosesSides, PosesTriple, Makes, MakeAll}
 use Rattle.problem_file.specs.Laws.{ItemsAreMade}
 use Rattle.problem_file.proofs.Results.{ok_of, same_ok, known}
 use Rattle.problem_file.proofs.FoldedItems.{items_folded}
@@ -40,8 +40,8 @@ use Rattle.problem_file.proofs.WalkedParts.{names_there, names_walked, definitio
 
 -- ---- goals
 
-sides_asked : (c : Comparison) (s t : State) (at : ℕ) (p : Phrase term) (l : Leaf) (q : Phrase term) (e : Leaf) (ts : List Lexeme) → SidesObey p l q (ended e ts) → IsWithinLimits 0 p × IsWithinLimits 0 q → AsksSides (compared c) s p l q e t → fold_comparison making c s at p l q e ts ≡ Ok t
-sides_asked c s t at p l q e ts obey fits h =
+sides_posed : (c : Comparison) (s t : State) (at : ℕ) (p : Phrase term) (l : Leaf) (q : Phrase term) (e : Leaf) (ts : List Lexeme) → SidesObey p l q (ended e ts) → IsWithinLimits 0 p × IsWithinLimits 0 q → PosesSides (compared c) s p l q e t → fold_comparison making c s at p l q e ts ≡ Ok t
+sides_posed c s t at p l q e ts obey fits h =
     let us = ended e ts in
     let after = cons_token (Separator Comma) l (yield_before q us) in
     let own = sides_onto p l q (ended e []) in
@@ -53,22 +53,22 @@ sides_asked c s t at p l q e ts obey fits h =
     let room : HasRoom s ((m.0).nodes + (n.0).nodes) = subst (HasRoom s) (sym count) h.room in
     rw (goal_there s at h.few, (m.1).measured, (n.1).measured, numbers_there (width_of s) own h.numbers, sides_there s at sides (omega (arith, (m.1).nodes, (m.1).small)) (omega (arith, (n.1).nodes, (n.1).small)) room, (m.1).built sum, (n.1).built sum, count, h.made) refl
 
-sides_walked : (c : Comparison) (s t : State) (at : ℕ) (p : Phrase term) (l : Leaf) (q : Phrase term) (e : Leaf) (ts : List Lexeme) → SidesObey p l q (ended e ts) → IsWithinLimits 0 p × IsWithinLimits 0 q → fold_comparison making c s at p l q e ts ≡ Ok t → AsksSides (compared c) s p l q e t
+sides_walked : (c : Comparison) (s t : State) (at : ℕ) (p : Phrase term) (l : Leaf) (q : Phrase term) (e : Leaf) (ts : List Lexeme) → SidesObey p l q (ended e ts) → IsWithinLimits 0 p × IsWithinLimits 0 q → fold_comparison making c s at p l q e ts ≡ Ok t → PosesSides (compared c) s p l q e t
 sides_walked c s t at p l q e ts obey fits h =
     let us = ended e ts in
     let after = cons_token (Separator Comma) l (yield_before q us) in
     let own = sides_onto p l q (ended e []) in
-    let asks = λ (m : SidesMeasurement Extent). check_numbers (width_of s) own >>= λ v. ask_sides c s at m in
-    let a = bind_ok (begin_goal s at) (λ u. fold_sides making s p l q us >>= asks) t h in
-    let z = bind_ok (fold_sides making s p l q us) asks t a.2 in
+    let poses = λ (m : SidesMeasurement Extent). check_numbers (width_of s) own >>= λ v. pose_sides c s at m in
+    let a = bind_ok (begin_goal s at) (λ u. fold_sides making s p l q us >>= poses) t h in
+    let z = bind_ok (fold_sides making s p l q us) poses t a.2 in
     let x = bind_ok (fold_side making s p after) (λ m. fold_side making s q us >>= λ n. Ok (record { left = m; right = n })) z.0 z.1 in
     let y = bind_ok (fold_side making s q us) (λ n. Ok (record { left = x.0; right = n })) z.0 x.2 in
-    let r = bind_ok (check_numbers (width_of s) own) (λ v. ask_sides c s at z.0) t z.2 in
+    let r = bind_ok (check_numbers (width_of s) own) (λ v. pose_sides c s at z.0) t z.2 in
     let sides : SidesMeasurement Extent = record { left = x.0; right = y.0 } in
-    let asked : ask_sides c s at sides ≡ Ok t = subst (λ v. ask_sides c s at v ≡ Ok t) (sym (same_ok sides z.0 y.2)) r.2 in
+    let posed : pose_sides c s at sides ≡ Ok t = subst (λ v. pose_sides c s at v ≡ Ok t) (sym (same_ok sides z.0 y.2)) r.2 in
     let sum = ((x.0).measure).nodes + ((y.0).measure).nodes in
     let made = λ (v : State). built_side v (x.0).tokens >>= λ f. built_side v (y.0).tokens >>= λ g. Ok (state_goal v (compared c f g)) in
-    let b = bind_ok (count_sides s at sides) made t asked in
+    let b = bind_ok (count_sides s at sides) made t posed in
     let d = sides_passed s b.0 at sides b.1 in
     let u = side_walked s p after refl obey.0 fits.0 x.0 x.1 d.0 in
     let v = side_walked s q us refl obey.1 fits.1 y.0 y.1 d.1 in
@@ -104,8 +104,8 @@ goal_built s m x y z e f g =
     ∙ ap (λ r. r >>= λ y. built_cond s true (m.post).tokens >>= λ z. Ok (triple x.0 y z.0)) f
     ∙ ap (λ r. r >>= λ z. Ok (triple x.0 y z.0)) g
 
-triple_asked : (s t : State) (at : ℕ) (x : TriplePhrase) (e : Leaf) (ts : List Lexeme) → TripleObeys x (ended e ts) → TripleFits x → AsksTriple s x e t → fold_triple_goal making s at x e ts ≡ Ok t
-triple_asked s t at x e ts obeys fits h =
+triple_posed : (s t : State) (at : ℕ) (x : TriplePhrase) (e : Leaf) (ts : List Lexeme) → TripleObeys x (ended e ts) → TripleFits x → PosesTriple s x e t → fold_triple_goal making s at x e ts ≡ Ok t
+triple_posed s t at x e ts obeys fits h =
     let us = ended e ts in
     let after = braced_onto x.post us in
     let own = triple_onto x (ended e []) in
@@ -123,12 +123,12 @@ triple_asked s t at x e ts obeys fits h =
 -- a triple with these measures, stated as a goal
 triple_measured : (s t : State) (at : ℕ) (x : TriplePhrase) (e : Leaf) (us : List Lexeme) → TripleObeys x us → TripleFits x → (p : Extent) (q : Measurement Extent) (r : Extent) →
     fold (extents s.world) (context 1 false true) (x.pre).inner (λ m. m) ≡ Ok p → fold_side making s x.body (braced_onto x.post us) ≡ Ok q → fold (extents s.world) (context 1 false true) (x.post).inner (λ m. m) ≡ Ok r →
-    length s.goals < most_goals s.limit → AreNarrow (width_of s) (triple_onto x (ended e [])) → ask_triple s at (goal_at x us p q r) ≡ Ok t → AsksTriple s x e t
-triple_measured s t at x e us obeys fits p q r pre body post few numbers asked =
+    length s.goals < most_goals s.limit → AreNarrow (width_of s) (triple_onto x (ended e [])) → pose_triple s at (goal_at x us p q r) ≡ Ok t → PosesTriple s x e t
+triple_measured s t at x e us obeys fits p q r pre body post few numbers posed =
     let after = braced_onto x.post us in
     let parts = goal_at x us p q r in
     let made = λ (v : State). built_goal v parts >>= λ g. Ok (state_goal v g) in
-    let b = bind_ok (count_parts s at parts) made t asked in
+    let b = bind_ok (count_parts s at parts) made t posed in
     let d = parts_passed s b.0 at parts b.1 in
     let u = cond_walked s.world true (x.pre).inner p pre d.0 in
     let v = side_walked s x.body after refl obeys.1 fits.1 q body d.1 in
@@ -155,19 +155,19 @@ triple_measured s t at x e us obeys fits p q r pre body post few numbers asked =
       made = sym (same_ok _ t f) ∙ ap (λ k. state_goal (grown s k) (triple u.0 v.0 w.0)) count;
     }
 
-triple_walked : (s t : State) (at : ℕ) (x : TriplePhrase) (e : Leaf) (ts : List Lexeme) → TripleObeys x (ended e ts) → TripleFits x → fold_triple_goal making s at x e ts ≡ Ok t → AsksTriple s x e t
+triple_walked : (s t : State) (at : ℕ) (x : TriplePhrase) (e : Leaf) (ts : List Lexeme) → TripleObeys x (ended e ts) → TripleFits x → fold_triple_goal making s at x e ts ≡ Ok t → PosesTriple s x e t
 triple_walked s t at x e ts obeys fits h =
     let us = ended e ts in
     let own = triple_onto x (ended e []) in
-    let asks = λ (m : TripleMeasurement Extent). check_numbers (width_of s) own >>= λ v. ask_triple s at m in
-    let a = bind_ok (begin_goal s at) (λ u. fold_triple making s true x us >>= asks) t h in
-    let z = bind_ok (fold_triple making s true x us) asks t a.2 in
+    let poses = λ (m : TripleMeasurement Extent). check_numbers (width_of s) own >>= λ v. pose_triple s at m in
+    let a = bind_ok (begin_goal s at) (λ u. fold_triple making s true x us >>= poses) t h in
+    let z = bind_ok (fold_triple making s true x us) poses t a.2 in
     let p = after_cond s true (x.pre).inner (cons_token (Separator CurlyClose) (x.pre).right (yield_before x.body (braced_onto x.post us))) _ z.0 z.1 in
     let q = bind_ok (fold_side making s x.body (braced_onto x.post us)) _ z.0 p.2 in
     let r = after_cond s true (x.post).inner (cons_token (Separator CurlyClose) (x.post).right us) _ z.0 q.2 in
-    let i = bind_ok (check_numbers (width_of s) own) (λ v. ask_triple s at z.0) t z.2 in
-    let asked : ask_triple s at (goal_at x us p.0 q.0 r.0) ≡ Ok t = subst (λ v. ask_triple s at v ≡ Ok t) (sym (same_ok (goal_at x us p.0 q.0 r.0) z.0 r.2)) i.2 in
-    triple_measured s t at x e us obeys fits p.0 q.0 r.0 p.1 q.1 r.1 (goal_passed s at a.0 a.1) (numbers_passed (width_of s) own i.0 i.1) asked
+    let i = bind_ok (check_numbers (width_of s) own) (λ v. pose_triple s at z.0) t z.2 in
+    let posed : pose_triple s at (goal_at x us p.0 q.0 r.0) ≡ Ok t = subst (λ v. pose_triple s at v ≡ Ok t) (sym (same_ok (goal_at x us p.0 q.0 r.0) z.0 r.2)) i.2 in
+    triple_measured s t at x e us obeys fits p.0 q.0 r.0 p.1 q.1 r.1 (goal_passed s at a.0 a.1) (numbers_passed (width_of s) own i.0 i.1) posed
 
 -- ---- the expressions of programs stay small
 
@@ -210,9 +210,9 @@ body_there (hypothesis p q z e) s t at ts limited obeys fits h = zero_there s t 
 body_there (hyp_triple l x e) s t at ts limited obeys fits h = triple_hyp_there s t at x (ended e ts) obeys fits h
 body_there (rounds n e) s t at ts limited obeys fits h = rounds_there s at n t h
 body_there (width n e) s t at ts limited obeys fits h = width_there s at n t h
-body_there (goal_equal l p c q e) s t at ts limited obeys fits h = sides_asked Equal s t at p c q e ts obeys fits h
-body_there (goal_below l p c q e) s t at ts limited obeys fits h = sides_asked Below s t at p c q e ts obeys fits h
-body_there (goal_triple l x e) s t at ts limited obeys fits h = triple_asked s t at x e ts obeys fits h
+body_there (goal_equal l p c q e) s t at ts limited obeys fits h = sides_posed Equal s t at p c q e ts obeys fits h
+body_there (goal_below l p c q e) s t at ts limited obeys fits h = sides_posed Below s t at p c q e ts obeys fits h
+body_there (goal_triple l x e) s t at ts limited obeys fits h = triple_posed s t at x e ts obeys fits h
 
 body_walked : (b : Body) (s t : State) (at : ℕ) (ts : List Lexeme) → AreLimited s.progs → BodyObeys b ts → BodyFits b → fold_body making s at b ts ≡ Ok t → Makes s b t
 body_walked (tests ns e) s t at ts limited obeys fits h = names_walked what.Test _ test_declared ns s t h

@@ -25,11 +25,11 @@ pub record Refuses {X : Type 0} (tested : List Lexeme → Result X TextFault) (b
 
 -- the bytes are not a text, and this is their first fault
 pub data IsNoText (bytes : List ℕ) (e : TextFault) : Type 0 where
-  too_long : (told : e ≡ TooLong) → (past : MAX_LEN < length bytes) → IsNoText bytes e
-  not_utf8 : (at : ℕ) → (told : e ≡ NotUtf8 at) → (within : length bytes ≤ MAX_LEN) → (front : IsValidUpTo bytes at) → IsNoText bytes e
+  too_long : (given : e ≡ TooLong) → (past : MAX_LEN < length bytes) → IsNoText bytes e
+  not_utf8 : (at : ℕ) → (given : e ≡ NotUtf8 at) → (within : length bytes ≤ MAX_LEN) → (front : IsValidUpTo bytes at) → IsNoText bytes e
 
 -- the first fault of the bytes, in the order of refusals
 pub data IsFirstFault {X : Type 0} (tested : List Lexeme → Result X TextFault) (bytes : List ℕ) (e : TextFault) : Type 0 where
   no_text : (no : IsNoText bytes e) → IsFirstFault tested bytes e
-  bad_token : (at : ℕ) → (told : e ≡ BadToken at) → (bad : FirstBad bytes at) → IsFirstFault tested bytes e
+  bad_token : (at : ℕ) → (given : e ≡ BadToken at) → (bad : FirstBad bytes at) → IsFirstFault tested bytes e
   refused : (in_tokens : Refuses tested bytes e) → IsFirstFault tested bytes e

@@ -82,11 +82,11 @@ fold_sides g s p c q ts =
 -- a goal, and its own tokens after the keyword of the question
 abbrev pub fold_comparison : {S X : Type 0} → ItemActions S X → Comparison → S → ℕ → Phrase term → Leaf → Phrase term → Leaf → List Lexeme → Result S TextFault
 fold_comparison g what s at p c q e ts =
-    g.begin_goal s at >>= λ u. fold_sides g s p c q (ended e ts) >>= λ m. g.check_numbers s (sides_onto p c q (ended e [])) >>= λ v. g.ask_sides what s at m
+    g.begin_goal s at >>= λ u. fold_sides g s p c q (ended e ts) >>= λ m. g.check_numbers s (sides_onto p c q (ended e [])) >>= λ v. g.pose_sides what s at m
 
 abbrev pub fold_triple_goal : {S X : Type 0} → ItemActions S X → S → ℕ → TriplePhrase → Leaf → List Lexeme → Result S TextFault
 fold_triple_goal g s at x e ts =
-    g.begin_goal s at >>= λ u. fold_triple g s true x (ended e ts) >>= λ m. g.check_numbers s (triple_onto x (ended e [])) >>= λ v. g.ask_triple s at m
+    g.begin_goal s at >>= λ u. fold_triple g s true x (ended e ts) >>= λ m. g.check_numbers s (triple_onto x (ended e [])) >>= λ v. g.pose_triple s at m
 
 -- a program, and its own tokens
 abbrev pub fold_program : {S X : Type 0} → ItemActions S X → S → ℕ → Leaf → BlockPhrase block → List Lexeme → Result S TextFault

@@ -43,5 +43,5 @@ pub record ItemActions (S X : Type 0) : Type 0 where
   pub set : Setting → S → ℕ → ℕ → Result S TextFault
   pub begin_goal : S → ℕ → Result (Unit {0}) TextFault
   pub check_numbers : S → List Lexeme → Result (Unit {0}) TextFault
-  pub ask_sides : Comparison → S → ℕ → SidesMeasurement X → Result S TextFault
-  pub ask_triple : S → ℕ → TripleMeasurement X → Result S TextFault
+  pub pose_sides : Comparison → S → ℕ → SidesMeasurement X → Result S TextFault
+  pub pose_triple : S → ℕ → TripleMeasurement X → Result S TextFault

@@ -6,7 +6,7 @@ use Rattle.text_parser.specs.declared.terminal.Terminal.TheVariants.{Name, Keywo
 use Rattle.text_parser.specs.declared.terminal.Keyword.TheVariants as word
 use Rattle.text_parser.specs.declared.terminal.Separator.TheVariants.{Comma, Semicolon, CurlyOpen, CurlyClose, Equals}
 use Rattle.text_parser.specs.Lexemes.{Lexeme, lexeme, heads, is_terminal}
-use Rattle.text_parser.specs.Parsed.{Parsed, ◌>>=◌, at_end, before, change, wants, then_wants, place_of}
+use Rattle.text_parser.specs.Parsed.{Parsed, ◌>>=◌, at_end, before, change, expects, then_expects, place_of}
 use Rattle.text_parser.specs.Actions.{context}
 use Rattle.text_parser.specs.Conds.{parse_cond, disjunction}
 use Rattle.text_parser.specs.Terms.{parse_term, choice}
@@ -97,7 +97,7 @@ side_by g s ts = named_or ts (program_by g s ts) (term_by g s ts)
 
 -- "{" cond "}"
 abbrev pub braced_by : {S X : Type 0} → ItemActions S X → S → Bool → List Lexeme → Parsed (Measurement X)
-braced_by g s compares ts = wants (is_terminal (Separator CurlyOpen)) ts >>= λ a. then_wants (is_terminal (Separator CurlyClose)) (cond_by g s compares a)
+braced_by g s compares ts = expects (is_terminal (Separator CurlyOpen)) ts >>= λ a. then_expects (is_terminal (Separator CurlyClose)) (cond_by g s compares a)
 
 -- the middle part of a triple: a side of a goal, or the term of a hypothesis
 abbrev pub middle_by : {S X : Type 0} → ItemActions S X → S → Bool → List Lexeme → Parsed (Measurement X)
@@ -113,20 +113,20 @@ triple_by g s in_goal ts =
 
 -- runs the action on one or more phrases after the semicolon that follows them is read
 abbrev pub then_do : {S M : Type 0} → (M → Result S TextFault) → Parsed M → Parsed S
-then_do f m = then_wants (is_terminal (Separator Semicolon)) m >>= λ x. before x.1 (f x.0)
+then_do f m = then_expects (is_terminal (Separator Semicolon)) m >>= λ x. before x.1 (f x.0)
 
 -- the same, after a check of the numbers among all tokens of the item, which are `ts` up to the rest
-abbrev pub then_ask : {S X M : Type 0} → ItemActions S X → S → List Lexeme → (M → Result S TextFault) → Parsed M → Parsed S
-then_ask g s ts f m =
-    then_wants (is_terminal (Separator Semicolon)) m >>= λ x. g.check_numbers s (until ts x.1) >>= λ u. before x.1 (f x.0)
+abbrev pub then_pose : {S X M : Type 0} → ItemActions S X → S → List Lexeme → (M → Result S TextFault) → Parsed M → Parsed S
+then_pose g s ts f m =
+    then_expects (is_terminal (Separator Semicolon)) m >>= λ x. g.check_numbers s (until ts x.1) >>= λ u. before x.1 (f x.0)
 
 -- "test" names ";", "action" names ";" and "var" names ";"
 abbrev pub declaration_by : {S : Type 0} → (S → ℕ → List ℕ → Result S TextFault) → S → List Lexeme → Parsed S
-declaration_by f s ts = then_wants (is_terminal (Separator Semicolon)) (over_names f s ts)
+declaration_by f s ts = then_expects (is_terminal (Separator Semicolon)) (over_names f s ts)
 
 -- "=" term ";"
 abbrev pub meaning_by : {S X : Type 0} → ItemActions S X → S → List Lexeme → Parsed (Measurement X)
-meaning_by g s ts = wants (is_terminal (Separator Equals)) ts >>= λ a. then_wants (is_terminal (Separator Semicolon)) (term_by g s a)
+meaning_by g s ts = expects (is_terminal (Separator Equals)) ts >>= λ a. then_expects (is_terminal (Separator Semicolon)) (term_by g s a)
 
 -- "term" NAME "=" term ";", whose name must be new before the term is read
 abbrev pub definition_by : {S X : Type 0} → ItemActions S X → S → ℕ → List Lexeme → Parsed S
@@ -142,7 +142,7 @@ prog_by g s at ts =
 
 -- "hyp" term "=" "0" ";"
 abbrev pub zero_by : {S X : Type 0} → ItemActions S X → S → ℕ → List Lexeme → Parsed S
-zero_by g s at ts = then_do (g.state_zero s at) (then_wants (is_terminal Zero) (then_wants (is_terminal (Separator Equals)) (term_by g s ts)))
+zero_by g s at ts = then_do (g.state_zero s at) (then_expects (is_terminal Zero) (then_expects (is_terminal (Separator Equals)) (term_by g s ts)))
 
 -- a hypothesis of either form
 abbrev pub hyp_by : {S X : Type 0} → ItemActions S X → S → ℕ → List Lexeme → Parsed S
@@ -152,31 +152,31 @@ hyp_by g s at ts =
 
 -- "rounds" NUMBER ";" and "width" NUMBER ";"
 abbrev pub setting_by : {S X : Type 0} → ItemActions S X → Setting → S → ℕ → List Lexeme → Parsed S
-setting_by g what s at ts = g.begin_setting what s at >>= λ u. then_wants (is_terminal (Separator Semicolon)) (at_number (g.set what s) ts)
+setting_by g what s at ts = g.begin_setting what s at >>= λ u. then_expects (is_terminal (Separator Semicolon)) (at_number (g.set what s) ts)
 
 -- side "," side
 abbrev pub sides_by : {S X : Type 0} → ItemActions S X → S → List Lexeme → Parsed (SidesMeasurement X)
 sides_by g s ts =
-    then_wants (is_terminal (Separator Comma)) (side_by g s ts) >>= λ x. side_by g s x.1 >>= λ y. Ok (record { left = x.0; right = y.0 }, y.1)
+    then_expects (is_terminal (Separator Comma)) (side_by g s ts) >>= λ x. side_by g s x.1 >>= λ y. Ok (record { left = x.0; right = y.0 }, y.1)
 
 -- "equal" term "," term ";" and "below" term "," term ";", after the keyword
 abbrev pub comparison_by : {S X : Type 0} → ItemActions S X → Comparison → S → ℕ → List Lexeme → Parsed S
-comparison_by g c s at ts = then_ask g s ts (g.ask_sides c s at) (sides_by g s ts)
+comparison_by g c s at ts = then_pose g s ts (g.pose_sides c s at) (sides_by g s ts)
 
 -- "triple" triple ";", after the keyword
 abbrev pub triple_goal_by : {S X : Type 0} → ItemActions S X → S → ℕ → List Lexeme → Parsed S
-triple_goal_by g s at ts = then_ask g s ts (g.ask_triple s at) (triple_by g s true ts)
+triple_goal_by g s at ts = then_pose g s ts (g.pose_triple s at) (triple_by g s true ts)
 
 -- the question of a goal, by the keyword after "goal"
-abbrev pub asked_by : {S X : Type 0} → ItemActions S X → S → ℕ → List Lexeme → Parsed S
-asked_by g s at [] = Err (Syntax at_end)
-asked_by g s at (lexeme (Keyword word.Equal) place text ∷ ts) = comparison_by g Equal s at ts
-asked_by g s at (lexeme (Keyword word.Below) place text ∷ ts) = comparison_by g Below s at ts
-asked_by g s at (lexeme (Keyword word.Triple) place text ∷ ts) = triple_goal_by g s at ts
-asked_by g s at (lexeme _ place text ∷ ts) = Err (Syntax place)
+abbrev pub posed_by : {S X : Type 0} → ItemActions S X → S → ℕ → List Lexeme → Parsed S
+posed_by g s at [] = Err (Syntax at_end)
+posed_by g s at (lexeme (Keyword word.Equal) place text ∷ ts) = comparison_by g Equal s at ts
+posed_by g s at (lexeme (Keyword word.Below) place text ∷ ts) = comparison_by g Below s at ts
+posed_by g s at (lexeme (Keyword word.Triple) place text ∷ ts) = triple_goal_by g s at ts
+posed_by g s at (lexeme _ place text ∷ ts) = Err (Syntax place)
 
 abbrev pub goal_by : {S X : Type 0} → ItemActions S X → S → ℕ → List Lexeme → Parsed S
-goal_by g s at ts = g.begin_goal s at >>= λ u. asked_by g s at ts
+goal_by g s at ts = g.begin_goal s at >>= λ u. posed_by g s at ts
 
 -- an item, by its keyword
 abbrev pub item_by : {S X : Type 0} → ItemActions S X → S → List Lexeme → Parsed S

@@ -34,10 +34,10 @@ pub record ItemsAreFolded : Type 0 where
   pub made : (s : State) (items : List Item) (ts : List Lexeme) → IsFile items ts → parse_items s ts ≡ fold_items making s items
 
 -- bytes have exactly one answer or exactly one first fault, which is never `NoMemory`
-pub record HaveOneAnswer {X : Type 0} (Says : List ℕ → X → Type 0) (Fails : List ℕ → TextFault → Type 0) : Type 0 where
-  pub some : (bytes : List ℕ) → ((x : X) × Says bytes x) ⊎ ((e : TextFault) × Fails bytes e)
-  pub either : (bytes : List ℕ) (x : X) (e : TextFault) → Says bytes x → Fails bytes e → ⊥
-  pub values : (bytes : List ℕ) (x y : X) → Says bytes x → Says bytes y → x ≡ y
+pub record HaveOneAnswer {X : Type 0} (Denotes : List ℕ → X → Type 0) (Fails : List ℕ → TextFault → Type 0) : Type 0 where
+  pub some : (bytes : List ℕ) → ((x : X) × Denotes bytes x) ⊎ ((e : TextFault) × Fails bytes e)
+  pub either : (bytes : List ℕ) (x : X) (e : TextFault) → Denotes bytes x → Fails bytes e → ⊥
+  pub values : (bytes : List ℕ) (x y : X) → Denotes bytes x → Denotes bytes y → x ≡ y
   pub faults : (bytes : List ℕ) (d e : TextFault) → Fails bytes d → Fails bytes e → d ≡ e
   pub named : (bytes : List ℕ) → Fails bytes NoMemory → ⊥
 

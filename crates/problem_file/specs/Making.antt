@@ -129,13 +129,13 @@ abbrev pub compared : Comparison → SideTree → SideTree → GoalTree
 compared Equal l r = equal l r
 compared Below l r = below l r
 
-abbrev pub ask_sides : Comparison → State → ℕ → SidesMeasurement Extent → Result State TextFault
-ask_sides c s at m =
+abbrev pub pose_sides : Comparison → State → ℕ → SidesMeasurement Extent → Result State TextFault
+pose_sides c s at m =
     count_sides s at m >>= λ t. built_side t (m.left).tokens >>= λ x. built_side t (m.right).tokens >>= λ y.
     Ok (state_goal t (compared c x y))
 
-abbrev pub ask_triple : State → ℕ → TripleMeasurement Extent → Result State TextFault
-ask_triple s at m = count_parts s at m >>= λ t. built_goal t m >>= λ x. Ok (state_goal t x)
+abbrev pub pose_triple : State → ℕ → TripleMeasurement Extent → Result State TextFault
+pose_triple s at m = count_parts s at m >>= λ t. built_goal t m >>= λ x. Ok (state_goal t x)
 
 abbrev pub making : ItemActions State Extent
 making = record {
@@ -153,8 +153,8 @@ making = record {
   set = set;
   begin_goal = begin_goal;
   check_numbers = λ s ts. check_numbers (width_of s) ts;
-  ask_sides = ask_sides;
-  ask_triple = ask_triple;
+  pose_sides = pose_sides;
+  pose_triple = pose_triple;
 }
 
 -- the state that all items make, or the first fault of the first item that has one

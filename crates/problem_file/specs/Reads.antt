@@ -22,7 +22,7 @@ start_one = start One
 
 -- The bytes denote a file with at most the allowed number of goals: they are the tokens of a file, nothing in them is
 -- too deep or too wide, each item makes the next state, and at least one item is a goal.
-pub record Says (limit : GoalLimit) (bytes : List ℕ) : Type 0 where
+pub record Denotes (limit : GoalLimit) (bytes : List ℕ) : Type 0 where
   pub parts_of_tokens : List TokenParts
   pub lexes : Lexes bytes parts_of_tokens
   pub items : List Item
@@ -34,14 +34,14 @@ pub record Says (limit : GoalLimit) (bytes : List ℕ) : Type 0 where
 
 -- the bytes denote this file, which has one goal
 pub record Reads (bytes : List ℕ) (f : FileParts) : Type 0 where
-  pub says : Says One bytes
-  pub file : f ≡ file_of says.state says.goal
+  pub denotes : Denotes One bytes
+  pub file : f ≡ file_of denotes.state denotes.goal
 
 -- the bytes denote this file with its first goal, and the goals after it
 pub record ReadsAll (bytes : List ℕ) (f : FileParts) (more : List GoalTree) : Type 0 where
-  pub says : Says Batch bytes
-  pub file : f ≡ file_of says.state says.goal
-  pub goals : more ≡ drop 1 (says.state).goals
+  pub denotes : Denotes Batch bytes
+  pub file : f ≡ file_of denotes.state denotes.goal
+  pub goals : more ≡ drop 1 (denotes.state).goals
 
 -- ---- the first fault
 

@@ -175,7 +175,7 @@ pub record SetsWidth (s : State) (x : Numeral) (t : State) : Type 0 where
 -- ---- goals
 
 -- a goal of two sides, within the limit of goals; its item has no number of 2 to the width or more
-pub record AsksSides (f : SideTree → SideTree → GoalTree) (s : State) (p : Phrase term) (comma : Leaf) (q : Phrase term) (end : Leaf) (t : State) : Type 0 where
+pub record PosesSides (f : SideTree → SideTree → GoalTree) (s : State) (p : Phrase term) (comma : Leaf) (q : Phrase term) (end : Leaf) (t : State) : Type 0 where
   pub few : length s.goals < most_goals s.limit
   pub left : SideTree
   pub right : SideTree
@@ -186,7 +186,7 @@ pub record AsksSides (f : SideTree → SideTree → GoalTree) (s : State) (p : P
   pub made : t ≡ state_goal (grown s (side_size left + side_size right)) (f left right)
 
 -- a goal of a side between two conditions, which may compare
-pub record AsksTriple (s : State) (x : TriplePhrase) (end : Leaf) (t : State) : Type 0 where
+pub record PosesTriple (s : State) (x : TriplePhrase) (end : Leaf) (t : State) : Type 0 where
   pub few : length s.goals < most_goals s.limit
   pub pre : CondTree
   pub body : SideTree
@@ -211,9 +211,9 @@ Makes s (hypothesis p q z e) t = States s p t
 Makes s (hyp_triple l x e) t = StatesTriple s x t
 Makes s (rounds n e) t = SetsRounds s n t
 Makes s (width n e) t = SetsWidth s n t
-Makes s (goal_equal l p c q e) t = AsksSides equal s p c q e t
-Makes s (goal_below l p c q e) t = AsksSides below s p c q e t
-Makes s (goal_triple l x e) t = AsksTriple s x e t
+Makes s (goal_equal l p c q e) t = PosesSides equal s p c q e t
+Makes s (goal_below l p c q e) t = PosesSides below s p c q e t
+Makes s (goal_triple l x e) t = PosesTriple s x e t
 
 -- the items lead from state `s` to state `t`, one after the other
 abbrev pub MakeAll : State → List Item → State → Type 0

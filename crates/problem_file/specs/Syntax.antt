@@ -24,8 +24,8 @@ checking = record {
   set = λ what s at n. Ok tt;
   begin_goal = λ s at. Ok tt;
   check_numbers = λ s ts. Ok tt;
-  ask_sides = λ c s at m. Ok tt;
-  ask_triple = λ s at m. Ok tt;
+  pose_sides = λ c s at m. Ok tt;
+  pose_triple = λ s at m. Ok tt;
 }
 
 abbrev pub scan_file : List Lexeme → Result (Unit {0}) TextFault

@@ -6,7 +6,7 @@ ghost use Rattle.text_parser.specs.ScopeParts.{IsIdentifier};
 ghost use Rattle.problem_file.specs.ItemActions.{ItemActions};
 ghost use Rattle.problem_file.specs.Numbers.{until};
 ghost use Rattle.problem_file.specs.Items.{measure_term, measure_cond, measure_block};
-ghost use Rattle.problem_file.specs.Working.Walks.{measured_of, sides_of, triple_of, Tells, Does};
+ghost use Rattle.problem_file.specs.Working.Walks.{measured_of, sides_of, triple_of, Represents, Does};
 
 use crate::phrase::{Measured, MeasuredSides, MeasuredTriple};
 use text_parser::{TextFault, Token};
@@ -53,7 +53,7 @@ pub(crate) trait ItemReading {
 
     // Returns the measure of the term that begins at `from` and the index after it, or its first fault.
     fn measure_term(&self, toks: &[Token], from: usize) -> Result<(Self::Measure, usize), TextFault>
-        ensures value { Tells (λ ts m. m) toks.now from result (measure_term actions (state self.now)) }
+        ensures value { Represents (λ ts m. m) toks.now from result (measure_term actions (state self.now)) }
         ensures goes { Goes from (length toks.now) result };
 
     // The same for a condition in braces; `compares` is whether it may compare expressions.
@@ -63,7 +63,7 @@ pub(crate) trait ItemReading {
         from: usize,
         compares: bool,
     ) -> Result<(Self::Measure, usize), TextFault>
-        ensures value { Tells (λ ts m. m) toks.now from result (measure_cond actions (state self.now) compares) }
+        ensures value { Represents (λ ts m. m) toks.now from result (measure_cond actions (state self.now) compares) }
         ensures goes { Goes from (length toks.now) result };
 
     // The same for a block of statements.
@@ -72,7 +72,7 @@ pub(crate) trait ItemReading {
         toks: &[Token],
         from: usize,
     ) -> Result<(Self::Measure, usize), TextFault>
-        ensures value { Tells (λ ts m. m) toks.now from result (measure_block actions (state self.now)) }
+        ensures value { Represents (λ ts m. m) toks.now from result (measure_block actions (state self.now)) }
         ensures goes { Goes from (length toks.now) result };
 
     // Returns the measure of the program with that name, if a side of a goal may be a program.
@@ -170,7 +170,7 @@ pub(crate) trait ItemReading {
         ensures { Makes ⊥ (λ u. u) result ((actions).begin_goal (state self.now) at) };
 
     // States the goal that compares two sides.
-    fn ask_sides(
+    fn pose_sides(
         &mut self,
         toks: &[Token],
         at: usize,
@@ -178,18 +178,18 @@ pub(crate) trait ItemReading {
         sides: MeasuredSides<Self::Measure>,
     ) -> Result<(), TextFault>
         ensures { Does memory result (state self.new) (
-            (actions).ask_sides comparison (state self.old) at
+            (actions).pose_sides comparison (state self.old) at
             (sides_of (lexemes toks.now) sides)
             ) };
 
     // States the goal that a triple holds.
-    fn ask_triple(
+    fn pose_triple(
         &mut self,
         toks: &[Token],
         at: usize,
         triple: MeasuredTriple<Self::Measure>,
     ) -> Result<(), TextFault>
         ensures { Does memory result (state self.new) (
-            (actions).ask_triple (state self.old) at (triple_of (lexemes toks.now) triple)
+            (actions).pose_triple (state self.old) at (triple_of (lexemes toks.now) triple)
             ) };
 }

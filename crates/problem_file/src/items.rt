@@ -7,7 +7,7 @@ ghost use Rattle.problem_file.specs.Items.{braced_by, middle_by, triple_by, side
 ghost use Rattle.problem_file.specs.Items.{definition_by, prog_by, zero_by, hyp_by, setting_by, comparison_by};
 ghost use Rattle.problem_file.specs.Items.{triple_goal_by, goal_by};
 ghost use Rattle.problem_file.specs.Items.{item_by, items_by};
-ghost use Rattle.problem_file.specs.Working.Walks.{measured_of, sides_of, triple_of, Tells, Steps, Does};
+ghost use Rattle.problem_file.specs.Working.Walks.{measured_of, sides_of, triple_of, Represents, Steps, Does};
 ghost use Rattle.problem_file.specs.Working.Followed.{Follows};
 
 use crate::item_reading::{Comparison, Declared, ItemReading, Setting};
@@ -95,7 +95,7 @@ fn term_at<R: ItemReading>(
     toks: &[Token],
     from: usize,
 ) -> Result<(Measured<R::Measure>, usize), TextFault>
-    ensures value { Tells measured_of toks.now from result (term_by R.actions (R.state reading.now)) }
+    ensures value { Represents measured_of toks.now from result (term_by R.actions (R.state reading.now)) }
     ensures goes { IfOk result (λ x. (from < x.1) × (x.1 ≤ length toks.now)) }
 {
     let (measure, end) = reading.measure_term(toks, from)?;
@@ -109,7 +109,7 @@ fn braced_at<R: ItemReading>(
     from: usize,
     compares: bool,
 ) -> Result<(Measured<R::Measure>, usize), TextFault>
-    ensures value { Tells measured_of toks.now from result (braced_by R.actions (R.state reading.now) compares) }
+    ensures value { Represents measured_of toks.now from result (braced_by R.actions (R.state reading.now) compares) }
     ensures goes { IfOk result (λ x. (from < x.1) × (x.1 ≤ length toks.now)) }
 {
     let from = expect(toks, from, Terminal::Separator(Separator::CurlyOpen))?;
@@ -136,7 +136,7 @@ fn side_at<R: ItemReading>(
     toks: &[Token],
     from: usize,
 ) -> Result<(Measured<R::Measure>, usize), TextFault>
-    ensures value { Tells measured_of toks.now from result (side_by R.actions (R.state reading.now)) }
+    ensures value { Represents measured_of toks.now from result (side_by R.actions (R.state reading.now)) }
     ensures goes { IfOk result (λ x. (from < x.1) × (x.1 ≤ length toks.now)) }
 {
     match program_at(reading, toks, from) {
@@ -152,7 +152,7 @@ fn middle_at<R: ItemReading>(
     from: usize,
     in_goal: bool,
 ) -> Result<(Measured<R::Measure>, usize), TextFault>
-    ensures value { Tells measured_of toks.now from result (middle_by R.actions (R.state reading.now) in_goal) }
+    ensures value { Represents measured_of toks.now from result (middle_by R.actions (R.state reading.now) in_goal) }
     ensures goes { IfOk result (λ x. (from < x.1) × (x.1 ≤ length toks.now)) }
 {
     if in_goal {
@@ -168,7 +168,7 @@ fn triple_at<R: ItemReading>(
     from: usize,
     in_goal: bool,
 ) -> Result<(MeasuredTriple<R::Measure>, usize), TextFault>
-    ensures value { Tells triple_of toks.now from result (triple_by R.actions (R.state reading.now) in_goal) }
+    ensures value { Represents triple_of toks.now from result (triple_by R.actions (R.state reading.now) in_goal) }
     ensures goes { IfOk result (λ x. (from < x.1) × (x.1 ≤ length toks.now)) }
 {
     let (pre, end) = braced_at(reading, toks, from, in_goal)?;
@@ -182,7 +182,7 @@ fn sides_at<R: ItemReading>(
     toks: &[Token],
     from: usize,
 ) -> Result<(MeasuredSides<R::Measure>, usize), TextFault>
-    ensures value { Tells sides_of toks.now from result (sides_by R.actions (R.state reading.now)) }
+    ensures value { Represents sides_of toks.now from result (sides_by R.actions (R.state reading.now)) }
     ensures goes { IfOk result (λ x. (from < x.1) × (x.1 ≤ length toks.now)) }
 {
     let left = side_at(reading, toks, from);
@@ -196,7 +196,7 @@ fn block_at<R: ItemReading>(
     toks: &[Token],
     from: usize,
 ) -> Result<(Measured<R::Measure>, usize), TextFault>
-    ensures value { Tells measured_of toks.now from result (block_by R.actions (R.state reading.now)) }
+    ensures value { Represents measured_of toks.now from result (block_by R.actions (R.state reading.now)) }
     ensures goes { IfOk result (λ x. (from < x.1) × (x.1 ≤ length toks.now)) }
 {
     let (measure, end) = reading.measure_block(toks, from)?;
@@ -209,7 +209,7 @@ fn meaning_at<R: ItemReading>(
     toks: &[Token],
     from: usize,
 ) -> Result<(Measured<R::Measure>, usize), TextFault>
-    ensures value { Tells measured_of toks.now from result (meaning_by R.actions (R.state reading.now)) }
+    ensures value { Represents measured_of toks.now from result (meaning_by R.actions (R.state reading.now)) }
     ensures goes { IfOk result (λ x. (from < x.1) × (x.1 ≤ length toks.now)) }
 {
     let from = expect(toks, from, Terminal::Separator(Separator::Equals))?;
@@ -341,7 +341,7 @@ fn read_comparison<R: ItemReading>(
     let sides = sides_at(reading, toks, from);
     let (sides, end) = expect_after(sides, toks, Terminal::Separator(Separator::Semicolon))?;
     reading.check_numbers(toks, from, end)?;
-    reading.ask_sides(toks, at, comparison, sides).and(Ok(end))
+    reading.pose_sides(toks, at, comparison, sides).and(Ok(end))
 }
 
 fn read_triple_goal<R: ItemReading>(
@@ -358,7 +358,7 @@ fn read_triple_goal<R: ItemReading>(
     let triple = triple_at(reading, toks, from, true);
     let (triple, end) = expect_after(triple, toks, Terminal::Separator(Separator::Semicolon))?;
     reading.check_numbers(toks, from, end)?;
-    reading.ask_triple(toks, at, triple).and(Ok(end))
+    reading.pose_triple(toks, at, triple).and(Ok(end))
 }
 
 fn read_goal<R: ItemReading>(

@@ -12,7 +12,7 @@ ghost use Rattle.problem_file.specs.CommentedTexts.{Comments, commented_text, Is
 ghost use Rattle.problem_file.specs.NamedTexts.{named_text, IsNamedPrintable};
 ghost use Rattle.problem_file.specs.Questions.{question_text, IsPrintable};
 ghost use Rattle.problem_file.specs.ProgramTexts.{one_program_text, programs_text, triple_text, IsOnePrintable, ArePrintable, IsTriplePrintable};
-ghost use Rattle.problem_file.specs.TextLaws.{AsksEqual, AsksOfPrograms, SaysProgram};
+ghost use Rattle.problem_file.specs.TextLaws.{PosesEqual, PosesPrograms, DenotesProgram};
 
 /// The syntax check accepts all tokens exactly when they are one phrase `file` of the grammar and nothing in them is
 /// too deep or too wide.
@@ -48,33 +48,33 @@ pub fn are_in_ranges()
 
 /// The plain text of a question reads back as exactly that question, if it is within the limits of a text.
 pub fn plain_texts_read_back()
-    ensures { (q : ProblemParts) → IsPrintable q → AsksEqual (question_text q) q }
+    ensures { (q : ProblemParts) → IsPrintable q → PosesEqual (question_text q) q }
 {}
 
 /// The same holds of the text with any names of the tests and actions: identifiers, of which no two are the same.
 pub fn named_texts_read_back()
-    ensures { (names : Meaning → List ℕ) (q : ProblemParts) → IsNamedPrintable names q → AsksEqual (named_text names q) q }
+    ensures { (names : Meaning → List ℕ) (q : ProblemParts) → IsNamedPrintable names q → PosesEqual (named_text names q) q }
 {}
 
 /// It also holds with comments, each a line of text, before the declarations and the hypotheses.
 pub fn commented_texts_read_back()
-    ensures { (names : Meaning → List ℕ) (c : Comments) (q : ProblemParts) → IsCommentedPrintable names c q → AsksEqual (commented_text names c q) q }
+    ensures { (names : Meaning → List ℕ) (c : Comments) (q : ProblemParts) → IsCommentedPrintable names c q → PosesEqual (commented_text names c q) q }
 {}
 
 /// The plain text of two programs reads back as the goal that they are equal, if it is within the limits of a text. The
 /// file has that width and number of variables, and no tests, actions, terms or hypotheses.
 pub fn plain_programs_read_back()
-    ensures { (w : Width) (v : ℕ) (p q : ProgTree) → ArePrintable w v p q → AsksOfPrograms (programs_text w v p q) w v (equal (prog_side p) (prog_side q)) }
+    ensures { (w : Width) (v : ℕ) (p q : ProgTree) → ArePrintable w v p q → PosesPrograms (programs_text w v p q) w v (equal (prog_side p) (prog_side q)) }
 {}
 
 /// The plain text of a triple of a program reads back likewise as the goal of that triple.
 pub fn plain_triples_read_back()
-    ensures { (w : Width) (v : ℕ) (b : CondTree) (p : ProgTree) (c : CondTree) → IsTriplePrintable w v b p c → AsksOfPrograms (triple_text w v b p c) w v (triple b (prog_side p) c) }
+    ensures { (w : Width) (v : ℕ) (b : CondTree) (p : ProgTree) (c : CondTree) → IsTriplePrintable w v b p c → PosesPrograms (triple_text w v b p c) w v (triple b (prog_side p) c) }
 {}
 
 /// The text of one program over variables of any names reads back as a file of that width and those variables, with
 /// that program under its name and nothing else, if it is within the limits of a text.
 pub fn named_programs_read_back()
     ensures { (names : Meaning → List ℕ) (w : Width) (v : ℕ) (name : List ℕ) (p : ProgTree) → IsOnePrintable names w v name p
-        → SaysProgram (one_program_text names w v name p) names w v name p }
+        → DenotesProgram (one_program_text names w v name p) names w v name p }
 {}

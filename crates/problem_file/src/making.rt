@@ -13,7 +13,7 @@ ghost use Rattle.problem_file.specs.Numbers.{until, check_numbers};
 ghost use Rattle.problem_file.specs.Items.{lone_name};
 ghost use Rattle.problem_file.specs.Making.{program_extent, program_or, count, count_sides, count_parts, built_term, built_side};
 ghost use Rattle.problem_file.specs.Making.{built_triple, built_goal, compared, define_term, define_prog};
-ghost use Rattle.problem_file.specs.Making.{state_zero, state_triple, ask_sides, ask_triple, making};
+ghost use Rattle.problem_file.specs.Making.{state_zero, state_triple, pose_sides, pose_triple, making};
 ghost use Rattle.while_lang.specs.Trees.{side_tree, goal_tree};
 ghost use Rattle.problem_file.specs.Working.NumberSteps.{check_first};
 ghost use Rattle.problem_file.specs.Working.Walks.{measured_of, sides_of, triple_of, Builds};
@@ -477,7 +477,7 @@ impl ItemReading for ItemReader {
         Err(self.limit.fault(at))
     }
 
-    fn ask_sides(
+    fn pose_sides(
         &mut self,
         toks: &[Token],
         at: usize,
@@ -485,7 +485,7 @@ impl ItemReading for ItemReader {
         sides: MeasuredSides<Extent>,
     ) -> Result<(), TextFault>
         ensures { Leaves result self.new (
-            ask_sides comparison (state_of self.old) at (sides_of (lexemes toks.now) sides)
+            pose_sides comparison (state_of self.old) at (sides_of (lexemes toks.now) sides)
             ) }
     {
         self.count_sides(toks, at, sides)?;
@@ -494,14 +494,14 @@ impl ItemReading for ItemReader {
         self.add_goal(comparison_goal(comparison, left, right))
     }
 
-    fn ask_triple(
+    fn pose_triple(
         &mut self,
         toks: &[Token],
         at: usize,
         triple: MeasuredTriple<Extent>,
     ) -> Result<(), TextFault>
         ensures { Leaves result self.new (
-            ask_triple (state_of self.old) at (triple_of (lexemes toks.now) triple)
+            pose_triple (state_of self.old) at (triple_of (lexemes toks.now) triple)
             ) }
     {
         self.count_parts(toks, at, triple)?;

@@ -11,7 +11,7 @@ ghost use Rattle.problem_file.specs.Making.{parse_items};
 ghost use Rattle.problem_file.specs.Tokens.{AreTokens};
 ghost use Rattle.problem_file.specs.Working.States.{state_of};
 ghost use Rattle.problem_file.specs.FirstFaults.{IsNoText, placed};
-ghost use Rattle.problem_file.specs.Reads.{Says, HasFirstFault, Reads, ReadsAll, FirstFaultOfAll, tested, Answers};
+ghost use Rattle.problem_file.specs.Reads.{Denotes, HasFirstFault, Reads, ReadsAll, FirstFaultOfAll, tested, Answers};
 ghost use Rattle.problem_file.specs.Working.Files.{AnswersFor};
 
 use crate::goal_limit::GoalLimit;

@@ -3,7 +3,7 @@ ghost use Rattle.std.specs.Prelude.{◌≡◌, length, Ok};
 ghost use Rattle.text_parser.specs.Lexemes.{lexemes};
 ghost use Rattle.text_parser.specs.Parsed.{Goes};
 ghost use Rattle.problem_file.specs.Tokens.{AreTokens};
-ghost use Rattle.problem_file.specs.Working.Walks.{Tells};
+ghost use Rattle.problem_file.specs.Working.Walks.{Represents};
 ghost use Rattle.problem_file.specs.Items.{measure_block};
 ghost use Rattle.problem_file.specs.Syntax.{checking, scan_file};
 
@@ -15,7 +15,7 @@ use while_lang::block_end;
 
 // Checks that a block begins at an index, and returns the index after it.
 fn measure_block(toks: &[Token], from: usize) -> Result<((), usize), TextFault>
-    ensures value { Tells (λ ts m. m) toks.now from result (measure_block checking tt) }
+    ensures value { Represents (λ ts m. m) toks.now from result (measure_block checking tt) }
     ensures goes { Goes from (length toks.now) result }
 {
     match block_end(toks, from, 0) {
@@ -123,7 +123,7 @@ impl ItemReading for Syntax {
         Ok(())
     }
 
-    fn ask_sides(
+    fn pose_sides(
         &mut self,
         _: &[Token],
         _: usize,
@@ -135,7 +135,7 @@ impl ItemReading for Syntax {
         Ok(())
     }
 
-    fn ask_triple(&mut self, _: &[Token], _: usize, _: MeasuredTriple<()>) -> Result<(), TextFault>
+    fn pose_triple(&mut self, _: &[Token], _: usize, _: MeasuredTriple<()>) -> Result<(), TextFault>
         ensures { result ≡ Ok tt }
     {
         Ok(())

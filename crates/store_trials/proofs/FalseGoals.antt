@@ -12,7 +12,7 @@ use Rattle.while_lang.proofs.Outcomes.{one_outcome}
 use Rattle.one_loop.proofs.KeptStores.{goes_kept}
 use Rattle.while_lang.specs.Files.{term_side, prog_side, GoalTree, equal, below, triple, FileParts}
 use Rattle.while_lang.specs.Ranges.{IsCondInRange, IsProgInRange, IsGoalInRange}
-use Rattle.while_lang.specs.Concrete.{AsksOfProgs, IsConcrete, IsStoreOf, EndAlike, MeetsTriple, GoalAgrees}
+use Rattle.while_lang.specs.Concrete.{PosesProgs, IsConcrete, IsStoreOf, EndAlike, MeetsTriple, GoalAgrees}
 use Rattle.store_trials.specs.RunEnds.{EndParts}
 use Rattle.store_trials.specs.Trials.{EndApart, BreaksTriple, IsFalseFrom, OutcomesDiffer, OutcomeFails, AreEnds, ShowFalse, IsConcreteGoal}
 use Rattle.store_trials.specs.Laws.{IsFalse}
@@ -43,18 +43,18 @@ module _ (v : ℕ) where
       and_true (and_true (cond_is_concrete b h.0) (and_true (prog_is_concrete p h.1) (prog_is_concrete q h.2))) (prog_is_concrete rest h.3)
   prog_is_concrete (loop_then b p rest) h = and_true (and_true (cond_is_concrete b h.0) (prog_is_concrete p h.1)) (prog_is_concrete rest h.2)
 
-  goal_is_concrete : (g : GoalTree) → AsksOfProgs g → IsGoalInRange 0 0 v g → IsConcreteGoal g
-  goal_is_concrete (equal (prog_side p) (prog_side q)) asks h = (prog_is_concrete p h.0, prog_is_concrete q h.1)
-  goal_is_concrete (equal (prog_side p) (term_side e)) asks h = absurd asks
-  goal_is_concrete (equal (term_side e) t) asks h = absurd asks
-  goal_is_concrete (below s t) asks h = absurd asks
-  goal_is_concrete (triple b (prog_side p) c) asks h = prog_is_concrete p h.1
-  goal_is_concrete (triple b (term_side e) c) asks h = absurd asks
+  goal_is_concrete : (g : GoalTree) → PosesProgs g → IsGoalInRange 0 0 v g → IsConcreteGoal g
+  goal_is_concrete (equal (prog_side p) (prog_side q)) poses h = (prog_is_concrete p h.0, prog_is_concrete q h.1)
+  goal_is_concrete (equal (prog_side p) (term_side e)) poses h = absurd poses
+  goal_is_concrete (equal (term_side e) t) poses h = absurd poses
+  goal_is_concrete (below s t) poses h = absurd poses
+  goal_is_concrete (triple b (prog_side p) c) poses h = prog_is_concrete p h.1
+  goal_is_concrete (triple b (term_side e) c) poses h = absurd poses
 
 -- the goal of a concrete file is concrete
 pub concrete_goal : (f : FileParts) → IsConcrete f → IsGoalInRange f.tests f.actions f.vars f.goal → IsConcreteGoal f.goal
 concrete_goal f concrete range =
-    goal_is_concrete f.vars f.goal concrete.asks
+    goal_is_concrete f.vars f.goal concrete.poses
     (subst (λ t. IsGoalInRange t 0 f.vars f.goal) concrete.tests (subst (λ a. IsGoalInRange f.tests a f.vars f.goal) concrete.actions range))
 
 -- ---- runs have one end

@@ -1,4 +1,6 @@
-//! Trying a goal on stores: the stores, those from which a string can be followed, and what runs from a store show.
+//! Tries a goal on stores, those that follow a string first.
+//!
+//! The crate has the stores, those from which a string can be followed, and what runs from a store show.
 #![tactic(auto)]
 
 mod draws;

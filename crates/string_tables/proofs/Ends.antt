@@ -24,13 +24,13 @@ module _ (q : ProblemParts) (x : GuardedString) where
 
   -- whether the sides relate the ends gives the finding
 
-  pub agree_told : (l r : Bool) → Counts q x → IsTrue l ↔ RelatesEnds x q.left → IsTrue r ↔ RelatesEnds x q.right → l ≡ r → IsFinding q x (EndsAgree l)
-  agree_told true r counts left right same = (counts, left.0 refl, right.0 (sym same))
-  agree_told false r counts left right same = (counts, (λ h. false≢true (left.1 h)), (λ h. both_ways r (sym same) (right.1 h)))
+  pub agree_given : (l r : Bool) → Counts q x → IsTrue l ↔ RelatesEnds x q.left → IsTrue r ↔ RelatesEnds x q.right → l ≡ r → IsFinding q x (EndsAgree l)
+  agree_given true r counts left right same = (counts, left.0 refl, right.0 (sym same))
+  agree_given false r counts left right same = (counts, (λ h. false≢true (left.1 h)), (λ h. both_ways r (sym same) (right.1 h)))
 
-  pub differ_told : (l r : Bool) → Counts q x → IsTrue l ↔ RelatesEnds x q.left → IsTrue r ↔ RelatesEnds x q.right → l ≢ r → IsFinding q x (RefutesBy l)
-  differ_told true r counts left right differ = (counts, left.0 refl, (λ h. differ (sym (right.1 h))))
-  differ_told false r counts left right differ = (counts, (λ h. false≢true (left.1 h)), right.0 (true_from_ne_false r (λ none. differ (sym none))))
+  pub differ_given : (l r : Bool) → Counts q x → IsTrue l ↔ RelatesEnds x q.left → IsTrue r ↔ RelatesEnds x q.right → l ≢ r → IsFinding q x (RefutesBy l)
+  differ_given true r counts left right differ = (counts, left.0 refl, (λ h. differ (sym (right.1 h))))
+  differ_given false r counts left right differ = (counts, (λ h. false≢true (left.1 h)), right.0 (true_from_ne_false r (λ none. differ (sym none))))
 
   -- the finding `Refutes` shows a refutation, and no other finding does
 

@@ -28,15 +28,15 @@ module _ (x : GuardedString) (e : Term) where
       (relates_by_part x e i j low within).1 (record { order = order; accepted = is })
 
   -- the ends are related if a part ends at the last position that begins at the first
-  pub ends_told : (n : ℕ) (o : Option ℕ) → n ≡ length x.rest → MatchOption o (HasNoEnd x e 0 1 n) (λ j. IsFirstEnd x e 0 1 n j) → IsTrue (is_some o) ↔ RelatesEnds x e
-  ends_told n None count none = (
+  pub ends_given : (n : ℕ) (o : Option ℕ) → n ≡ length x.rest → MatchOption o (HasNoEnd x e 0 1 n) (λ j. IsFirstEnd x e 0 1 n j) → IsTrue (is_some o) ↔ RelatesEnds x e
+  ends_given n None count none = (
     (λ t. absurd (false≢true t)),
     (λ r.
         let first : 0 ≤ length x.rest = omega arith in
         let last : length x.rest ≤ length x.rest = omega arith in
         absurd (unaccepted_unrelated 0 (length x.rest) first last (λ _. subst (λ k. accepts_part x e 0 k ≡ false) count (no_whole_part x e n count none)) r)),
   )
-  ends_told n (Some j) count f = (
+  ends_given n (Some j) count f = (
     (λ _.
         let first : 0 ≤ length x.rest = omega arith in
         let last : length x.rest ≤ length x.rest = omega arith in

@@ -11,8 +11,8 @@ use Rattle.kat_model.specs.Trees.{Term}
 use Rattle.kat_model.specs.Relations.{Step, Table, Relates}
 use Rattle.kat_model.specs.Working.Decided.{some_below, same_step, computes_relation}
 use Rattle.kat_model.proofs.Decided.{relates_now_decides}
-use Rattle.string_tables.specs.Working.Matrices.{Square, entry, Tells, in_image, IsImage}
-use Rattle.string_tables.proofs.Told.{some_below_same}
+use Rattle.string_tables.specs.Working.Matrices.{Square, entry, Represents, in_image, IsImage}
+use Rattle.string_tables.proofs.Reported.{some_below_same}
 
 -- laws of `and` and `or`
 
@@ -140,8 +140,8 @@ module _ (n : ℕ) (row : List Bool) where
       joined j lj ∙ ap₂ ◌||◌ (left j lj) (right j lj ∙ again) ∙ sym (in_union r q j)
 
   -- under the relation that a matrix represents
-  pub image_told : (r : ℕ → ℕ → Bool) (m : Square) (to : List Bool) → Tells n m r → IsImage n row (entry m) to → IsImage n row r to
-  image_told r m to told image j lj = image j lj ∙ some_below_same _ _ n (λ k lk. ap (λ b. in_set k && b) (told k j lk lj))
+  pub image_given : (r : ℕ → ℕ → Bool) (m : Square) (to : List Bool) → Represents n m r → IsImage n row (entry m) to → IsImage n row r to
+  image_given r m to given image j lj = image j lj ∙ some_below_same _ _ n (λ k lk. ap (λ b. in_set k && b) (given k j lk lj))
 
   -- of one number
   pub image_of_one : (r : ℕ → ℕ → Bool) (to : List Bool) (i : ℕ) → i < n → ((k : ℕ) → k < n → slice_index_or row k false ≡ eqb k i) → IsImage n row r to → (j : ℕ) → j < n → slice_index_or to j false ≡ r i j
@@ -159,5 +159,5 @@ marked_alone n i cleared row room empty is k lk =
 -- an entry of the image of one state decides whether the term relates that state to the state of the entry
 pub image_decides : (t : Table) (e : Term) (row to : List Bool) (i j : ℕ) → i < t.states → j < t.states → ((k : ℕ) → k < t.states → slice_index_or row k false ≡ eqb k i) → IsImage t.states row (computes_relation t e) to → (b : Bool) → b ≡ slice_index_or to j false → IsTrue b ↔ Relates t e i j
 image_decides t e row to i j li lj one image b is =
-    let told = image_of_one t.states row (computes_relation t e) to i li one image j lj in
-    rw (is, told) (relates_now_decides t e i j li lj)
+    let given = image_of_one t.states row (computes_relation t e) to i li one image j lj in
+    rw (is, given) (relates_now_decides t e i j li lj)

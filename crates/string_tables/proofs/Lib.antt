@@ -1,6 +1,6 @@
 pub mod Readings
 pub mod Rooms
-pub mod Told
+pub mod Reported
 pub mod Images
 pub mod OneMoveMore
 pub mod Positions
@@ -11,7 +11,7 @@ pub mod Places
 pub mod Fitting
 pub mod Counterexamples
 pub mod FirstBreaks
-pub mod Asking
+pub mod Querying
 pub mod Ends
 pub mod Elimination
 pub mod OneFinding

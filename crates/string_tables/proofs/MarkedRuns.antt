@@ -11,8 +11,8 @@ use Rattle.kat_model.proofs.Cuts.{last_atom-append}
 use Rattle.kat_model.proofs.Numbers.{below_next}
 use Rattle.string_tables.specs.Working.Marks.{MarkTree, nowhere, reached, moved}
 use Rattle.string_tables.specs.Parts.{atom_of, accepts_part, is_between, ends_at, HasNoEnd}
-use Rattle.string_tables.proofs.Told.{some_below_same}
-use Rattle.string_tables.proofs.MarkedTerms.{marked, reached_told, moved_told, none_marked}
+use Rattle.string_tables.proofs.Reported.{some_below_same}
+use Rattle.string_tables.proofs.MarkedTerms.{marked, reached_given, moved_given, none_marked}
 
 or_comm : (a b : Bool) → (a || b) ≡ (b || a)
 or_comm true true = refl
@@ -76,14 +76,14 @@ module _ (x : GuardedString) (e : Term) (from to : ℕ) where
       remain : (after : List Move) → set_accepts (marked e (moved e marks (is_between from to k) (atom_of x k) m.act)) (atom_of x (suc k)) after ≡ led (suc k) after
       remain after =
           ap (λ a. set_accepts (marked e (moved e marks (is_between from to k) (atom_of x k) m.act)) a after) (atom_after x k m lt is)
-          ∙ moved_told (atom_of x k) m.act e (λ f. accepts f m.atom after) marks (is_between from to k)
+          ∙ moved_given (atom_of x k) m.act e (λ f. accepts f m.atom after) marks (is_between from to k)
           ∙ ap (λ b. b || (is_between from to k && accepts e (atom_of x k) (m ∷ after))) (at (m ∷ after))
           ∙ or_comm (led k (m ∷ after)) (is_between from to k && accepts e (atom_of x k) (m ∷ after))
           ∙ ap₂ ◌||◌ (here after) (earlier after)
 
   pub reached_ends : (k : ℕ) (marks : MarkTree) → AreMarksAt k marks → reached e marks (is_between from to k) (atom_of x k) ≡ ends_at x e from to k
   reached_ends k marks at =
-      reached_told (atom_of x k) e marks (is_between from to k)
+      reached_given (atom_of x k) e marks (is_between from to k)
       ∙ ap (λ b. b || (is_between from to k && out e (atom_of x k))) (at [])
       ∙ or_comm (led k []) (is_between from to k && out e (atom_of x k))
       ∙ ap₂ ◌||◌ here earlier
@@ -104,7 +104,7 @@ module _ (x : GuardedString) (e : Term) (from to : ℕ) where
       rw add-one more
 
   pub run_ends : (k : ℕ) (marks : MarkTree) (begins ends : Bool) (atom : Atom) → begins ≡ is_between from to k → atom ≡ atom_of x k → ends ≡ reached e marks begins atom → AreMarksAt k marks → ends ≡ ends_at x e from to k
-  run_ends k marks begins ends atom begun there told at = told ∙ ap₂ (reached e marks) begun there ∙ reached_ends k marks at
+  run_ends k marks begins ends atom begun there given at = given ∙ ap₂ (reached e marks) begun there ∙ reached_ends k marks at
 
   pub none_yet : (after k : ℕ) → ((j : ℕ) → after ≤ j → j < k → ends_at x e from to j ≡ false) → (after ≤ k → ends_at x e from to k ≡ false) → (j : ℕ) → after ≤ j → j < k + 1 → ends_at x e from to j ≡ false
   none_yet after k before here j le lt =
@@ -116,16 +116,16 @@ module _ (x : GuardedString) (e : Term) (from to : ℕ) where
   -- a part that ends at position k ends late enough, or it does not count
 
   pub late_end : (after k : ℕ) (ends found : Bool) → ends ≡ ends_at x e from to k → found ≡ (ends && nat_le after k) → found ≡ true → (after ≤ k) × (ends_at x e from to k ≡ true)
-  late_end after k ends found is told t =
-      let parts = and_parts ends (nat_le after k) (sym told ∙ t) in
+  late_end after k ends found is given t =
+      let parts = and_parts ends (nat_le after k) (sym given ∙ t) in
       (leb-true after k parts.1, sym is ∙ parts.0)
 
   pub no_late_end : (after k : ℕ) (ends found : Bool) → ends ≡ ends_at x e from to k → found ≡ (ends && nat_le after k) → found ≡ false → after ≤ k → ends_at x e from to k ≡ false
-  no_late_end after k ends found is told f le =
+  no_late_end after k ends found is given f le =
       ⊎_elim
       (λ none. sym is ∙ none)
       (λ early. absurd (both_ways (nat_le after k) early (le-leb after k le)))
-      (and_cases ends (nat_le after k) (sym told ∙ f))
+      (and_cases ends (nat_le after k) (sym given ∙ f))
 
   pub no_end : (after n : ℕ) → n ≡ length x.rest → ((j : ℕ) → after ≤ j → j < n → ends_at x e from to j ≡ false) → (after ≤ n → ends_at x e from to n ≡ false) → HasNoEnd x e from to after
   no_end after n count before here k le within =

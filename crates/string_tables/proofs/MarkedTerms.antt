@@ -117,9 +117,9 @@ right_joined nowhere (both a b) = refl
 right_joined here r = refl
 right_joined (both a b) r = refl
 
-here_told : (b : Bool) → is_here (cond b here nowhere) ≡ b
-here_told true = refl
-here_told false = refl
+here_given : (b : Bool) → is_here (cond b here nowhere) ≡ b
+here_given true = refl
+here_given false = refl
 
 -- the terms that remain after the marked actions
 abbrev pub marked : Term → MarkTree → List Term
@@ -140,27 +140,27 @@ module _ (atom : Atom) where
       ∙ any_same _ (λ x. out x atom && out f atom) es (λ x. accepts-dot x f atom [])
       ∙ any_and (λ x. out x atom) (out f atom) es
 
-  pub reached_told : (e : Term) (marks : MarkTree) (begins : Bool) → reached e marks begins atom ≡ (set_out (marked e marks) atom || (begins && out e atom))
-  reached_told zero marks begins = sym (and_right begins false refl)
-  reached_told one marks begins = sym (and_true begins)
-  reached_told (test b) marks begins = refl
-  reached_told (act a) marks begins =
+  pub reached_given : (e : Term) (marks : MarkTree) (begins : Bool) → reached e marks begins atom ≡ (set_out (marked e marks) atom || (begins && out e atom))
+  reached_given zero marks begins = sym (and_right begins false refl)
+  reached_given one marks begins = sym (and_true begins)
+  reached_given (test b) marks begins = refl
+  reached_given (act a) marks begins =
       let m = is_here marks in
       sym (ap₂ ◌||◌ (any_cond (λ x. out x atom) m (one ∷ []) ∙ and_true m) (and_right begins false refl) ∙ or-false m)
-  reached_told (sum e f) marks begins =
-      ap₂ ◌||◌ (reached_told e (left marks) begins) (reached_told f (right marks) begins)
+  reached_given (sum e f) marks begins =
+      ap₂ ◌||◌ (reached_given e (left marks) begins) (reached_given f (right marks) begins)
       ∙ either_part (set_out (marked e (left marks)) atom) (out e atom) (set_out (marked f (right marks)) atom) (out f atom) begins
       ∙ ap (λ b. b || (begins && (out e atom || out f atom))) (sym (list_any-append (λ x. out x atom) (marked e (left marks)) (marked f (right marks))))
-  reached_told (product e f) marks begins =
+  reached_given (product e f) marks begins =
       let first = set_out (marked e (left marks)) atom in
       let second = set_out (marked f (right marks)) atom in
-      reached_told f (right marks) (reached e (left marks) begins atom)
-      ∙ ap (λ b. second || (b && out f atom)) (reached_told e (left marks) begins)
+      reached_given f (right marks) (reached e (left marks) begins atom)
+      ∙ ap (λ b. second || (b && out f atom)) (reached_given e (left marks) begins)
       ∙ second_part first (out e atom) second (out f atom) begins
       ∙ ap (λ b. (b || second) || (begins && (out e atom && out f atom))) (sym (out_after f (marked e (left marks))))
       ∙ ap (λ b. b || (begins && (out e atom && out f atom))) (sym (list_any-append (λ x. out x atom) (map (λ x. dot x f) (marked e (left marks))) (marked f (right marks))))
-  reached_told (star e) marks begins =
-      ap (λ b. begins || b) (reached_told e marks false)
+  reached_given (star e) marks begins =
+      ap (λ b. begins || b) (reached_given e marks false)
       ∙ repeated_end (set_out (marked e marks) atom) begins
       ∙ ap (λ b. b || (begins && true)) (sym (out_after (star e) (marked e marks)))
 
@@ -184,29 +184,29 @@ module _ (atom : Atom) (a : ℕ) where
       ∙ any_or (λ x. list_any (λ y. p (dot y f)) (next x atom a)) (λ x. out x atom && list_any p (next f atom a)) es
       ∙ ap (λ b. some_next (λ y. p (dot y f)) es || b) (any_and (λ x. out x atom) (list_any p (next f atom a)) es)
 
-  pub moved_told : (e : Term) (p : Term → Bool) (marks : MarkTree) (begins : Bool) → list_any p (marked e (moved e marks begins atom a)) ≡ (some_next p (marked e marks) || (begins && list_any p (next e atom a)))
-  moved_told zero p marks begins = sym (and_right begins false refl)
-  moved_told one p marks begins = sym (and_right begins false refl)
-  moved_told (test b) p marks begins = sym (and_right begins false refl)
-  moved_told (act b) p marks begins =
+  pub moved_given : (e : Term) (p : Term → Bool) (marks : MarkTree) (begins : Bool) → list_any p (marked e (moved e marks begins atom a)) ≡ (some_next p (marked e marks) || (begins && list_any p (next e atom a)))
+  moved_given zero p marks begins = sym (and_right begins false refl)
+  moved_given one p marks begins = sym (and_right begins false refl)
+  moved_given (test b) p marks begins = sym (and_right begins false refl)
+  moved_given (act b) p marks begins =
       let m = is_here marks in
       let is = begins && eqb a b in
       let none : some_next p (cond m (one ∷ []) []) ≡ false = any_cond (λ x. list_any p (next x atom a)) m (one ∷ []) ∙ and_right m false refl in
-      ap (λ c. list_any p (cond c (one ∷ []) [])) (here_told is)
+      ap (λ c. list_any p (cond c (one ∷ []) [])) (here_given is)
       ∙ any_cond p is (one ∷ [])
       ∙ and_assoc begins (eqb a b) (list_any p (one ∷ []))
       ∙ ap (λ c. begins && c) (sym (any_cond p (eqb a b) (one ∷ [])))
       ∙ ap (λ c. c || (begins && list_any p (cond (eqb a b) (one ∷ []) []))) (sym none)
-  moved_told (sum e f) p marks begins =
+  moved_given (sum e f) p marks begins =
       let m = left marks in
       let n = right marks in
       let first = moved e m begins atom a in
       let second = moved f n begins atom a in
       list_any-append p (marked e (left (joined first second))) (marked f (right (joined first second)))
-      ∙ ap₂ ◌||◌ (ap (λ t. list_any p (marked e t)) (left_joined first second) ∙ moved_told e p m begins) (ap (λ t. list_any p (marked f t)) (right_joined first second) ∙ moved_told f p n begins)
+      ∙ ap₂ ◌||◌ (ap (λ t. list_any p (marked e t)) (left_joined first second) ∙ moved_given e p m begins) (ap (λ t. list_any p (marked f t)) (right_joined first second) ∙ moved_given f p n begins)
       ∙ either_part (some_next p (marked e m)) (list_any p (next e atom a)) (some_next p (marked f n)) (list_any p (next f atom a)) begins
       ∙ ap₂ (λ b c. b || (begins && c)) (sym (list_any-append (λ x. list_any p (next x atom a)) (marked e m) (marked f n))) (sym (list_any-append p (next e atom a) (next f atom a)))
-  moved_told (product e f) p marks begins =
+  moved_given (product e f) p marks begins =
       let m = left marks in
       let n = right marks in
       let q : Term → Bool = λ y. p (dot y f) in
@@ -215,18 +215,18 @@ module _ (atom : Atom) (a : ℕ) where
       let second = moved f n between atom a in
       let later = list_any p (next f atom a) in
       list_any-append p (map (λ y. dot y f) (marked e (left (joined first second)))) (marked f (right (joined first second)))
-      ∙ ap₂ ◌||◌ (any_map p (λ y. dot y f) _ ∙ ap (λ t. list_any q (marked e t)) (left_joined first second) ∙ moved_told e q m begins)
-      (ap (λ t. list_any p (marked f t)) (right_joined first second) ∙ moved_told f p n between ∙ ap (λ b. some_next p (marked f n) || (b && later)) (reached_told atom e m begins))
+      ∙ ap₂ ◌||◌ (any_map p (λ y. dot y f) _ ∙ ap (λ t. list_any q (marked e t)) (left_joined first second) ∙ moved_given e q m begins)
+      (ap (λ t. list_any p (marked f t)) (right_joined first second) ∙ moved_given f p n between ∙ ap (λ b. some_next p (marked f n) || (b && later)) (reached_given atom e m begins))
       ∙ both_parts (some_next q (marked e m)) (list_any q (next e atom a)) (set_out (marked e m) atom) (out e atom) (some_next p (marked f n)) later begins
       ∙ ap₂ (λ b c. (b || some_next p (marked f n)) || (begins && c)) (sym (some_after p f (marked e m))) (sym (list_any-append p (map (λ y. dot y f) (next e atom a)) (cond (out e atom) (next f atom a) []) ∙ ap₂ ◌||◌ (any_map p (λ y. dot y f) (next e atom a)) (any_cond p (out e atom) (next f atom a))))
       ∙ ap (λ b. b || (begins && list_any p (next (product e f) atom a))) (sym (list_any-append (λ x. list_any p (next x atom a)) (map (λ y. dot y f) (marked e m)) (marked f n)))
-  moved_told (star e) p marks begins =
+  moved_given (star e) p marks begins =
       let q : Term → Bool = λ y. p (dot y (star e)) in
       let again = begins || reached e marks false atom in
       let onward = any_map p (λ y. dot y (star e)) (next e atom a) in
       any_map p (λ y. dot y (star e)) _
-      ∙ moved_told e q marks again
-      ∙ ap (λ b. some_next q (marked e marks) || ((begins || b) && list_any q (next e atom a))) (reached_told atom e marks false)
+      ∙ moved_given e q marks again
+      ∙ ap (λ b. some_next q (marked e marks) || ((begins || b) && list_any q (next e atom a))) (reached_given atom e marks false)
       ∙ repeated (some_next q (marked e marks)) (list_any q (next e atom a)) (set_out (marked e marks) atom) begins
       ∙ ap₂ (λ b c. (some_next q (marked e marks) || (set_out (marked e marks) atom && b)) || (begins && c)) (sym onward) (sym onward)
       ∙ ap (λ b. b || (begins && list_any p (next (star e) atom a))) (sym (some_after p (star e) (marked e marks)))

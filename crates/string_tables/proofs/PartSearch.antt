@@ -83,8 +83,8 @@ module _ (x : GuardedString) (e : Term) where
       (cases_lt p.start middle)
 
   -- the first end of a part from the first beginning on
-  pub first_told : (i j : ℕ) → AcceptsNoneBefore x e i → IsFirstEnd x e i (i + 1) 0 j → IsFirstPart x e i j
-  first_told i j none f =
+  pub first_given : (i j : ℕ) → AcceptsNoneBefore x e i → IsFirstEnd x e i (i + 1) 0 j → IsFirstPart x e i j
+  first_given i j none f =
       let b = begun_at i (i + 1) j f.is in
       let start : b.0 ≡ i = omega (arith, b.1.above, b.1.below) in
       record {

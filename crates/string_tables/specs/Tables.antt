@@ -40,7 +40,7 @@ pub record Room : Type 0 where
   pub states : ℕ
 
 -- the term can be evaluated in the table on a bench with this room
-pub record MayBeAsked (room : Room) (t : Table) (e : Term) : Type 0 where
+pub record MayBeQueried (room : Room) (t : Table) (e : Term) : Type 0 where
   pub whole : IsWhole t
   pub states : t.states ≤ room.states
   pub height : term_height e ≤ room.depth

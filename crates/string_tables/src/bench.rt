@@ -2,7 +2,7 @@
 ghost use Rattle.std.specs.Prelude.{◌≡◌, ◌<◌, ◌↔◌, IfOk, IsTrue};
 ghost use Rattle.kat_model.specs.Trees.{kat_tree};
 ghost use Rattle.kat_model.specs.Relations.{Relates};
-ghost use Rattle.string_tables.specs.Tables.{MayBeAsked};
+ghost use Rattle.string_tables.specs.Tables.{MayBeQueried};
 
 use crate::levels::Levels;
 use crate::table::Table;
@@ -47,7 +47,7 @@ impl Bench {
 
     /// Returns whether the term relates state i of the table to state j. Takes no memory and cannot fail.
     pub fn relates(&mut self, table: &Table, term: &Kat, i: usize, j: usize) -> bool
-        requires asked { MayBeAsked self.old table.now (kat_tree term.now) }
+        requires queried { MayBeQueried self.old table.now (kat_tree term.now) }
         requires from { i < table.now.states }
         requires to { j < table.now.states }
         ensures relates { IsTrue result ↔ Relates table.now (kat_tree term.now) i j }

@@ -5,7 +5,7 @@ ghost use Rattle.kat_model.specs.Relations.{atom_at};
 ghost use Rattle.kat_model.specs.Working.Decided.{computes_relation};
 ghost use Rattle.kat_model.specs.Problems.{HasTestsBelow};
 ghost use Rattle.string_tables.specs.Tables.{IsWhole};
-ghost use Rattle.string_tables.specs.Working.Matrices.{Tells, level, sizes};
+ghost use Rattle.string_tables.specs.Working.Matrices.{Represents, level, sizes};
 
 use crate::leaves::{put_action, put_test};
 use crate::matrix::{Matrix, Row};
@@ -29,7 +29,7 @@ pub(crate) fn evaluate(
     requires top { table.now.states ≤ top.old.size }
     requires below { All (λ size. table.now.states ≤ size) (sizes below.old) }
     requires spare { table.now.states ≤ length spare.old }
-    ensures told { Tells table.now.states top.new (computes_relation table.now (kat_tree term.now)) }
+    ensures given { Represents table.now.states top.new (computes_relation table.now (kat_tree term.now)) }
     ensures size { top.new.size ≡ top.old.size }
     ensures sizes { sizes below.new ≡ sizes below.old }
     ensures width { length spare.new ≡ length spare.old }
@@ -72,8 +72,8 @@ fn evaluate_both(
     requires top { table.now.states ≤ top.old.size }
     requires below { All (λ size. table.now.states ≤ size) (sizes below.old) }
     requires spare { table.now.states ≤ length spare.old }
-    ensures first { Tells table.now.states top.new (computes_relation table.now (kat_tree first.now)) }
-    ensures second { Tells table.now.states (level below.new 0) (computes_relation table.now (kat_tree second.now)) }
+    ensures first { Represents table.now.states top.new (computes_relation table.now (kat_tree first.now)) }
+    ensures second { Represents table.now.states (level below.new 0) (computes_relation table.now (kat_tree second.now)) }
     ensures size { top.new.size ≡ top.old.size }
     ensures sizes { sizes below.new ≡ sizes below.old }
     ensures width { length spare.new ≡ length spare.old }

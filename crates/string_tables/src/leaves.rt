@@ -7,7 +7,7 @@ ghost use Rattle.kat_model.specs.Steps.{truth};
 ghost use Rattle.kat_model.specs.Relations.{atom_at};
 ghost use Rattle.kat_model.specs.Working.Decided.{same_step};
 ghost use Rattle.string_tables.specs.Tables.{IsWhole};
-ghost use Rattle.string_tables.specs.Working.Matrices.{Tells, IsImage};
+ghost use Rattle.string_tables.specs.Working.Matrices.{Represents, IsImage};
 
 use crate::matrix::{Matrix, Row};
 use crate::table::Table;
@@ -18,7 +18,7 @@ pub(crate) fn put_test(m: &mut Matrix, table: &Table, test: &Test)
     requires whole { IsWhole table.now }
     requires tests { (i : ℕ) → i < table.now.states → IsTestInRange (length (atom_at table.now i)) (test_tree test.now) }
     requires own { table.now.states ≤ m.old.size }
-    ensures told { Tells table.now.states m.new (λ i j. eqb i j && truth (test_tree test.now) (atom_at table.now i)) }
+    ensures given { Represents table.now.states m.new (λ i j. eqb i j && truth (test_tree test.now) (atom_at table.now i)) }
     ensures size { m.new.size ≡ m.old.size }
 {
     m.clear(table.states);
@@ -34,7 +34,7 @@ pub(crate) fn put_test(m: &mut Matrix, table: &Table, test: &Test)
 pub(crate) fn put_action(m: &mut Matrix, table: &Table, act: usize)
     requires whole { IsWhole table.now }
     requires own { table.now.states ≤ m.old.size }
-    ensures told { Tells table.now.states m.new (λ i j. list_any (same_step (record { from = i; act = act; to = j })) table.now.moves) }
+    ensures given { Represents table.now.states m.new (λ i j. list_any (same_step (record { from = i; act = act; to = j })) table.now.moves) }
     ensures size { m.new.size ≡ m.old.size }
 {
     m.clear(table.states);

@@ -2,7 +2,7 @@
 ghost use Rattle.std.specs.Prelude.{◌≡◌, ◌↔◌, ◌<◌, ◌≤◌, length, replicate, IfOk, IsTrue};
 ghost use Rattle.kat_model.specs.Trees.{kat_tree};
 ghost use Rattle.kat_model.specs.Relations.{Relates};
-ghost use Rattle.string_tables.specs.Tables.{MayBeAsked};
+ghost use Rattle.string_tables.specs.Tables.{MayBeQueried};
 ghost use Rattle.string_tables.specs.Working.Matrices.{sizes, widths};
 
 use crate::following::follow;
@@ -73,7 +73,7 @@ impl Levels {
 
     /// Returns whether the term relates i to j, computed only from i. The top matrix may change.
     pub(crate) fn relates(&mut self, table: &Table, term: &Kat, i: usize, j: usize) -> bool
-        requires asked { MayBeAsked self.old.room table.now (kat_tree term.now) }
+        requires queried { MayBeQueried self.old.room table.now (kat_tree term.now) }
         requires from { i < table.now.states }
         requires to { j < table.now.states }
         ensures relates { IsTrue result ↔ Relates table.now (kat_tree term.now) i j }

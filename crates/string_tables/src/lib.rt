@@ -1,5 +1,7 @@
-//! Guarded strings, their tables, what a term relates in them, and what they show of a problem. A table is evaluated
-//! state by state, and a string is read in passes over it. Functions that return a `Result` fail only when out of memory.
+//! Guarded strings, finite tables, and what a term relates in them.
+//!
+//! A table is evaluated state by state, and a string is read in passes over it. Functions that return a `Result` fail
+//! only when out of memory.
 #![tactic(auto)]
 
 mod bench;

@@ -1,14 +1,14 @@
 //! Matrices of relations: the identity, and unions, products and closures.
 ghost use Rattle.std.specs.Prelude.{◌≡◌, ◌<◌, ◌≤◌, ◌&&◌, ◌||◌, eqb, ℕ, false, length, slice_index_or};
 ghost use Rattle.kat_model.specs.Working.Decided.{some_below, warshall};
-ghost use Rattle.string_tables.specs.Working.Matrices.{row_at, entry, Tells};
+ghost use Rattle.string_tables.specs.Working.Matrices.{row_at, entry, Represents};
 
 use crate::matrix::{Matrix, Row};
 
 /// Makes the diagonal entries true.
 fn mark_diagonal(m: &mut Matrix, n: usize)
     requires { n ≤ m.old.size }
-    ensures marked { Tells n m.new (λ i j. eqb i j || entry m.old i j) }
+    ensures marked { Represents n m.new (λ i j. eqb i j || entry m.old i j) }
     ensures size { m.new.size ≡ m.old.size }
 {
     for i in 0..n {
@@ -19,7 +19,7 @@ fn mark_diagonal(m: &mut Matrix, n: usize)
 /// Sets the matrix to the identity relation.
 pub(crate) fn put_identity(m: &mut Matrix, n: usize)
     requires { n ≤ m.old.size }
-    ensures told { Tells n m.new (λ i j. eqb i j) }
+    ensures given { Represents n m.new (λ i j. eqb i j) }
     ensures size { m.new.size ≡ m.old.size }
 {
     m.clear(n);
@@ -30,7 +30,7 @@ pub(crate) fn put_identity(m: &mut Matrix, n: usize)
 pub(crate) fn join(m: &mut Matrix, other: &Matrix, n: usize)
     requires own { n ≤ m.old.size }
     requires others { n ≤ other.now.size }
-    ensures told { Tells n m.new (λ i j. entry m.old i j || entry other.now i j) }
+    ensures given { Represents n m.new (λ i j. entry m.old i j || entry other.now i j) }
     ensures size { m.new.size ≡ m.old.size }
 {
     for i in 0..n {
@@ -43,7 +43,7 @@ pub(crate) fn row_product(row: &Row, right: &Matrix, to: &mut Row, n: usize)
     requires row { n ≤ length row.now }
     requires right { n ≤ right.now.size }
     requires to { n ≤ length to.old }
-    ensures told { (j : ℕ) → j < n → slice_index_or to.new j false ≡ some_below (λ k. slice_index_or row.now k false && entry right.now k j) n }
+    ensures given { (j : ℕ) → j < n → slice_index_or to.new j false ≡ some_below (λ k. slice_index_or row.now k false && entry right.now k j) n }
     ensures width { length to.new ≡ length to.old }
 {
     to.clear(n);
@@ -59,7 +59,7 @@ pub(crate) fn multiply(m: &mut Matrix, other: &Matrix, spare: &mut Row, n: usize
     requires own { n ≤ m.old.size }
     requires others { n ≤ other.now.size }
     requires spare { n ≤ length spare.old }
-    ensures told { Tells n m.new (λ i j. some_below (λ k. entry m.old i k && entry other.now k j) n) }
+    ensures given { Represents n m.new (λ i j. some_below (λ k. entry m.old i k && entry other.now k j) n) }
     ensures size { m.new.size ≡ m.old.size }
     ensures width { length spare.new ≡ length spare.old }
 {
@@ -74,7 +74,7 @@ fn join_through(m: &mut Matrix, k: usize, spare: &mut Row, n: usize)
     requires within { k < n }
     requires own { n ≤ m.old.size }
     requires spare { n ≤ length spare.old }
-    ensures told { Tells n m.new (λ i j. entry m.old i j || (entry m.old i k && entry m.old k j)) }
+    ensures given { Represents n m.new (λ i j. entry m.old i j || (entry m.old i k && entry m.old k j)) }
     ensures size { m.new.size ≡ m.old.size }
     ensures width { length spare.new ≡ length spare.old }
 {
@@ -90,7 +90,7 @@ fn join_through(m: &mut Matrix, k: usize, spare: &mut Row, n: usize)
 pub(crate) fn close(m: &mut Matrix, spare: &mut Row, n: usize)
     requires own { n ≤ m.old.size }
     requires spare { n ≤ length spare.old }
-    ensures told { Tells n m.new (warshall (entry m.old) n) }
+    ensures given { Represents n m.new (warshall (entry m.old) n) }
     ensures size { m.new.size ≡ m.old.size }
     ensures width { length spare.new ≡ length spare.old }
 {

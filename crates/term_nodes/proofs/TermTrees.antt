@@ -37,9 +37,9 @@ unfolding trees
 length-trees nodes = length-course_of_values (tree_over (test_trees nodes)) nodes.terms
 
 -- and it is the element at the place of the number
-pub tree_stands : (nodes : NodeParts) → AreNodes nodes → (i : ℕ) (node : TermNode ℕ ℕ) → slice_get nodes.terms i ≡ Some node → slice_get (trees nodes) i ≡ Some (tree_in nodes node)
+pub tree_represents : (nodes : NodeParts) → AreNodes nodes → (i : ℕ) (node : TermNode ℕ ℕ) → slice_get nodes.terms i ≡ Some node → slice_get (trees nodes) i ≡ Some (tree_in nodes node)
 unfolding trees
-tree_stands nodes is i node e =
+tree_represents nodes is i node e =
     slice_get-get_or (trees nodes) i no_term (rw length-course_of_values (slice_get_within nodes.terms i node e)) ∙ ap Some (tree_at-node nodes is i node e)
 
 -- ---- added nodes keep the trees
@@ -103,8 +103,8 @@ module _ (nodes : NodeParts) where
   one_id_a_tree is i j h k e = same_id is (suc i) i j (omega arith) h k e
 
   -- a node whose tree some id has is in the list
-  pub node_stands : AreNodes nodes → (node : TermNode ℕ ℕ) → IsOver (length nodes.tests) (length nodes.terms) node → HasTree nodes (tree_in nodes node) → Contains nodes.terms node
-  node_stands is node over (i, h, e) =
+  pub node_represents : AreNodes nodes → (node : TermNode ℕ ℕ) → IsOver (length nodes.tests) (length nodes.terms) node → HasTree nodes (tree_in nodes node) → Contains nodes.terms node
+  node_represents is node over (i, h, e) =
       let m = node_of i h in
       let same = same_node i (length nodes.terms) (length nodes.tests) m.0 node (one_id_a_test nodes is) (λ v w v_low w_low. one_id_a_tree is v w (omega arith) w_low) (is.terms_ordered i m.0 m.1) over (sym (tree_at-node nodes is i m.0 m.1) ∙ e) in
       contains_at nodes.terms i node (m.1 ∙ ap Some same)

@@ -29,9 +29,9 @@ test_tree_at-node nodes is i node e =
     at.here ∙ test_tree_over-same at.front (test_trees nodes) i node at.before (is.tests_ordered i node e)
 
 -- and it is the element at the place of the number
-pub test_tree_stands : (nodes : NodeParts) → AreNodes nodes → (i : ℕ) (node : TestNode ℕ) → slice_get nodes.tests i ≡ Some node → slice_get (test_trees nodes) i ≡ Some (test_tree_in nodes node)
+pub test_tree_represents : (nodes : NodeParts) → AreNodes nodes → (i : ℕ) (node : TestNode ℕ) → slice_get nodes.tests i ≡ Some node → slice_get (test_trees nodes) i ≡ Some (test_tree_in nodes node)
 unfolding test_trees
-test_tree_stands nodes is i node e =
+test_tree_represents nodes is i node e =
     slice_get-get_or (test_trees nodes) i bottom (rw length-course_of_values (slice_get_within nodes.tests i node e)) ∙ ap Some (test_tree_at-node nodes is i node e)
 
 -- ---- added nodes keep the trees
@@ -81,8 +81,8 @@ module _ (nodes : NodeParts) where
   one_id_a_test is i j h k e = same_test_id is (suc i) i j (omega arith) h k e
 
   -- a node whose tree some id has is in the list
-  pub test_node_stands : AreNodes nodes → (node : TestNode ℕ) → IsTestOver (length nodes.tests) node → HasTestTree nodes (test_tree_in nodes node) → Contains nodes.tests node
-  test_node_stands is node over (i, h, e) =
+  pub test_node_represents : AreNodes nodes → (node : TestNode ℕ) → IsTestOver (length nodes.tests) node → HasTestTree nodes (test_tree_in nodes node) → Contains nodes.tests node
+  test_node_represents is node over (i, h, e) =
       let m = test_node_of i h in
       let same = same_test_node i (length nodes.tests) m.0 node (λ v w v_low w_low. one_id_a_test is v w (omega arith) w_low) (is.tests_ordered i m.0 m.1) over (sym (test_tree_at-node nodes is i m.0 m.1) ∙ e) in
       contains_at nodes.tests i node (m.1 ∙ ap Some same)

@@ -1,6 +1,7 @@
-//! Terms and tests as numbered nodes: each node names the earlier nodes that are its parts. The store of a prover, a
-//! certificate and the tables of its checker are lists of nodes. The crate has the definitions and lemmas that these
-//! share, and the check that the numbers of a set ascend.
+//! Terms and tests as numbered nodes, each after its parts.
+//!
+//! The store of a prover, a certificate and the tables of its checker are lists of nodes. The crate has the definitions
+//! and lemmas that these share, and the check that the numbers of a set ascend.
 #![tactic(auto)]
 
 mod sets;

@@ -9,8 +9,8 @@ use Rattle.term_nodes.specs.NodeLists.{NodeParts, AreNodes}
 use Rattle.term_nodes.specs.NodeTrees.{test_tree_in, tree_in, HasTestTree, HasTree}
 use Rattle.term_nodes.specs.TreeParts.{HasTestParts, HasParts}
 use Rattle.term_nodes.specs.Growth.{Grows}
-use Rattle.term_nodes.proofs.TestTrees.{test_node_stands}
-use Rattle.term_nodes.proofs.TermTrees.{node_stands}
+use Rattle.term_nodes.proofs.TestTrees.{test_node_represents}
+use Rattle.term_nodes.proofs.TermTrees.{node_represents}
 use Rattle.term_nodes.proofs.TreeParts.{test_has_parts, has_parts}
 
 -- if the parts of a tree that some id has are found, its node is found too
@@ -18,16 +18,16 @@ pub test_found : {E : Type 0} (r : Result ℕ E) (old last new : NodeParts) (sha
     → (HasTestParts old b → last ≡ old) → (Contains last.tests shape → IsOk r × (new ≡ last)) → HasTestTree old b → IsOk r × (new ≡ old)
 test_found r old last new shape b was is over same parts node h =
     let kept = parts (test_has_parts old was b h) in
-    let stands = test_node_stands last is shape over (subst (HasTestTree last) (sym same) (subst (λ s. HasTestTree s b) (sym kept) h)) in
-    let found = node stands in
+    let represents = test_node_represents last is shape over (subst (HasTestTree last) (sym same) (subst (λ s. HasTestTree s b) (sym kept) h)) in
+    let found = node represents in
     (found.0, found.1 ∙ kept)
 
 pub found : {E : Type 0} (r : Result ℕ E) (old last new : NodeParts) (shape : TermNode ℕ ℕ) (e : Term) → AreNodes old → AreNodes last → IsOver (length last.tests) (length last.terms) shape → tree_in last shape ≡ e
     → (HasParts old e → last ≡ old) → (Contains last.terms shape → IsOk r × (new ≡ last)) → HasTree old e → IsOk r × (new ≡ old)
 found r old last new shape e was is over same parts node h =
     let kept = parts (has_parts old was e h) in
-    let stands = node_stands last is shape over (subst (HasTree last) (sym same) (subst (λ s. HasTree s e) (sym kept) h)) in
-    let found = node stands in
+    let represents = node_represents last is shape over (subst (HasTree last) (sym same) (subst (λ s. HasTree s e) (sym kept) h)) in
+    let found = node represents in
     (found.0, found.1 ∙ kept)
 
 -- if interning the first of two trees and then the second finds both, the list of nodes is unchanged

@@ -1,5 +1,6 @@
-//! Boolean functions of tests as reduced ordered binary decision diagrams (Bryant, *Graph-based algorithms
-//! for Boolean function manipulation*, 1986).
+//! Boolean functions of tests as reduced ordered binary decision diagrams.
+//!
+//! Source: Bryant, *Graph-based algorithms for Boolean function manipulation*, 1986.
 #![tactic(auto)]
 
 mod diagrams;

@@ -12,16 +12,16 @@ fn choice(alloc: Global, other: usize) -> Result<Kat, NoMemory> {
     Kat::new_sum(alloc, first, second)
 }
 
-// Whether a problem over two tests and two actions, with the action 0 on the right, has the bound `want`.
-fn is_bound(hyps: Vec<Kat>, left: Kat, want: Option<u64>) -> bool {
+// Whether a problem over two tests and two actions, with the action 0 on the right, has the bound `expected`.
+fn is_bound(hyps: Vec<Kat>, left: Kat, expected: Option<u64>) -> bool {
     match Problem::new(2, 2, hyps, left, Kat::Act(0)) {
-        Ok(problem) => pair_bound(&problem) == want,
+        Ok(problem) => pair_bound(&problem) == expected,
         Err(_) => false,
     }
 }
 
-fn choice_has_bound(alloc: Global, other: usize, want: Option<u64>) -> Result<bool, NoMemory> {
-    Ok(is_bound(Vec::new(alloc), choice(alloc, other)?, want))
+fn choice_has_bound(alloc: Global, other: usize, expected: Option<u64>) -> Result<bool, NoMemory> {
+    Ok(is_bound(Vec::new(alloc), choice(alloc, other)?, expected))
 }
 
 #[test]

@@ -1,4 +1,4 @@
-//! Tests of guarded terms, of the texts of GKAT, of the generated problems and of the optimiser.
+//! Tests of GKAT, generated problems and the optimiser.
 #![tactic(auto)]
 
 #[cfg(test)]

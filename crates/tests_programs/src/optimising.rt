@@ -22,32 +22,32 @@ fn has_text(
     alloc: Global,
     optimised: &Optimised,
     scope: &Scope,
-    want: &str,
+    expected: &str,
 ) -> Result<bool, NoMemory> {
     let text = print_prog(alloc, &optimised.prog, scope)?;
-    Ok(text.as_slice() == want.as_bytes())
+    Ok(text.as_slice() == expected.as_bytes())
 }
 
-// Whether the step or no step led to the program that is `want`.
+// Whether the step or no step led to the program that is `expected`.
 fn is_expected(
     alloc: Global,
     optimised: &Optimised,
     scope: &Scope,
     step: Option<u8>,
-    want: &str,
+    expected: &str,
 ) -> Result<bool, NoMemory> {
     let is_done = optimised.ended == Ended::Done;
     let are_expected = are_steps(&optimised.log, step) && is_done == step.is_some();
-    Ok(are_expected && has_text(alloc, optimised, scope, want)?)
+    Ok(are_expected && has_text(alloc, optimised, scope, expected)?)
 }
 
-// Whether the program L of the file becomes `want`, by the step or by none.
+// Whether the program L of the file becomes `expected`, by the step or by none.
 fn is_optimised_in(
     alloc: Global,
     file: &File,
     turns: u64,
     step: Option<u8>,
-    want: &str,
+    expected: &str,
 ) -> Result<bool, NoMemory>
     requires { IsNumbered file.now }
 {
@@ -55,7 +55,7 @@ fn is_optimised_in(
         None => Ok(false),
         Some(prog) => {
             let optimised = optimise(alloc, file, prog, turns)?;
-            is_expected(alloc, &optimised, &file.scope, step, want)
+            is_expected(alloc, &optimised, &file.scope, step, expected)
         }
     }
 }
@@ -66,10 +66,10 @@ fn is_optimised(
     text: &str,
     turns: u64,
     step: Option<u8>,
-    want: &str,
+    expected: &str,
 ) -> Result<bool, TextFault> {
     let file = read(alloc, text.as_bytes())?;
-    Ok(is_optimised_in(alloc, &file, turns, step, want)?)
+    Ok(is_optimised_in(alloc, &file, turns, step, expected)?)
 }
 
 const IF_AFTER_LOOP: &str =

@@ -16,13 +16,13 @@ fn shown(alloc: Global, file: &GkatFile) -> Result<Vec<u8>, NoMemory> {
     Ok(out)
 }
 
-fn is_file_shown(alloc: Global, file: &GkatFile, want: &[u8]) -> Result<bool, NoMemory> {
-    Ok(shown(alloc, file)?.as_slice() == want)
+fn is_file_shown(alloc: Global, file: &GkatFile, expected: &[u8]) -> Result<bool, NoMemory> {
+    Ok(shown(alloc, file)?.as_slice() == expected)
 }
 
-fn is_shown(alloc: Global, text: &[u8], want: &[u8]) -> Result<bool, TextFault> {
+fn is_shown(alloc: Global, text: &[u8], expected: &[u8]) -> Result<bool, TextFault> {
     let file = read_gkat(alloc, text)?;
-    Ok(is_file_shown(alloc, &file, want)?)
+    Ok(is_file_shown(alloc, &file, expected)?)
 }
 
 fn fault(alloc: Global, text: &[u8]) -> Option<TextFault> {
@@ -35,13 +35,13 @@ fn fault(alloc: Global, text: &[u8]) -> Option<TextFault> {
 #[test]
 fn expressions_are_read_and_printed(rt: HostRuntime) -> Result<(), Fail> {
     let text = b"test b, c; action p, q; equal [b && !c] +[b] 1 . (p^[b])^[c] . 0, p^[b] +[!c] q;";
-    let want = b"([(b && !c)] +[b] (1.((p^[b])^[c].0)))\n(([!c].((b.p)*.[!b])) + ([!!c].q))";
-    assert!(rt; is_shown(rt.alloc(), text, want)?);
+    let expected = b"([(b && !c)] +[b] (1.((p^[b])^[c].0)))\n(([!c].((b.p)*.[!b])) + ([!!c].q))";
+    assert!(rt; is_shown(rt.alloc(), text, expected)?);
     Ok(())
 }
 
 #[test]
 fn texts_are_refused(rt: HostRuntime) {
-    let want = Some(TextFault::TwoGoals(20));
-    assert!(rt; fault(rt.alloc(), b"test b; equal b, b; equal b, b;") == want);
+    let expected = Some(TextFault::TwoGoals(20));
+    assert!(rt; fault(rt.alloc(), b"test b; equal b, b; equal b, b;") == expected);
 }

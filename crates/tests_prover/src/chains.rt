@@ -34,16 +34,19 @@ fn is_answered(
     alloc: Global,
     text: &str,
     proof: &str,
-    want: Result<ChainAnswer, TextFault>,
+    expected: Result<ChainAnswer, TextFault>,
 ) -> Result<bool, TextFault> {
     let problem = problem(alloc, text)?;
-    Ok(answer(alloc, &problem, proof) == want)
+    Ok(answer(alloc, &problem, proof) == expected)
 }
 
 #[test]
 fn proofs_are_read_and_checked(rt: HostRuntime) -> Result<(), Fail> {
-    for (text, proof, want) in ROWS {
-        assert!(rt; is_answered(rt.alloc(), text, proof, *want)?, "on {proof}");
+    for (text, proof, expected) in ROWS {
+        assert!(rt;
+            is_answered(rt.alloc(), text, proof, *expected)?,
+            "on {proof}"
+        );
     }
     Ok(())
 }

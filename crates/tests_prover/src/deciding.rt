@@ -88,19 +88,19 @@ fn is_answer(
     alloc: Global,
     store: &mut Store,
     problem: &Problem,
-    want: (bool, usize),
+    expected: (bool, usize),
 ) -> Result<bool, NoMemory> {
-    Ok(own_answer(alloc, problem)? == want && answer_in(alloc, store, problem)? == want)
+    Ok(own_answer(alloc, problem)? == expected && answer_in(alloc, store, problem)? == expected)
 }
 
 fn holds(
     alloc: Global,
     store: &mut Store,
     text: &str,
-    want: (bool, usize),
+    expected: (bool, usize),
 ) -> Result<bool, TextFault> {
     let problem = problem(alloc, text)?;
-    Ok(is_answer(alloc, store, &problem, want)?)
+    Ok(is_answer(alloc, store, &problem, expected)?)
 }
 
 const ROWS: &[(&str, (bool, usize))] = &[
@@ -114,8 +114,8 @@ const ROWS: &[(&str, (bool, usize))] = &[
 
 // Returns the number of the problems, from the first, that have their answers.
 fn answered(alloc: Global, store: &mut Store) -> Result<usize, TextFault> {
-    for (k, (text, want)) in ROWS.iter().enumerate() {
-        if !holds(alloc, store, text, *want)? {
+    for (k, (text, expected)) in ROWS.iter().enumerate() {
+        if !holds(alloc, store, text, *expected)? {
             return Ok(k);
         }
     }

@@ -1,4 +1,4 @@
-//! Tests of the prover and the crates below it, of evidence and what strings show, and of proofs by axioms.
+//! Tests of the prover, of evidence, strings and chains.
 #![tactic(auto)]
 
 #[cfg(test)]

@@ -17,31 +17,31 @@ fn string(alloc: Global, text: &str) -> Result<GString, EvidenceFault> {
     string_in(read(alloc, text.as_bytes())?)
 }
 
-// Whether the string shows `want`, and refutes the problem exactly if `want` says so.
+// Whether the string shows `expected`, and refutes the problem exactly if `expected` says so.
 fn shows(
     alloc: Global,
     problem: &Problem,
     string: &GString,
-    want: Finding,
+    expected: Finding,
 ) -> Result<bool, NoMemory> {
     let refuted = refutes(alloc, problem, string)?;
     let finding = verdict(alloc, problem, string)?;
-    Ok(finding == want && refuted == matches!(want, Finding::Refutes(_)))
+    Ok(finding == expected && refuted == matches!(expected, Finding::Refutes(_)))
 }
 
 fn holds(
     alloc: Global,
     problem: &Problem,
     text: &str,
-    want: Finding,
+    expected: Finding,
 ) -> Result<bool, EvidenceFault> {
     let string = string(alloc, text)?;
-    Ok(shows(alloc, problem, &string, want)?)
+    Ok(shows(alloc, problem, &string, expected)?)
 }
 
-fn row_holds(alloc: Global, problem_text: &str, text: &str, want: Finding) -> bool {
+fn row_holds(alloc: Global, problem_text: &str, text: &str, expected: Finding) -> bool {
     match problem(alloc, problem_text) {
-        Ok(problem) => matches!(holds(alloc, &problem, text, want), Ok(true)),
+        Ok(problem) => matches!(holds(alloc, &problem, text, expected), Ok(true)),
         Err(_) => false,
     }
 }
@@ -82,9 +82,9 @@ const ROWS: &[(&str, &str, Finding)] = &[
 
 #[test]
 fn strings_show_the_first_that_holds(rt: HostRuntime) {
-    for (problem_text, text, want) in ROWS {
+    for (problem_text, text, expected) in ROWS {
         assert!(rt;
-            row_holds(rt.alloc(), problem_text, text, *want),
+            row_holds(rt.alloc(), problem_text, text, *expected),
             "{text} on {problem_text}"
         );
     }

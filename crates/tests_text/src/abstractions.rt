@@ -89,10 +89,10 @@ fn abstract_text(alloc: Global, file: &File) -> Result<Vec<u8>, AbstractFault>
     Ok(shown_text(alloc, &shown, &file.goal)?)
 }
 
-fn is_abstracted(alloc: Global, text: &str, want: &str) -> Result<bool, TextFault> {
+fn is_abstracted(alloc: Global, text: &str, expected: &str) -> Result<bool, TextFault> {
     let file = file_of(alloc, text.as_bytes())?;
     Ok(match abstract_text(alloc, &file) {
-        Ok(found) => found.as_slice() == want.as_bytes(),
+        Ok(found) => found.as_slice() == expected.as_bytes(),
         Err(_) => false,
     })
 }
@@ -102,7 +102,7 @@ fn is_abstracted(alloc: Global, text: &str, want: &str) -> Result<bool, TextFaul
 fn goals_are_abstracted(rt: HostRuntime) -> Result<(), Fail> {
     let text =
         "test b; action p; var x; prog P { p; x := x + 1; assert x != 3; } goal triple {b && x == 3} P {b};";
-    let want = "([(t0 && t1)].((a0.(a1.[!t1])).[!t0])); [(t0 && t1)] (a0.(a1.[!t1]))";
-    assert!(rt; is_abstracted(rt.alloc(), text, want)?);
+    let expected = "([(t0 && t1)].((a0.(a1.[!t1])).[!t0])); [(t0 && t1)] (a0.(a1.[!t1]))";
+    assert!(rt; is_abstracted(rt.alloc(), text, expected)?);
     Ok(())
 }

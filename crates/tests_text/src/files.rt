@@ -51,7 +51,7 @@ const FILES: &[(&str, Result<Facts, TextFault>)] = &[
 
 #[test]
 fn files_are_read(rt: HostRuntime) {
-    for (text, want) in FILES {
-        assert!(rt; facts_of(rt.alloc(), text) == *want, "in {text}");
+    for (text, expected) in FILES {
+        assert!(rt; facts_of(rt.alloc(), text) == *expected, "in {text}");
     }
 }

@@ -64,10 +64,10 @@ pub(crate) fn sample(alloc: Global) -> Result<Scope, TextFault> {
 }
 
 // Whether the result is as expected, either a text or a fault.
-pub(crate) fn is_so(found: Result<Vec<u8>, TextFault>, want: Result<&str, TextFault>) -> bool {
-    match (found, want) {
-        (Ok(found), Ok(want)) => found.as_slice() == want.as_bytes(),
-        (Err(found), Err(want)) => found == want,
+pub(crate) fn is_so(found: Result<Vec<u8>, TextFault>, expected: Result<&str, TextFault>) -> bool {
+    match (found, expected) {
+        (Ok(found), Ok(expected)) => found.as_slice() == expected.as_bytes(),
+        (Err(found), Err(expected)) => found == expected,
         _ => false,
     }
 }

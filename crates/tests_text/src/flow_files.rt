@@ -94,7 +94,7 @@ const BODIES: &[(&str, Option<TextFault>)] = &[
 
 #[test]
 fn sorts_are_checked(rt: HostRuntime) {
-    for (body, want) in BODIES {
-        assert!(rt; fault_of(rt.alloc(), body) == *want, "in {body}");
+    for (body, expected) in BODIES {
+        assert!(rt; fault_of(rt.alloc(), body) == *expected, "in {body}");
     }
 }

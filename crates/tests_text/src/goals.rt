@@ -49,12 +49,12 @@ fn triple_text(alloc: Global, scope: &Scope) -> Result<Vec<u8>, NoMemory> {
     closed_sides(alloc, Vec::new(alloc), sides, scope)
 }
 
-fn below_is(alloc: Global, scope: &Scope, want: &str) -> Result<bool, NoMemory> {
-    Ok(below_text(alloc, scope)?.as_slice() == want.as_bytes())
+fn below_is(alloc: Global, scope: &Scope, expected: &str) -> Result<bool, NoMemory> {
+    Ok(below_text(alloc, scope)?.as_slice() == expected.as_bytes())
 }
 
-fn triple_is(alloc: Global, scope: &Scope, want: &str) -> Result<bool, NoMemory> {
-    Ok(triple_text(alloc, scope)?.as_slice() == want.as_bytes())
+fn triple_is(alloc: Global, scope: &Scope, expected: &str) -> Result<bool, NoMemory> {
+    Ok(triple_text(alloc, scope)?.as_slice() == expected.as_bytes())
 }
 
 fn are_eliminated(alloc: Global) -> Result<bool, TextFault> {

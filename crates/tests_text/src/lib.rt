@@ -1,4 +1,4 @@
-//! Tests on texts: tokens, phrases, programs, problem files, goals, abstractions, and comparisons of expressions.
+//! Tests on texts, programs, problem files, goals and abstractions.
 #![tactic(auto)]
 
 #[cfg(test)]

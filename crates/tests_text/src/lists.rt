@@ -24,34 +24,39 @@ fn tests(alloc: Global, count: usize) -> Result<Vec<Cond>, NoMemory> {
     Ok(list)
 }
 
-fn is_term(alloc: Global, term: &Kat, scope: &Scope, want: &str) -> Result<bool, NoMemory> {
+fn is_term(alloc: Global, term: &Kat, scope: &Scope, expected: &str) -> Result<bool, NoMemory> {
     let text = print_term(alloc, term, scope)?;
-    Ok(text.as_slice() == want.as_bytes())
+    Ok(text.as_slice() == expected.as_bytes())
 }
 
-fn is_cond(alloc: Global, cond: &Cond, scope: &Scope, want: &str) -> Result<bool, NoMemory> {
+fn is_cond(alloc: Global, cond: &Cond, scope: &Scope, expected: &str) -> Result<bool, NoMemory> {
     let text = print_cond(alloc, cond, scope)?;
-    Ok(text.as_slice() == want.as_bytes())
+    Ok(text.as_slice() == expected.as_bytes())
 }
 
-fn sum_is(alloc: Global, count: usize, scope: &Scope, want: &str) -> Result<bool, NoMemory> {
+fn sum_is(alloc: Global, count: usize, scope: &Scope, expected: &str) -> Result<bool, NoMemory> {
     let term = sum_of(alloc, actions(alloc, count)?)?;
-    is_term(alloc, &term, scope, want)
+    is_term(alloc, &term, scope, expected)
 }
 
-fn product_is(alloc: Global, count: usize, scope: &Scope, want: &str) -> Result<bool, NoMemory> {
+fn product_is(
+    alloc: Global,
+    count: usize,
+    scope: &Scope,
+    expected: &str,
+) -> Result<bool, NoMemory> {
     let term = seq_of(alloc, actions(alloc, count)?)?;
-    is_term(alloc, &term, scope, want)
+    is_term(alloc, &term, scope, expected)
 }
 
-fn any_is(alloc: Global, count: usize, scope: &Scope, want: &str) -> Result<bool, NoMemory> {
+fn any_is(alloc: Global, count: usize, scope: &Scope, expected: &str) -> Result<bool, NoMemory> {
     let cond = any_of(alloc, tests(alloc, count)?)?;
-    is_cond(alloc, &cond, scope, want)
+    is_cond(alloc, &cond, scope, expected)
 }
 
-fn all_is(alloc: Global, count: usize, scope: &Scope, want: &str) -> Result<bool, NoMemory> {
+fn all_is(alloc: Global, count: usize, scope: &Scope, expected: &str) -> Result<bool, NoMemory> {
     let cond = all_of(alloc, tests(alloc, count)?)?;
-    is_cond(alloc, &cond, scope, want)
+    is_cond(alloc, &cond, scope, expected)
 }
 
 fn are_balanced(alloc: Global, scope: &Scope) -> Result<bool, NoMemory> {

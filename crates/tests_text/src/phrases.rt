@@ -31,8 +31,11 @@ const ENDS: &[(&str, usize, &str, Result<usize, TextFault>)] = &[
 
 #[test]
 fn phrases_end(rt: HostRuntime) {
-    for (sort, depth, text, want) in ENDS {
-        assert!(rt; end(rt.alloc(), sort, text, *depth) == *want, "in {text}");
+    for (sort, depth, text, expected) in ENDS {
+        assert!(rt;
+            end(rt.alloc(), sort, text, *depth) == *expected,
+            "in {text}"
+        );
     }
 }
 
@@ -116,9 +119,9 @@ const PHRASES: &[(&str, &str, Result<&str, TextFault>)] = &[
 
 #[test]
 fn phrases_are_read(rt: HostRuntime) {
-    for (sort, text, want) in PHRASES {
+    for (sort, text, expected) in PHRASES {
         assert!(rt;
-            is_so(phrase_text(rt.alloc(), sort, text), *want),
+            is_so(phrase_text(rt.alloc(), sort, text), *expected),
             "in {text}"
         );
     }

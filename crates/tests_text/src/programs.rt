@@ -45,8 +45,8 @@ const BLOCKS: &[(&str, Result<&str, TextFault>)] = &[
 
 #[test]
 fn programs_are_read_and_printed(rt: HostRuntime) {
-    for (text, want) in BLOCKS {
-        assert!(rt; is_so(text_read(rt.alloc(), text), *want), "of {text}");
+    for (text, expected) in BLOCKS {
+        assert!(rt; is_so(text_read(rt.alloc(), text), *expected), "of {text}");
     }
 }
 
@@ -113,9 +113,9 @@ const RUNS: &[(&str, Width, u64, (Outcome, u64))] = &[
 
 #[test]
 fn programs_run(rt: HostRuntime) -> Result<(), Fail> {
-    for (text, width, turns, want) in RUNS {
+    for (text, width, turns, expected) in RUNS {
         let end = text_end(rt.alloc(), text, *width, *turns)?;
-        assert!(rt; end == *want, "of {text}");
+        assert!(rt; end == *expected, "of {text}");
     }
     Ok(())
 }

@@ -4,8 +4,8 @@ use std::alloc::Global;
 use std::test::Fail;
 use text_parser::{Kind, TextFault, Token};
 
-fn is_token(token: &Token, want: (Kind, &str, usize)) -> bool {
-    token.kind == want.0 && token.text == want.1 && token.at == want.2
+fn is_token(token: &Token, expected: (Kind, &str, usize)) -> bool {
+    token.kind == expected.0 && token.text == expected.1 && token.at == expected.2
 }
 
 fn are_tokens(found: &[Token]) -> bool {

@@ -5,9 +5,9 @@ use std::fs;
 use std::test::Fail;
 
 // Whether the shelf gives exactly these bytes for the name, with a limit of `most` bytes.
-fn gives<S: Shelf>(alloc: Global, shelf: &mut S, name: &str, most: u64, want: &[u8]) -> bool {
+fn gives<S: Shelf>(alloc: Global, shelf: &mut S, name: &str, most: u64, expected: &[u8]) -> bool {
     match shelf.get(alloc, name, Some(most)) {
-        Ok(bytes) => bytes.as_slice() == want,
+        Ok(bytes) => bytes.as_slice() == expected,
         Err(_) => false,
     }
 }

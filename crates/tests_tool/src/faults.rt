@@ -29,19 +29,19 @@ fn ends_over(
     alloc: Global,
     line: &str,
     shelf: &mut MemShelf,
-    want: (u8, &str),
+    expected: (u8, &str),
 ) -> Result<bool, NoMemory> {
     let mut sink = MemSink::new(alloc, 100, 10)?;
-    ends(alloc, line, shelf, &mut sink, want)
+    ends(alloc, line, shelf, &mut sink, expected)
 }
 
 fn shelf_fails(alloc: Global, row: &ShelfRow) -> Result<bool, NoMemory> {
-    let (line, file, evidence, call, want) = row;
+    let (line, file, evidence, call, expected) = row;
     let first = (*file, DENESTING.as_bytes());
     let second = (*evidence, DENESTING_EVIDENCE.as_bytes());
     let mut shelf = shelf_of(alloc, first, second)?;
     shelf.fail_at(*call)?;
-    ends_over(alloc, line, &mut shelf, *want)
+    ends_over(alloc, line, &mut shelf, *expected)
 }
 
 #[test]
@@ -64,23 +64,23 @@ fn ends_into(
     alloc: Global,
     shelf: &mut MemShelf,
     call: u64,
-    want: (u8, &str),
+    expected: (u8, &str),
 ) -> Result<bool, NoMemory> {
     let mut sink = MemSink::new(alloc, 100, 10)?;
     sink.fail_at(call)?;
-    ends(alloc, "decide f", shelf, &mut sink, want)
+    ends(alloc, "decide f", shelf, &mut sink, expected)
 }
 
-fn sink_fails(alloc: Global, call: u64, want: (u8, &str)) -> Result<bool, NoMemory> {
+fn sink_fails(alloc: Global, call: u64, expected: (u8, &str)) -> Result<bool, NoMemory> {
     let text = b"test b, c; goal equal [b && c], b;";
     let mut shelf = shelf_of(alloc, ("f", text), ("e", b""))?;
-    ends_into(alloc, &mut shelf, call, want)
+    ends_into(alloc, &mut shelf, call, expected)
 }
 
 #[test]
 fn a_sink_fails(rt: HostRuntime) -> Result<(), Fail> {
-    for (call, want) in SINKS {
-        assert!(rt; sink_fails(rt.alloc(), *call, *want)?, "at {call}");
+    for (call, expected) in SINKS {
+        assert!(rt; sink_fails(rt.alloc(), *call, *expected)?, "at {call}");
     }
     Ok(())
 }

@@ -40,10 +40,10 @@ pub(crate) fn ends(
     line: &str,
     shelf: &mut MemShelf,
     sink: &mut MemSink,
-    want: (u8, &str),
+    expected: (u8, &str),
 ) -> Result<bool, NoMemory> {
     let status = status_of(alloc, line, shelf, sink)?;
-    Ok(status == want.0 && sink.taken() == want.1.as_bytes())
+    Ok(status == expected.0 && sink.taken() == expected.1.as_bytes())
 }
 
 // The same with a sink that never fails.
@@ -51,10 +51,10 @@ fn ends_in_full(
     alloc: Global,
     line: &str,
     shelf: &mut MemShelf,
-    want: (u8, &str),
+    expected: (u8, &str),
 ) -> Result<bool, NoMemory> {
     let mut sink = MemSink::new(alloc, 100_000, 10_000)?;
-    ends(alloc, line, shelf, &mut sink, want)
+    ends(alloc, line, shelf, &mut sink, expected)
 }
 
 // Returns a shelf with these two files.
@@ -75,10 +75,10 @@ pub(crate) fn replies(
     line: &str,
     text: &[u8],
     evidence: &[u8],
-    want: (u8, &str),
+    expected: (u8, &str),
 ) -> Result<bool, NoMemory> {
     let mut shelf = shelf_of(alloc, ("f", text), ("e", evidence))?;
-    ends_in_full(alloc, line, &mut shelf, want)
+    ends_in_full(alloc, line, &mut shelf, expected)
 }
 
 pub(crate) const DENESTING: &str = "action p, q; goal equal (p+q)*, (p*.q)*.p*;";

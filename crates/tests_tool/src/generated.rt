@@ -4,9 +4,9 @@ use kat_model::NoMemory;
 use std::alloc::Global;
 use std::test::Fail;
 
-fn spaces_are(alloc: Global, count: usize, want: (u8, &str)) -> Result<bool, NoMemory> {
+fn spaces_are(alloc: Global, count: usize, expected: (u8, &str)) -> Result<bool, NoMemory> {
     let text = vec![in alloc; b' '; count]?;
-    replies(alloc, "decide f", &text, b"", want)
+    replies(alloc, "decide f", &text, b"", expected)
 }
 
 #[test]
@@ -26,14 +26,14 @@ fn long_chain(alloc: Global, last: usize) -> Result<String, NoMemory> {
     Ok(text)
 }
 
-fn long_chain_is(alloc: Global, last: usize, want: (u8, &str)) -> Result<bool, NoMemory> {
+fn long_chain_is(alloc: Global, last: usize, expected: (u8, &str)) -> Result<bool, NoMemory> {
     let evidence = long_chain(alloc, last)?;
     replies(
         alloc,
         "check f e",
         STAR_TWICE.as_bytes(),
         evidence.as_bytes(),
-        want,
+        expected,
     )
 }
 
@@ -64,19 +64,19 @@ fn with_variables(alloc: Global, count: usize) -> Result<String, NoMemory> {
     Ok(text)
 }
 
-fn statements_are(alloc: Global, count: usize, want: (u8, &str)) -> Result<bool, NoMemory> {
+fn statements_are(alloc: Global, count: usize, expected: (u8, &str)) -> Result<bool, NoMemory> {
     let text = with_statements(alloc, count)?;
-    replies(alloc, "oneloop f P", text.as_bytes(), b"", want)
+    replies(alloc, "oneloop f P", text.as_bytes(), b"", expected)
 }
 
 fn variables_are(
     alloc: Global,
     count: usize,
     line: &str,
-    want: (u8, &str),
+    expected: (u8, &str),
 ) -> Result<bool, NoMemory> {
     let text = with_variables(alloc, count)?;
-    replies(alloc, line, text.as_bytes(), b"", want)
+    replies(alloc, line, text.as_bytes(), b"", expected)
 }
 
 #[test]

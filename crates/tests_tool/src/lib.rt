@@ -1,5 +1,4 @@
-//! Tests of `run` by its words, its files and its output, of the calls on bytes, and of the real shelf and sink of the
-//! program.
+//! Tests of `run`, the calls on bytes, and the real ends.
 #![tactic(auto)]
 
 #[cfg(test)]

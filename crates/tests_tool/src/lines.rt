@@ -76,8 +76,8 @@ const ROWS: &[(&str, &str, (u8, &str))] = &[
 
 #[test]
 fn lines_have_replies(rt: HostRuntime) -> Result<(), Fail> {
-    for (line, text, want) in ROWS {
-        let is_reply = replies(rt.alloc(), line, text.as_bytes(), b"", *want)?;
+    for (line, text, expected) in ROWS {
+        let is_reply = replies(rt.alloc(), line, text.as_bytes(), b"", *expected)?;
         assert!(rt; is_reply, "on {line}");
     }
     Ok(())

@@ -8,13 +8,13 @@ use Rattle.text_parser.specs.declared.terminal.Terminal.{Terminal}
 use Rattle.text_parser.specs.declared.terminal.Terminal.TheVariants.{RoundOpen, RoundClose, Bang, And, Or, Compares, Zero, One, Number, WideNumber, True, False, Name}
 use Rattle.text_parser.specs.declared.reading.Context.{Context}
 use Rattle.text_parser.specs.Lexemes.{Lexeme, lexeme, heads, is_terminal}
-use Rattle.text_parser.specs.Parsed.{Parsed, ◌>>=◌, place_of, before, change, wants, then_wants}
+use Rattle.text_parser.specs.Parsed.{Parsed, ◌>>=◌, place_of, before, change, expects, then_expects}
 use Rattle.text_parser.specs.Actions.{CondActions, enter, enter_not}
 use Rattle.text_parser.specs.Exprs.{parse_expr, sums}
-use Rattle.text_parser.specs.Conds.{after_close, begins_expr, CondAim, disjunction, disjunction_after, conjunction, conjunction_after, literal, CondParser, relation, comparison, parenthesis, negation, literal_by, cond_by, rank, steps, cond_within, parse_cond}
+use Rattle.text_parser.specs.Conds.{index_after_matching, begins_expr, CondAim, disjunction, disjunction_after, conjunction, conjunction_after, literal, CondParser, relation, comparison, parenthesis, negation, literal_by, cond_by, rank, steps, cond_within, parse_cond}
 use Rattle.text_parser.proofs.TokenPlaces.{next_drop}
 use Rattle.text_parser.proofs.PartFaults.{closed_same}
-use Rattle.text_parser.proofs.Within.{Within, bind_within, if_within, weaken, before_within, enter_within, change_within, then_wants_within, headed, bind_same, if_same, else_same, enter_same}
+use Rattle.text_parser.proofs.Within.{Within, bind_within, if_within, weaken, before_within, enter_within, change_within, then_expects_within, headed, bind_same, if_same, else_same, enter_same}
 use Rattle.text_parser.proofs.ExprSteps.{expr_read_short}
 
 -- 1 if the aim may consume no token, else 0
@@ -37,8 +37,8 @@ comparison_short g c ts = bind_within (length ts + 0) (length ts) (parse_expr g.
     (λ r le. bind_within (length r.1 + 0) (length ts) (parse_expr g.exprs sums c r.1) (λ y. Ok (g.compare r.0 x.0 y.0, y.1)) (expr_read_short g.exprs sums c r.1) (λ y l. omega arith)))
 
 parenthesis_short : {E B L : Type 0} (g : CondActions E B L) (f : CondParser B L) → IsShort f → (c : Context) (at : ℕ) (ts : List Lexeme) → Within (suc (length ts)) (parenthesis g f c at ts)
-parenthesis_short g f s c at ts = enter_within (suc (length ts)) (enter c at) (λ d. change g.enclosed (then_wants (is_terminal RoundClose) (f disjunction d ts)))
-    (λ d. change_within (suc (length ts)) g.enclosed (then_wants (is_terminal RoundClose) (f disjunction d ts)) (then_wants_within (is_terminal RoundClose) (suc (length ts)) (f disjunction d ts) (weaken (length ts + 0) (suc (length ts)) (f disjunction d ts) (omega arith) (s disjunction d ts))))
+parenthesis_short g f s c at ts = enter_within (suc (length ts)) (enter c at) (λ d. change g.enclosed (then_expects (is_terminal RoundClose) (f disjunction d ts)))
+    (λ d. change_within (suc (length ts)) g.enclosed (then_expects (is_terminal RoundClose) (f disjunction d ts)) (then_expects_within (is_terminal RoundClose) (suc (length ts)) (f disjunction d ts) (weaken (length ts + 0) (suc (length ts)) (f disjunction d ts) (omega arith) (s disjunction d ts))))
 
 negation_short : {E B L : Type 0} (g : CondActions E B L) (f : CondParser B L) → IsShort f → (c : Context) (at : ℕ) (ts : List Lexeme) → Within (suc (length ts)) (negation g f c at ts)
 negation_short g f s c at ts = enter_within (suc (length ts)) (enter_not c at) (λ d. change g.negated (f literal d ts))
@@ -50,7 +50,7 @@ literal_short g f s c (lexeme True at text ∷ ts) = omega arith
 literal_short g f s c (lexeme False at text ∷ ts) = omega arith
 literal_short g f s c (lexeme Bang at text ∷ ts) = negation_short g f s c at ts
 literal_short g f s c (lexeme Name at text ∷ ts) = if_within (suc (length ts)) (begins_expr ts) (comparison g c (lexeme Name at text ∷ ts)) (before ts (g.named c at text)) (λ h. comparison_short g c (lexeme Name at text ∷ ts)) (λ h. before_within (suc (length ts)) ts (g.named c at text) (omega arith))
-literal_short g f s c (lexeme RoundOpen at text ∷ ts) = if_within (suc (length ts)) (begins_expr (after_close 0 ts)) (comparison g c (lexeme RoundOpen at text ∷ ts)) (parenthesis g f c at ts) (λ h. comparison_short g c (lexeme RoundOpen at text ∷ ts)) (λ h. parenthesis_short g f s c at ts)
+literal_short g f s c (lexeme RoundOpen at text ∷ ts) = if_within (suc (length ts)) (begins_expr (index_after_matching 0 ts)) (comparison g c (lexeme RoundOpen at text ∷ ts)) (parenthesis g f c at ts) (λ h. comparison_short g c (lexeme RoundOpen at text ∷ ts)) (λ h. parenthesis_short g f s c at ts)
 literal_short g f s c (lexeme Zero at text ∷ ts) = comparison_short g c (lexeme Zero at text ∷ ts)
 literal_short g f s c (lexeme One at text ∷ ts) = comparison_short g c (lexeme One at text ∷ ts)
 literal_short g f s c (lexeme (Number n) at text ∷ ts) = comparison_short g c (lexeme (Number n) at text ∷ ts)
@@ -82,7 +82,7 @@ abbrev Same : {B L : Type 0} → CondParser B L → CondParser B L → ℕ → T
 Same {B} {L} f h n = (x : CondAim L) (c : Context) (ts : List Lexeme) → steps x ts < n → f x c ts ≡ h x c ts
 
 parenthesis_same : {E B L : Type 0} (g : CondActions E B L) (f h : CondParser B L) (c : Context) (at : ℕ) (ts : List Lexeme) → Same f h (8 * suc (length ts)) → parenthesis g f c at ts ≡ parenthesis g h c at ts
-parenthesis_same g f h c at ts a = enter_same (enter c at) _ _ (λ d. ap (λ (m : Parsed _). change g.enclosed (then_wants (is_terminal RoundClose) m)) (a disjunction d ts (omega arith)))
+parenthesis_same g f h c at ts a = enter_same (enter c at) _ _ (λ d. ap (λ (m : Parsed _). change g.enclosed (then_expects (is_terminal RoundClose) m)) (a disjunction d ts (omega arith)))
 
 literal_same : {E B L : Type 0} (g : CondActions E B L) (f h : CondParser B L) (c : Context) (ts : List Lexeme) → Same f h (8 * length ts) → literal_by g f c ts ≡ literal_by g h c ts
 literal_same g f h c [] a = refl
@@ -90,7 +90,7 @@ literal_same g f h c (lexeme True at text ∷ ts) a = refl
 literal_same g f h c (lexeme False at text ∷ ts) a = refl
 literal_same g f h c (lexeme Bang at text ∷ ts) a = enter_same (enter_not c at) _ _ (λ d. ap (change g.negated) (a literal d ts (omega arith)))
 literal_same g f h c (lexeme Name at text ∷ ts) a = refl
-literal_same g f h c (lexeme RoundOpen at text ∷ ts) a = else_same (begins_expr (after_close 0 ts)) _ _ _ (parenthesis_same g f h c at ts (λ x d us lt. a x d us (omega arith)))
+literal_same g f h c (lexeme RoundOpen at text ∷ ts) a = else_same (begins_expr (index_after_matching 0 ts)) _ _ _ (parenthesis_same g f h c at ts (λ x d us lt. a x d us (omega arith)))
 literal_same g f h c (lexeme Zero at text ∷ ts) a = refl
 literal_same g f h c (lexeme One at text ∷ ts) a = refl
 literal_same g f h c (lexeme (Number n) at text ∷ ts) a = refl
@@ -183,11 +183,11 @@ name_compared g c ts s at text us seen is compares = rw (seen, is) (cond_step g 
 pub name_alone : {E B L : Type 0} (g : CondActions E B L) (c : Context) (ts : List Lexeme) (s : Terminal) (at : ℕ) (text : List ℕ) (us : List Lexeme) → ts ≡ lexeme s at text ∷ us → s ≡ Name → begins_expr us ≡ false → parse_cond g literal c ts ≡ before us (g.named c at text)
 name_alone g c ts s at text us seen is alone = literal_seen g c ts s Name at text us seen is ∙ cond-false (begins_expr us) (comparison g c (lexeme Name at text ∷ us)) (before us (g.named c at text)) alone
 
-pub round_compared : {E B L : Type 0} (g : CondActions E B L) (c : Context) (ts : List Lexeme) (s : Terminal) (at : ℕ) (text : List ℕ) (us : List Lexeme) → ts ≡ lexeme s at text ∷ us → s ≡ RoundOpen → begins_expr (after_close 0 us) ≡ true → parse_cond g literal c ts ≡ comparison g c ts
-round_compared g c ts s at text us seen is compares = rw (seen, is) (cond_step g literal c (lexeme RoundOpen at text ∷ us) ∙ cond-true (begins_expr (after_close 0 us)) (comparison g c (lexeme RoundOpen at text ∷ us)) (parenthesis g (parse_cond g) c at us) compares)
+pub round_compared : {E B L : Type 0} (g : CondActions E B L) (c : Context) (ts : List Lexeme) (s : Terminal) (at : ℕ) (text : List ℕ) (us : List Lexeme) → ts ≡ lexeme s at text ∷ us → s ≡ RoundOpen → begins_expr (index_after_matching 0 us) ≡ true → parse_cond g literal c ts ≡ comparison g c ts
+round_compared g c ts s at text us seen is compares = rw (seen, is) (cond_step g literal c (lexeme RoundOpen at text ∷ us) ∙ cond-true (begins_expr (index_after_matching 0 us)) (comparison g c (lexeme RoundOpen at text ∷ us)) (parenthesis g (parse_cond g) c at us) compares)
 
-pub round_alone : {E B L : Type 0} (g : CondActions E B L) (c : Context) (ts : List Lexeme) (s : Terminal) (at : ℕ) (text : List ℕ) (us : List Lexeme) → ts ≡ lexeme s at text ∷ us → s ≡ RoundOpen → begins_expr (after_close 0 us) ≡ false → parse_cond g literal c ts ≡ parenthesis g (parse_cond g) c at us
-round_alone g c ts s at text us seen is alone = literal_seen g c ts s RoundOpen at text us seen is ∙ cond-false (begins_expr (after_close 0 us)) (comparison g c (lexeme RoundOpen at text ∷ us)) (parenthesis g (parse_cond g) c at us) alone
+pub round_alone : {E B L : Type 0} (g : CondActions E B L) (c : Context) (ts : List Lexeme) (s : Terminal) (at : ℕ) (text : List ℕ) (us : List Lexeme) → ts ≡ lexeme s at text ∷ us → s ≡ RoundOpen → begins_expr (index_after_matching 0 us) ≡ false → parse_cond g literal c ts ≡ parenthesis g (parse_cond g) c at us
+round_alone g c ts s at text us seen is alone = literal_seen g c ts s RoundOpen at text us seen is ∙ cond-false (begins_expr (index_after_matching 0 us)) (comparison g c (lexeme RoundOpen at text ∷ us)) (parenthesis g (parse_cond g) c at us) alone
 
 pub number_compared : {E B L : Type 0} (g : CondActions E B L) (c : Context) (ts : List Lexeme) (s : Terminal) (at : ℕ) (text : List ℕ) (us : List Lexeme) → ts ≡ lexeme s at text ∷ us → (s ≡ Zero) ⊎ ((s ≡ One) ⊎ (((n : ℕ) × (s ≡ Number n)) ⊎ (s ≡ WideNumber))) → parse_cond g literal c ts ≡ comparison g c ts
 number_compared g c ts s at text us seen (inl is) = rw (seen, is) (cond_step g literal c (lexeme Zero at text ∷ us))
@@ -243,8 +243,8 @@ parenthesis_refused g f c at ts e refused = rw refused refl
 pub parenthesis_fault : {E B L : Type 0} (g : CondActions E B L) (f : CondParser B L) (c d : Context) (at : ℕ) (ts : List Lexeme) (e : TextFault) → enter c at ≡ Ok d → f disjunction d ts ≡ Err e → parenthesis g f c at ts ≡ Err e
 parenthesis_fault g f c d at ts e entered h = rw (entered, h) refl
 
-pub parenthesis_read : {E B L : Type 0} (g : CondActions E B L) (f : CondParser B L) (c d : Context) (at : ℕ) (ts : List Lexeme) (x : B × List Lexeme) → enter c at ≡ Ok d → f disjunction d ts ≡ Ok x → parenthesis g f c at ts ≡ then_wants (is_terminal RoundClose) (Ok (g.enclosed x.0, x.1))
-parenthesis_read g f c d at ts x entered h = rw (entered, h) (closed_same g.enclosed x.0 (g.enclosed x.0) (wants (is_terminal RoundClose) x.1) refl)
+pub parenthesis_read : {E B L : Type 0} (g : CondActions E B L) (f : CondParser B L) (c d : Context) (at : ℕ) (ts : List Lexeme) (x : B × List Lexeme) → enter c at ≡ Ok d → f disjunction d ts ≡ Ok x → parenthesis g f c at ts ≡ then_expects (is_terminal RoundClose) (Ok (g.enclosed x.0, x.1))
+parenthesis_read g f c d at ts x entered h = rw (entered, h) (closed_same g.enclosed x.0 (g.enclosed x.0) (expects (is_terminal RoundClose) x.1) refl)
 
 -- the parser consumes at least one token, or none for the rest of a list
 pub cond_read_short : {E B L : Type 0} (g : CondActions E B L) → IsShort (parse_cond g)

@@ -7,12 +7,12 @@ use Rattle.text_parser.specs.declared.terminal.Terminal.TheVariants.{RoundOpen, 
 use Rattle.text_parser.specs.declared.reading.Context.{Context}
 use Rattle.text_parser.specs.declared.reading.Operator.TheVariants.{Multiply}
 use Rattle.text_parser.specs.Lexemes.{Lexeme, lexeme, heads, is_sum, is_terminal}
-use Rattle.text_parser.specs.Parsed.{Parsed, ◌>>=◌, place_of, change, wants, then_wants}
+use Rattle.text_parser.specs.Parsed.{Parsed, ◌>>=◌, place_of, change, expects, then_expects}
 use Rattle.text_parser.specs.Actions.{ExprActions, enter}
 use Rattle.text_parser.specs.Exprs.{operator_at, ExprAim, sums, sums_after, products, products_after, factor, ExprParser, parenthesis, factor_by, expr_by, rank, steps, expr_within, parse_expr}
 use Rattle.text_parser.proofs.TokenPlaces.{next_drop}
 use Rattle.text_parser.proofs.PartFaults.{closed_same}
-use Rattle.text_parser.proofs.Within.{Within, bind_within, if_within, weaken, before_within, enter_within, change_within, then_wants_within, headed, bind_same, if_same, enter_same}
+use Rattle.text_parser.proofs.Within.{Within, bind_within, if_within, weaken, before_within, enter_within, change_within, then_expects_within, headed, bind_same, if_same, enter_same}
 
 -- 1 if the aim may consume no token, else 0
 abbrev pub slack : {E : Type 0} → ExprAim E → ℕ
@@ -29,8 +29,8 @@ factor_short g f s c (lexeme Zero at text ∷ ts) = before_within _ ts (g.number
 factor_short g f s c (lexeme One at text ∷ ts) = before_within _ ts (g.number c at 1) (omega arith)
 factor_short g f s c (lexeme (Number n) at text ∷ ts) = before_within _ ts (g.number c at n) (omega arith)
 factor_short g f s c (lexeme Name at text ∷ ts) = before_within _ ts (g.variable c at text) (omega arith)
-factor_short g f s c (lexeme RoundOpen at text ∷ ts) = enter_within (suc (length ts)) (enter c at) (λ d. change g.enclosed (then_wants (is_terminal RoundClose) (f sums d ts)))
-    (λ d. change_within (suc (length ts)) g.enclosed (then_wants (is_terminal RoundClose) (f sums d ts)) (then_wants_within (is_terminal RoundClose) (suc (length ts)) (f sums d ts) (weaken (length ts + 0) (suc (length ts)) (f sums d ts) (omega arith) (s sums d ts))))
+factor_short g f s c (lexeme RoundOpen at text ∷ ts) = enter_within (suc (length ts)) (enter c at) (λ d. change g.enclosed (then_expects (is_terminal RoundClose) (f sums d ts)))
+    (λ d. change_within (suc (length ts)) g.enclosed (then_expects (is_terminal RoundClose) (f sums d ts)) (then_expects_within (is_terminal RoundClose) (suc (length ts)) (f sums d ts) (weaken (length ts + 0) (suc (length ts)) (f sums d ts) (omega arith) (s sums d ts))))
 factor_short g f s c (lexeme _ at text ∷ ts) = tt
 
 -- a part and the rest of its list consume at least one token
@@ -63,7 +63,7 @@ factor_same g f h c (lexeme Zero at text ∷ ts) a = refl
 factor_same g f h c (lexeme One at text ∷ ts) a = refl
 factor_same g f h c (lexeme (Number n) at text ∷ ts) a = refl
 factor_same g f h c (lexeme Name at text ∷ ts) a = refl
-factor_same g f h c (lexeme RoundOpen at text ∷ ts) a = enter_same (enter c at) _ _ (λ d. ap (λ (m : Parsed _). change g.enclosed (then_wants (is_terminal RoundClose) m)) (a sums d ts (omega arith)))
+factor_same g f h c (lexeme RoundOpen at text ∷ ts) a = enter_same (enter c at) _ _ (λ d. ap (λ (m : Parsed _). change g.enclosed (then_expects (is_terminal RoundClose) m)) (a sums d ts (omega arith)))
 factor_same g f h c (lexeme _ at text ∷ ts) a = refl
 
 after_same : {E : Type 0} (f h : ExprParser E) → IsShort f → (x : ExprAim E) (y : E → ExprAim E) → slack x ≡ 0 → ((e : E) → rank (y e) ≤ 3) → rank x ≤ 2 → (c : Context) (ts : List Lexeme) → f x c ts ≡ h x c ts → Same f h (8 * length ts) → (f x c ts >>= λ v. f (y v.0) c v.1) ≡ (h x c ts >>= λ v. h (y v.0) c v.1)
@@ -158,8 +158,8 @@ parenthesis_refused g f c at ts e refused = rw refused refl
 pub parenthesis_fault : {E : Type 0} (g : ExprActions E) (f : ExprParser E) (c d : Context) (at : ℕ) (ts : List Lexeme) (e : TextFault) → enter c at ≡ Ok d → f sums d ts ≡ Err e → parenthesis g f c at ts ≡ Err e
 parenthesis_fault g f c d at ts e entered h = rw (entered, h) refl
 
-pub parenthesis_read : {E : Type 0} (g : ExprActions E) (f : ExprParser E) (c d : Context) (at : ℕ) (ts : List Lexeme) (x : E × List Lexeme) → enter c at ≡ Ok d → f sums d ts ≡ Ok x → parenthesis g f c at ts ≡ then_wants (is_terminal RoundClose) (Ok (g.enclosed x.0, x.1))
-parenthesis_read g f c d at ts x entered h = rw (entered, h) (closed_same g.enclosed x.0 (g.enclosed x.0) (wants (is_terminal RoundClose) x.1) refl)
+pub parenthesis_read : {E : Type 0} (g : ExprActions E) (f : ExprParser E) (c d : Context) (at : ℕ) (ts : List Lexeme) (x : E × List Lexeme) → enter c at ≡ Ok d → f sums d ts ≡ Ok x → parenthesis g f c at ts ≡ then_expects (is_terminal RoundClose) (Ok (g.enclosed x.0, x.1))
+parenthesis_read g f c d at ts x entered h = rw (entered, h) (closed_same g.enclosed x.0 (g.enclosed x.0) (expects (is_terminal RoundClose) x.1) refl)
 
 -- the parser consumes at least one token, or none for the rest of a list
 pub expr_read_short : {E : Type 0} (g : ExprActions E) → IsShort (parse_expr g)

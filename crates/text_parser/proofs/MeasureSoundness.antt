@@ -102,10 +102,10 @@ condition_judged at (Some (TermName i)) = λ x. x.0
 condition_judged at (Some (Prog i)) = λ x. x.0
 
 deep_judged : (c : Context) (at : ℕ) (m : Extent) (n : ℕ) → m.nesting ≡ min n (MAX_OPEN + 1) → Judged (cond (nat_lt MAX_OPEN (c.depth + n)) (Err (TooDeep at)) (Ok m)) (c.depth + n ≤ MAX_OPEN) n
-deep_judged c at m n told = by_depth (nat_lt MAX_OPEN (c.depth + n)) refl where
+deep_judged c at m n given = by_depth (nat_lt MAX_OPEN (c.depth + n)) refl where
   by_depth : (b : Bool) → nat_lt MAX_OPEN (c.depth + n) ≡ b → Judged (cond b (Err (TooDeep at)) (Ok m)) (c.depth + n ≤ MAX_OPEN) n
   by_depth true e = λ le. let lt : MAX_OPEN < c.depth + n = ltb-true MAX_OPEN (c.depth + n) e in absurd (omega arith)
-  by_depth false e = (ltb-false MAX_OPEN (c.depth + n) e, told)
+  by_depth false e = (ltb-false MAX_OPEN (c.depth + n) e, given)
 
 abbrev Suits : Context → Definition → Type 0
 Suits c d = ((c.negated ≡ true → is_test d.tree ≡ true) × (c.depth + d.nesting ≤ MAX_OPEN)) × Unit {0}
@@ -212,7 +212,7 @@ module _ (w : ScopeParts) where
       (λ x. ((x.0.0, x.1.0), (x.0.1, x.1.1))) (λ x. ((x.0.0, x.1.0), (x.0.1, x.1.1))) refl
       (then_judged (fold (extents w) c e (λ m. m)) (λ v. fold (extents w) c f (λ m. m) >>= λ u. Ok (compare v u)) (IsSound w c e × IsWithinLimits c.depth e) (IsSound w c f × IsWithinLimits c.depth f) (nesting w e) (max (nesting w e) (nesting w f))
       (first (fold (extents w) c e (λ m. m)) (IsSound w c e × IsWithinLimits c.depth e) (nesting w e) (judged e c (λ m. m) 0 adds_none))
-      (λ m same. changed (fold (extents w) c f (λ m. m)) (compare m) (IsSound w c f × IsWithinLimits c.depth f) (nesting w f) (max (nesting w e) (nesting w f)) (λ u told. omega arith)
+      (λ m same. changed (fold (extents w) c f (λ m. m)) (compare m) (IsSound w c f × IsWithinLimits c.depth f) (nesting w f) (max (nesting w e) (nesting w f)) (λ u given. omega arith)
       (first (fold (extents w) c f (λ m. m)) (IsSound w c f × IsWithinLimits c.depth f) (nesting w f) (judged f c (λ m. m) 0 adds_none))))
   judged (one_mul p) c = λ k a d. last (fold (extents w) c p (λ m. m)) k a (nesting w p) (IsSound w c p × IsWithinLimits c.depth p) d (first (fold (extents w) c p (λ m. m)) (IsSound w c p × IsWithinLimits c.depth p) (nesting w p) (judged p c (λ m. m) 0 adds_none))
   judged (more_muls p l minus t) c = λ k a d.

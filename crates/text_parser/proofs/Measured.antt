@@ -21,15 +21,15 @@ use Rattle.text_parser.specs.ScopeParts.{Definition, ScopeParts, meaning}
 use Rattle.text_parser.specs.Building.{joined, variable_tree, condition_tree, defined_tree, name_tree, trees}
 use Rattle.text_parser.specs.Measuring.{limited, linked, topped, compared_nodes, variable_extent, condition_extent, defined_extent, name_extent, starred as star_extent, extents}
 use Rattle.text_parser.specs.Sound.{IsSound, nesting}
-use Rattle.text_parser.specs.Laws.{told_nodes, cond_nodes, MeasuresTerm, MeasuresCond, MeasuresExpr}
+use Rattle.text_parser.specs.Laws.{given_nodes, cond_nodes, MeasuresTerm, MeasuresCond, MeasuresExpr}
 use Rattle.text_parser.proofs.BalancedMeasures.{size_grown, most_grown, test_grown}
 use Rattle.text_parser.proofs.MeasureSoundness.{Judged, judged, adds_none, first, extent_of}
 use Rattle.text_parser.proofs.Related.{Both, AreRelated, related}
 
 -- ---- node counts
 
-told_sum : (a b s t : ℕ) → capped (told_nodes a s + told_nodes b t + 1) ≡ told_nodes (max a b) (s + t + 1)
-told_sum a b s t = by_sizes (nat_lt MAX_EXPR_NODES a) refl (nat_lt MAX_EXPR_NODES b) refl (nat_lt MAX_EXPR_NODES (max a b)) refl where
+given_sum : (a b s t : ℕ) → capped (given_nodes a s + given_nodes b t + 1) ≡ given_nodes (max a b) (s + t + 1)
+given_sum a b s t = by_sizes (nat_lt MAX_EXPR_NODES a) refl (nat_lt MAX_EXPR_NODES b) refl (nat_lt MAX_EXPR_NODES (max a b)) refl where
   by_sizes : (x : Bool) → nat_lt MAX_EXPR_NODES a ≡ x → (y : Bool) → nat_lt MAX_EXPR_NODES b ≡ y → (z : Bool) → nat_lt MAX_EXPR_NODES (max a b) ≡ z → capped (cond x (MAX_TERM_NODES + 1) (capped s) + cond y (MAX_TERM_NODES + 1) (capped t) + 1) ≡ cond z (MAX_TERM_NODES + 1) (capped (s + t + 1))
   by_sizes true e true f true g = omega arith
   by_sizes true e true f false g = let p : MAX_EXPR_NODES < a = ltb-true MAX_EXPR_NODES a e in let q : max a b ≤ MAX_EXPR_NODES = ltb-false MAX_EXPR_NODES (max a b) g in absurd (omega arith)
@@ -41,14 +41,14 @@ told_sum a b s t = by_sizes (nat_lt MAX_EXPR_NODES a) refl (nat_lt MAX_EXPR_NODE
       let p : a ≤ MAX_EXPR_NODES = ltb-false MAX_EXPR_NODES a e in let r : b ≤ MAX_EXPR_NODES = ltb-false MAX_EXPR_NODES b f in let q : MAX_EXPR_NODES < max a b = ltb-true MAX_EXPR_NODES (max a b) g in absurd (omega arith)
   by_sizes false e false f false g = omega arith
 
-told_next : (a s : ℕ) → capped (capped (told_nodes a s + 1)) ≡ told_nodes a (s + 1)
-told_next a s = elim (nat_lt MAX_EXPR_NODES a) as (λ b. capped (capped (cond b (MAX_TERM_NODES + 1) (capped s) + 1)) ≡ cond b (MAX_TERM_NODES + 1) (capped (s + 1))) [ true ↦ omega arith | false ↦ omega arith ]
+given_next : (a s : ℕ) → capped (capped (given_nodes a s + 1)) ≡ given_nodes a (s + 1)
+given_next a s = elim (nat_lt MAX_EXPR_NODES a) as (λ b. capped (capped (cond b (MAX_TERM_NODES + 1) (capped s) + 1)) ≡ cond b (MAX_TERM_NODES + 1) (capped (s + 1))) [ true ↦ omega arith | false ↦ omega arith ]
 
-pub told_kept : (a s : ℕ) → capped (told_nodes a s) ≡ told_nodes a s
-told_kept a s = elim (nat_lt MAX_EXPR_NODES a) as (λ b. capped (cond b (MAX_TERM_NODES + 1) (capped s)) ≡ cond b (MAX_TERM_NODES + 1) (capped s)) [ true ↦ omega arith | false ↦ omega arith ]
+pub given_kept : (a s : ℕ) → capped (given_nodes a s) ≡ given_nodes a s
+given_kept a s = elim (nat_lt MAX_EXPR_NODES a) as (λ b. capped (cond b (MAX_TERM_NODES + 1) (capped s)) ≡ cond b (MAX_TERM_NODES + 1) (capped s)) [ true ↦ omega arith | false ↦ omega arith ]
 
-pub told_compared : (m a : ℕ) → m ≡ capped a → compared_nodes m ≡ told_nodes a a
-told_compared m a e = by_sizes (nat_lt MAX_EXPR_NODES m) refl (nat_lt MAX_EXPR_NODES a) refl where
+pub given_compared : (m a : ℕ) → m ≡ capped a → compared_nodes m ≡ given_nodes a a
+given_compared m a e = by_sizes (nat_lt MAX_EXPR_NODES m) refl (nat_lt MAX_EXPR_NODES a) refl where
   by_sizes : (x : Bool) → nat_lt MAX_EXPR_NODES m ≡ x → (y : Bool) → nat_lt MAX_EXPR_NODES a ≡ y → cond x (MAX_TERM_NODES + 1) m ≡ cond y (MAX_TERM_NODES + 1) (capped a)
   by_sizes true f true g = refl
   by_sizes true f false g = let p : MAX_EXPR_NODES < m = ltb-true MAX_EXPR_NODES m f in let q : a ≤ MAX_EXPR_NODES = ltb-false MAX_EXPR_NODES a g in absurd (omega arith)
@@ -56,13 +56,13 @@ told_compared m a e = by_sizes (nat_lt MAX_EXPR_NODES m) refl (nat_lt MAX_EXPR_N
   by_sizes false f false g = e
 
 -- the nodes of a node that joins two parts
-joined_told : (m n a s b t large size : ℕ) → m ≡ told_nodes a s → n ≡ told_nodes b t → large ≡ max a b → size ≡ s + t + 1 → capped (m + n + 1) ≡ told_nodes large size
-joined_told m n a s b t large size e f g h =
+joined_given : (m n a s b t large size : ℕ) → m ≡ given_nodes a s → n ≡ given_nodes b t → large ≡ max a b → size ≡ s + t + 1 → capped (m + n + 1) ≡ given_nodes large size
+joined_given m n a s b t large size e f g h =
     ap (λ (k : ℕ). capped (k + n + 1)) e
-    ∙ ap (λ (k : ℕ). capped (told_nodes a s + k + 1)) f
-    ∙ told_sum a b s t
-    ∙ ap (λ (k : ℕ). told_nodes k (s + t + 1)) (sym g)
-    ∙ ap (λ (k : ℕ). told_nodes large k) (sym h)
+    ∙ ap (λ (k : ℕ). capped (given_nodes a s + k + 1)) f
+    ∙ given_sum a b s t
+    ∙ ap (λ (k : ℕ). given_nodes k (s + t + 1)) (sym g)
+    ∙ ap (λ (k : ℕ). given_nodes large k) (sym h)
 
 joined_capped : (m n a b size : ℕ) → m ≡ capped a → n ≡ capped b → size ≡ a + b + 1 → capped (m + n + 1) ≡ capped size
 joined_capped m n a b size e f g = omega arith
@@ -115,16 +115,16 @@ condition_measured c at (Some (Var k)) = tt
 condition_measured c at (Some (TermName i)) = tt
 condition_measured c at (Some (Prog i)) = tt
 
-compare_measured : (c : Context) (r : Rel) (x y : Extent) (e f : ExprTree) → IsExprMeasure c x e → IsExprMeasure c y f → capped (compared_nodes x.nodes + compared_nodes y.nodes + 1) ≡ told_nodes (max (expr_size e) (expr_size f)) (expr_size e + expr_size f + 1)
+compare_measured : (c : Context) (r : Rel) (x y : Extent) (e f : ExprTree) → IsExprMeasure c x e → IsExprMeasure c y f → capped (compared_nodes x.nodes + compared_nodes y.nodes + 1) ≡ given_nodes (max (expr_size e) (expr_size f)) (expr_size e + expr_size f + 1)
 compare_measured c r x y e f h k =
-    joined_told (compared_nodes x.nodes) (compared_nodes y.nodes) (expr_size e) (expr_size e) (expr_size f) (expr_size f) (max (expr_size e) (expr_size f)) (expr_size e + expr_size f + 1)
-    (told_compared x.nodes (expr_size e) h.0) (told_compared y.nodes (expr_size f) k.0) refl refl
+    joined_given (compared_nodes x.nodes) (compared_nodes y.nodes) (expr_size e) (expr_size e) (expr_size f) (expr_size f) (max (expr_size e) (expr_size f)) (expr_size e + expr_size f + 1)
+    (given_compared x.nodes (expr_size e) h.0) (given_compared y.nodes (expr_size f) k.0) refl refl
 
 -- the measure of a list after an appended condition
 more_measured : (c : Context) (unit : CondTree) (node : CondTree → CondTree → CondTree) → ((x y : CondTree) → cond_size (node x y) ≡ cond_size x + cond_size y + 1) → ((x y : CondTree) → largest_expr (node x y) ≡ max (largest_expr x) (largest_expr y)) → ((x y : CondTree) → test_size (test_without_comparisons (node x y)) ≡ test_size (test_without_comparisons x) + test_size (test_without_comparisons y) + 1)
     → (m n : Extent) (bs : List CondTree) (b : CondTree) → 0 < length bs → IsCondMeasure c m (balanced unit node bs) → IsCondMeasure c n b → IsCondMeasure c (linked m n) (balanced unit node (bs ++ b ∷ []))
 more_measured c unit node sizes largest tests m n bs b some h k = (
-  joined_told m.nodes n.nodes (largest_expr (balanced unit node bs)) (cond_size (balanced unit node bs)) (largest_expr b) (cond_size b) (largest_expr (balanced unit node (bs ++ b ∷ []))) (cond_size (balanced unit node (bs ++ b ∷ []))) h.0 k.0
+  joined_given m.nodes n.nodes (largest_expr (balanced unit node bs)) (cond_size (balanced unit node bs)) (largest_expr b) (cond_size b) (largest_expr (balanced unit node (bs ++ b ∷ []))) (cond_size (balanced unit node (bs ++ b ∷ []))) h.0 k.0
       (most_grown unit node largest_expr largest bs b some) (size_grown unit node cond_size sizes bs b some),
   (λ none. joined_capped m.nodes n.nodes (test_size (test_without_comparisons (balanced unit node bs))) (test_size (test_without_comparisons b)) (test_size (test_without_comparisons (balanced unit node (bs ++ b ∷ [])))) (h.1 none) (k.1 none)
       (size_grown unit node (λ x. test_size (test_without_comparisons x)) tests bs b some)),
@@ -189,8 +189,8 @@ module _ (w : ScopeParts) where
     never = λ c. (refl, λ n. refl);
     named_cond = λ c at text. condition_measured c at (meaning w text);
     compare = λ c r x y e f h k. (compare_measured c r x y e f h k, λ n. absurd (both_ways c.compares n h.1));
-    negated_cond = λ c m b h. (ap (λ (n : ℕ). capped (capped (n + 1))) h.0 ∙ told_next (largest_expr b) (cond_size b), λ n. let same : m.nodes ≡ capped (test_size (test_without_comparisons b)) = h.1 n in omega arith);
-    enclosed_cond = λ c m b h. (ap capped h.0 ∙ told_kept (largest_expr b) (cond_size b), λ n. let same : m.nodes ≡ capped (test_size (test_without_comparisons b)) = h.1 n in omega arith);
+    negated_cond = λ c m b h. (ap (λ (n : ℕ). capped (capped (n + 1))) h.0 ∙ given_next (largest_expr b) (cond_size b), λ n. let same : m.nodes ≡ capped (test_size (test_without_comparisons b)) = h.1 n in omega arith);
+    enclosed_cond = λ c m b h. (ap capped h.0 ∙ given_kept (largest_expr b) (cond_size b), λ n. let same : m.nodes ≡ capped (test_size (test_without_comparisons b)) = h.1 n in omega arith);
     one_cond = λ c m b h. (omega arith, h, h);
     more_conds = λ c m bs n b h k. (
       longer bs b,
@@ -205,7 +205,7 @@ module _ (w : ScopeParts) where
     negated = λ c m e h n. let same : m.test_nodes ≡ capped (test_size (as_test e)) = ((h n).1 refl).1 in (omega arith, λ t. (refl, omega arith));
     tested = λ c m b h n. let same : m.nodes ≡ capped (test_size (test_without_comparisons b)) = h.1 n in (omega arith, λ t. (refl, omega arith));
     enclosed = λ c m e h n. let same : m.nodes ≡ capped (term_size e) = (h n).0 in
-        (omega arith, λ t. (((h n).1 t).0, let told : m.test_nodes ≡ capped (test_size (as_test e)) = ((h n).1 t).1 in omega arith));
+        (omega arith, λ t. (((h n).1 t).0, let given : m.test_nodes ≡ capped (test_size (as_test e)) = ((h n).1 t).1 in omega arith));
     starred = λ c at m e h. star_measured c at m e _ refl h;
     one_term = λ c m e h. (omega arith, h, h);
     more_terms = λ c m es n e h k. (
@@ -226,8 +226,8 @@ pub ok_value : (r : Result Extent TextFault) → IsOk r → (m : Extent) × (r �
 ok_value (Ok m) h = (m, refl)
 ok_value (Err e) h = absurd cc
 
-pub told_of : (r : Result Extent TextFault) (P : Type 0) (n : ℕ) (m : Extent) → Judged r P n → r ≡ Ok m → m.nesting ≡ min n (MAX_OPEN + 1)
-told_of r P n m h e = let k : Judged (Ok m) P n = subst (λ (s : Result Extent TextFault). Judged s P n) e h in k.1
+pub given_of : (r : Result Extent TextFault) (P : Type 0) (n : ℕ) (m : Extent) → Judged r P n → r ≡ Ok m → m.nesting ≡ min n (MAX_OPEN + 1)
+given_of r P n m h e = let k : Judged (Ok m) P n = subst (λ (s : Result Extent TextFault). Judged s P n) e h in k.1
 
 pub decided : (r : Result Extent TextFault) (P : Type 0) (n : ℕ) → Judged r P n → IsOk r ↔ P
 decided (Ok m) P n h = (λ t. h.0, λ p. refl)
@@ -257,14 +257,14 @@ module _ (w : ScopeParts) where
   pub term_measured : (c : Context) (p : Phrase term) (m : Extent) → c.compares ≡ false → fold (extents w) c p (λ m. m) ≡ Ok m → MeasuresTerm w c p m
   term_measured c p m none e =
       let h = made (IsTermMeasure c) (fold (extents w) c p (λ m. m)) (fold (trees w) c p (λ e. e ∷ [])) m e (related IsExprMeasure IsCondMeasure IsCondsMeasure IsTermMeasure IsTermsMeasure (extents w) (trees w) (measures w) p c (λ m. m) (λ e. e ∷ []) (λ x y k. (omega arith, k, k))) in
-      record { tree = h.0; built = h.1; nodes = (h.2 none).0; levels = told_of (fold (extents w) c p (λ m. m)) (IsSound w c p × IsWithinLimits c.depth p) (nesting w p) m (term_judged c p) e }
+      record { tree = h.0; built = h.1; nodes = (h.2 none).0; levels = given_of (fold (extents w) c p (λ m. m)) (IsSound w c p × IsWithinLimits c.depth p) (nesting w p) m (term_judged c p) e }
 
   pub cond_measured : (c : Context) (p : Phrase cond_symbol) (m : Extent) → fold (extents w) c p (λ m. m) ≡ Ok m → MeasuresCond w c p m
   cond_measured c p m e =
       let h = made (IsCondMeasure c) (fold (extents w) c p (λ m. m)) (fold (trees w) c p (λ b. b ∷ [])) m e (related IsExprMeasure IsCondMeasure IsCondsMeasure IsTermMeasure IsTermsMeasure (extents w) (trees w) (measures w) p c (λ m. m) (λ b. b ∷ []) (λ x y k. (omega arith, k, k))) in
-      record { tree = h.0; built = h.1; nodes = h.2.0; as_test = h.2.1; levels = told_of (fold (extents w) c p (λ m. m)) (IsSound w c p × IsWithinLimits c.depth p) (nesting w p) m (cond_judged c p) e }
+      record { tree = h.0; built = h.1; nodes = h.2.0; as_test = h.2.1; levels = given_of (fold (extents w) c p (λ m. m)) (IsSound w c p × IsWithinLimits c.depth p) (nesting w p) m (cond_judged c p) e }
 
   pub expr_measured : (c : Context) (p : Phrase expr) (m : Extent) → fold (extents w) c p (λ m. m) ≡ Ok m → MeasuresExpr w c p m
   expr_measured c p m e =
       let h = made (IsExprMeasure c) (fold (extents w) c p (λ m. m)) (fold (trees w) c p (λ e. e)) m e (related IsExprMeasure IsCondMeasure IsCondsMeasure IsTermMeasure IsTermsMeasure (extents w) (trees w) (measures w) p c (λ m. m) (λ e. e) (λ x y k. k)) in
-      record { tree = h.0; built = h.1; nodes = h.2.0; levels = told_of (fold (extents w) c p (λ m. m)) (IsSound w c p × IsWithinLimits c.depth p) (nesting w p) m (expr_judged c p) e }
+      record { tree = h.0; built = h.1; nodes = h.2.0; levels = given_of (fold (extents w) c p (λ m. m)) (IsSound w c p × IsWithinLimits c.depth p) (nesting w p) m (expr_judged c p) e }

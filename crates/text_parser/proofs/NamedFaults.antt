@@ -8,12 +8,12 @@ use Rattle.text_parser.specs.declared.terminal.Terminal.TheVariants.{RoundOpen, 
 use Rattle.text_parser.specs.declared.reading.Context.{Context}
 use Rattle.text_parser.specs.declared.reading.Operator.TheVariants.{Multiply}
 use Rattle.text_parser.specs.Lexemes.{Lexeme, lexeme, heads, is_sum, is_terminal}
-use Rattle.text_parser.specs.Parsed.{Parsed, ◌>>=◌, before, change, wants, then_wants, place_of}
+use Rattle.text_parser.specs.Parsed.{Parsed, ◌>>=◌, before, change, expects, then_expects, place_of}
 use Rattle.text_parser.specs.Actions.{ExprActions, CondActions, Actions, context, enter, enter_not}
 use Rattle.text_parser.specs.Exprs as exprs
 use Rattle.text_parser.specs.Exprs.{ExprParser, sums, sums_after, products, products_after, factor, ExprAim, operator_at, factor_by, expr_by, expr_within, parse_expr}
 use Rattle.text_parser.specs.Conds as conds
-use Rattle.text_parser.specs.Conds.{CondParser, CondAim, disjunction, disjunction_after, conjunction, conjunction_after, literal, after_close, begins_expr, relation, comparison, literal_by, cond_by, cond_within, parse_cond}
+use Rattle.text_parser.specs.Conds.{CondParser, CondAim, disjunction, disjunction_after, conjunction, conjunction_after, literal, index_after_matching, begins_expr, relation, comparison, literal_by, cond_by, cond_within, parse_cond}
 use Rattle.text_parser.specs.Terms as terms
 use Rattle.text_parser.specs.Terms.{TermParser, TermAim, choice, choice_after, sequence, sequence_after, unit, bracket, unit_by, star_or_not, term_by, term_within, parse_term}
 use Rattle.text_parser.proofs.Within.{Within, headed}
@@ -52,12 +52,12 @@ pub change_named : {V W : Type 0} (f : V → W) (m : Parsed V) → IsNamed m →
 change_named f (Ok x) h = tt
 change_named f (Err e) h = h
 
-pub wants_named : (p : Terminal → Bool) (ts : List Lexeme) → IsNamed (wants p ts)
-wants_named p [] = tt
-wants_named p (lexeme s at text ∷ ts) = if_named (p s) (Ok ts) (Err (Syntax at)) (λ e. tt) (λ e. tt)
+pub expects_named : (p : Terminal → Bool) (ts : List Lexeme) → IsNamed (expects p ts)
+expects_named p [] = tt
+expects_named p (lexeme s at text ∷ ts) = if_named (p s) (Ok ts) (Err (Syntax at)) (λ e. tt) (λ e. tt)
 
-pub then_wants_named : {V : Type 0} (p : Terminal → Bool) (m : Parsed V) → IsNamed m → IsNamed (then_wants p m)
-then_wants_named p m h = then_named m (λ x. wants p x.1 >>= λ r. Ok (x.0, r)) h (λ x. then_named (wants p x.1) (λ r. Ok (x.0, r)) (wants_named p x.1) (λ r. tt))
+pub then_expects_named : {V : Type 0} (p : Terminal → Bool) (m : Parsed V) → IsNamed m → IsNamed (then_expects p m)
+then_expects_named p m h = then_named m (λ x. expects p x.1 >>= λ r. Ok (x.0, r)) h (λ x. then_named (expects p x.1) (λ r. Ok (x.0, r)) (expects_named p x.1) (λ r. tt))
 
 enter_named : (c : Context) (at : ℕ) → IsNamed (enter c at)
 enter_named c at = if_named (nat_lt c.depth MAX_OPEN) (Ok (context (c.depth + 1) c.negated c.compares)) (Err (TooDeep at)) (λ e. tt) (λ e. tt)
@@ -83,8 +83,8 @@ module _ {E : Type 0} (g : ExprActions E) (names : NameExprs g) where
   factor_named f c (lexeme (Number n) at text ∷ ts) a = before_named ts (g.number c at n) (names.number c at n)
   factor_named f c (lexeme Name at text ∷ ts) a = before_named ts (g.variable c at text) (names.variable c at text)
   factor_named f c (lexeme RoundOpen at text ∷ ts) a =
-      then_named (enter c at) (λ d. change g.enclosed (then_wants (is_terminal RoundClose) (f sums d ts))) (enter_named c at)
-      (λ d. change_named g.enclosed (then_wants (is_terminal RoundClose) (f sums d ts)) (then_wants_named (is_terminal RoundClose) (f sums d ts) (a sums d ts (omega arith))))
+      then_named (enter c at) (λ d. change g.enclosed (then_expects (is_terminal RoundClose) (f sums d ts))) (enter_named c at)
+      (λ d. change_named g.enclosed (then_expects (is_terminal RoundClose) (f sums d ts)) (then_expects_named (is_terminal RoundClose) (f sums d ts) (a sums d ts (omega arith))))
   factor_named f c (lexeme _ at text ∷ ts) a = tt
 
   after_named : (f : ExprParser E) → expr_steps.IsShort f → (x : ExprAim E) (y : E → ExprAim E) → expr_steps.slack x ≡ 0 → ((e : E) → exprs.rank (y e) ≤ 3) → (c : Context) (ts : List Lexeme) → IsNamed (f x c ts) → NamesBelow f (8 * length ts) → IsNamed (f x c ts >>= λ v. f (y v.0) c v.1)
@@ -131,8 +131,8 @@ module _ {E B L : Type 0} (g : CondActions E B L) (names : NameConds g) where
 
   parenthesis_named : (f : CondParser B L) (c : Context) (at : ℕ) (ts : List Lexeme) → CondsBelow f (8 * suc (length ts)) → IsNamed (conds.parenthesis g f c at ts)
   parenthesis_named f c at ts a =
-      then_named (enter c at) (λ d. change g.enclosed (then_wants (is_terminal RoundClose) (f disjunction d ts))) (enter_named c at)
-      (λ d. change_named g.enclosed (then_wants (is_terminal RoundClose) (f disjunction d ts)) (then_wants_named (is_terminal RoundClose) (f disjunction d ts) (a disjunction d ts (omega arith))))
+      then_named (enter c at) (λ d. change g.enclosed (then_expects (is_terminal RoundClose) (f disjunction d ts))) (enter_named c at)
+      (λ d. change_named g.enclosed (then_expects (is_terminal RoundClose) (f disjunction d ts)) (then_expects_named (is_terminal RoundClose) (f disjunction d ts) (a disjunction d ts (omega arith))))
 
   literal_named : (f : CondParser B L) (c : Context) (ts : List Lexeme) → CondsBelow f (8 * length ts) → IsNamed (literal_by g f c ts)
   literal_named f c [] a = tt
@@ -142,7 +142,7 @@ module _ {E B L : Type 0} (g : CondActions E B L) (names : NameConds g) where
       then_named (enter_not c at) (λ d. change g.negated (f literal d ts)) (enter_not_named c at)
       (λ d. change_named g.negated (f literal d ts) (a literal d ts (omega arith)))
   literal_named f c (lexeme Name at text ∷ ts) a = if_named (begins_expr ts) (comparison g c (lexeme Name at text ∷ ts)) (before ts (g.named c at text)) (λ h. comparison_named c (lexeme Name at text ∷ ts)) (λ h. before_named ts (g.named c at text) (names.named c at text))
-  literal_named f c (lexeme RoundOpen at text ∷ ts) a = if_named (begins_expr (after_close 0 ts)) (comparison g c (lexeme RoundOpen at text ∷ ts)) (conds.parenthesis g f c at ts) (λ h. comparison_named c (lexeme RoundOpen at text ∷ ts)) (λ h. parenthesis_named f c at ts (λ x d us lt. a x d us (omega arith)))
+  literal_named f c (lexeme RoundOpen at text ∷ ts) a = if_named (begins_expr (index_after_matching 0 ts)) (comparison g c (lexeme RoundOpen at text ∷ ts)) (conds.parenthesis g f c at ts) (λ h. comparison_named c (lexeme RoundOpen at text ∷ ts)) (λ h. parenthesis_named f c at ts (λ x d us lt. a x d us (omega arith)))
   literal_named f c (lexeme Zero at text ∷ ts) a = comparison_named c (lexeme Zero at text ∷ ts)
   literal_named f c (lexeme One at text ∷ ts) a = comparison_named c (lexeme One at text ∷ ts)
   literal_named f c (lexeme (Number n) at text ∷ ts) a = comparison_named c (lexeme (Number n) at text ∷ ts)
@@ -183,8 +183,8 @@ module _ {E B L T M : Type 0} (g : Actions E B L T M) (names : NameTerms g) wher
 
   bracket_named : (c : Context) (at : ℕ) (ts : List Lexeme) → IsNamed (bracket g c at ts)
   bracket_named c at ts =
-      then_named (enter c at) (λ d. change g.tested (then_wants (is_terminal SquareClose) (parse_cond g.conds disjunction d ts))) (enter_named c at)
-      (λ d. change_named g.tested (then_wants (is_terminal SquareClose) (parse_cond g.conds disjunction d ts)) (then_wants_named (is_terminal SquareClose) (parse_cond g.conds disjunction d ts) (cond_named g.conds names.conds disjunction d ts)))
+      then_named (enter c at) (λ d. change g.tested (then_expects (is_terminal SquareClose) (parse_cond g.conds disjunction d ts))) (enter_named c at)
+      (λ d. change_named g.tested (then_expects (is_terminal SquareClose) (parse_cond g.conds disjunction d ts)) (then_expects_named (is_terminal SquareClose) (parse_cond g.conds disjunction d ts) (cond_named g.conds names.conds disjunction d ts)))
 
   unit_named : (f : TermParser T M) (c : Context) (ts : List Lexeme) → TermsBelow f (8 * length ts) → IsNamed (unit_by g f c ts)
   unit_named f c [] a = tt
@@ -196,8 +196,8 @@ module _ {E B L T M : Type 0} (g : Actions E B L T M) (names : NameTerms g) wher
       (λ d. change_named g.negated (f unit d ts) (a unit d ts (omega arith)))
   unit_named f c (lexeme SquareOpen at text ∷ ts) a = bracket_named c at ts
   unit_named f c (lexeme RoundOpen at text ∷ ts) a =
-      then_named (enter c at) (λ d. change g.enclosed (then_wants (is_terminal RoundClose) (f choice d ts))) (enter_named c at)
-      (λ d. change_named g.enclosed (then_wants (is_terminal RoundClose) (f choice d ts)) (then_wants_named (is_terminal RoundClose) (f choice d ts) (a choice d ts (omega arith))))
+      then_named (enter c at) (λ d. change g.enclosed (then_expects (is_terminal RoundClose) (f choice d ts))) (enter_named c at)
+      (λ d. change_named g.enclosed (then_expects (is_terminal RoundClose) (f choice d ts)) (then_expects_named (is_terminal RoundClose) (f choice d ts) (a choice d ts (omega arith))))
   unit_named f c (lexeme _ at text ∷ ts) a = tt
 
   star_named : (c : Context) (t : T) (ts : List Lexeme) → IsNamed (star_or_not g c t ts)

@@ -9,7 +9,7 @@ use Rattle.text_parser.specs.declared.terminal.Terminal.TheVariants.{RoundOpen, 
 use Rattle.text_parser.specs.Terminals.{terminal_of, is_symbol, heads_symbol, numbered}
 use Rattle.text_parser.specs.TokenParts.{TokenParts, token_parts}
 use Rattle.text_parser.specs.Lexemes.{Lexeme, lexeme, lexeme_of, heads, is_terminal}
-use Rattle.text_parser.specs.Conds.{after_close}
+use Rattle.text_parser.specs.Conds.{index_after_matching}
 
 opens_choice : (b : Bool) (x y : Terminal) → is_terminal RoundOpen (cond b x y) ≡ cond b (is_terminal RoundOpen x) (is_terminal RoundOpen y)
 opens_choice true x y = refl
@@ -64,21 +64,21 @@ closes_is_symbol (m ∷ ms) (suc i) = closes_is_symbol ms i
 
 -- one step of the search, by the first token
 
-pub inner_opened : (n : ℕ) (ts : List Lexeme) → heads (is_terminal RoundOpen) ts ≡ true → after_close n ts ≡ after_close (n + 1) (drop 1 ts)
+pub inner_opened : (n : ℕ) (ts : List Lexeme) → heads (is_terminal RoundOpen) ts ≡ true → index_after_matching n ts ≡ index_after_matching (n + 1) (drop 1 ts)
 inner_opened n [] e = absurd cc
 inner_opened zero (lexeme s at text ∷ ts) e = rw e refl
 inner_opened (suc n) (lexeme s at text ∷ ts) e = rw (e, add-one) refl
 
-pub match_closed : (ts : List Lexeme) → heads (is_terminal RoundOpen) ts ≡ false → heads (is_terminal RoundClose) ts ≡ true → after_close 0 ts ≡ drop 1 ts
+pub match_closed : (ts : List Lexeme) → heads (is_terminal RoundOpen) ts ≡ false → heads (is_terminal RoundClose) ts ≡ true → index_after_matching 0 ts ≡ drop 1 ts
 match_closed [] e f = absurd cc
 match_closed (lexeme s at text ∷ ts) e f = rw (e, f) refl
 
-pub inner_closed : (n : ℕ) (ts : List Lexeme) → ¬ (n ≡ 0) → heads (is_terminal RoundOpen) ts ≡ false → heads (is_terminal RoundClose) ts ≡ true → after_close n ts ≡ after_close (n - 1) (drop 1 ts)
+pub inner_closed : (n : ℕ) (ts : List Lexeme) → ¬ (n ≡ 0) → heads (is_terminal RoundOpen) ts ≡ false → heads (is_terminal RoundClose) ts ≡ true → index_after_matching n ts ≡ index_after_matching (n - 1) (drop 1 ts)
 inner_closed zero ts some e f = absurd (some refl)
 inner_closed (suc n) [] some e f = absurd cc
 inner_closed (suc n) (lexeme s at text ∷ ts) some e f = rw (e, f, sub-one) refl
 
-pub other_passed : (n : ℕ) (ts : List Lexeme) → heads (is_terminal RoundOpen) ts ≡ false → heads (is_terminal RoundClose) ts ≡ false → after_close n ts ≡ after_close n (drop 1 ts)
+pub other_passed : (n : ℕ) (ts : List Lexeme) → heads (is_terminal RoundOpen) ts ≡ false → heads (is_terminal RoundClose) ts ≡ false → index_after_matching n ts ≡ index_after_matching n (drop 1 ts)
 other_passed zero [] e f = refl
 other_passed (suc n) [] e f = refl
 other_passed zero (lexeme s at text ∷ ts) e f = rw (e, f) refl

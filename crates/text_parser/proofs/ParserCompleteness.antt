@@ -6,7 +6,7 @@ use Rattle.text_parser.specs.declared.terminal.Terminal.TheVariants.{RoundClose,
 use Rattle.text_parser.specs.declared.reading.Context.{Context}
 use Rattle.text_parser.specs.declared.reading.Operator.TheVariants.{Multiply}
 use Rattle.text_parser.specs.Lexemes.{Lexeme, heads, is_sum, is_terminal}
-use Rattle.text_parser.specs.Parsed.{Parsed, ◌>>=◌, before, change, then_wants}
+use Rattle.text_parser.specs.Parsed.{Parsed, ◌>>=◌, before, change, then_expects}
 use Rattle.text_parser.specs.Actions.{Actions, enter, enter_not}
 use Rattle.text_parser.specs.Exprs.{operator_at, sums, sums_after, products, products_after, factor, parse_expr}
 use Rattle.text_parser.specs.Conds.{relation, comparison, disjunction, disjunction_after, conjunction, conjunction_after, literal, literal_by, parse_cond}
@@ -36,7 +36,7 @@ changed ts f (Ok v) = refl
 changed ts f (Err e) = refl
 
 -- a value, then the token that must follow it
-pub closed : {V : Type 0} (s : Terminal) (l : Leaf) (ts : List Lexeme) (v : Result V TextFault) → is_terminal s s ≡ true → then_wants (is_terminal s) (before (cons_token s l ts) v) ≡ before ts v
+pub closed : {V : Type 0} (s : Terminal) (l : Leaf) (ts : List Lexeme) (v : Result V TextFault) → is_terminal s s ≡ true → then_expects (is_terminal s) (before (cons_token s l ts) v) ≡ before ts v
 closed s l ts (Ok v) same = rw same refl
 closed s l ts (Err e) same = refl
 
@@ -145,11 +145,11 @@ module _ {E B L T M : Type 0} (g : Actions E B L T M) where
   parsed (not_unit l u) c ts o h = term_step g unit_aim c _ ∙ checked ts (enter_not c l.at) (λ d. change g.negated (parse_term g unit_aim d (yield_before u ts))) (λ d. fold g d u >>= λ v. Ok (g.negated v))
       (λ d. ap (change g.negated) (parsed u d ts o h) ∙ changed ts g.negated (fold g d u))
   parsed (square_unit l b r) c ts o h = let us = cons_token SquareClose r ts in
-      term_step g unit_aim c _ ∙ checked ts (enter c l.at) (λ d. change g.tested (then_wants (is_terminal SquareClose) (parse_cond g.conds disjunction d (yield_before b us)))) (λ d. fold g d b g.conds.one_of >>= λ v. Ok (g.tested v))
-      (λ d. ap (λ (m : Parsed B). change g.tested (then_wants (is_terminal SquareClose) m)) (disjunction_is d (yield_before b us) us (fold g d b) (parsed b d us o h)) ∙ ap (change g.tested) (closed SquareClose r ts (fold g d b g.conds.one_of) refl) ∙ changed ts g.tested (fold g d b g.conds.one_of))
+      term_step g unit_aim c _ ∙ checked ts (enter c l.at) (λ d. change g.tested (then_expects (is_terminal SquareClose) (parse_cond g.conds disjunction d (yield_before b us)))) (λ d. fold g d b g.conds.one_of >>= λ v. Ok (g.tested v))
+      (λ d. ap (λ (m : Parsed B). change g.tested (then_expects (is_terminal SquareClose) m)) (disjunction_is d (yield_before b us) us (fold g d b) (parsed b d us o h)) ∙ ap (change g.tested) (closed SquareClose r ts (fold g d b g.conds.one_of) refl) ∙ changed ts g.tested (fold g d b g.conds.one_of))
   parsed (round_unit l t r) c ts o h = let us = cons_token RoundClose r ts in
-      term_step g unit_aim c _ ∙ checked ts (enter c l.at) (λ d. change g.enclosed (then_wants (is_terminal RoundClose) (parse_term g choice d (yield_before t us)))) (λ d. fold g d t g.one_of >>= λ v. Ok (g.enclosed v))
-      (λ d. ap (λ (m : Parsed T). change g.enclosed (then_wants (is_terminal RoundClose) m)) (term_step g choice d (yield_before t us) ∙ parsed t d us o h g.one_of) ∙ ap (change g.enclosed) (closed RoundClose r ts (fold g d t g.one_of) refl) ∙ changed ts g.enclosed (fold g d t g.one_of))
+      term_step g unit_aim c _ ∙ checked ts (enter c l.at) (λ d. change g.enclosed (then_expects (is_terminal RoundClose) (parse_term g choice d (yield_before t us)))) (λ d. fold g d t g.one_of >>= λ v. Ok (g.enclosed v))
+      (λ d. ap (λ (m : Parsed T). change g.enclosed (then_expects (is_terminal RoundClose) m)) (term_step g choice d (yield_before t us) ∙ parsed t d us o h g.one_of) ∙ ap (change g.enclosed) (closed RoundClose r ts (fold g d t g.one_of) refl) ∙ changed ts g.enclosed (fold g d t g.one_of))
   parsed (one_conj b) c ts o h = λ k. ap (λ (m : Parsed B). m >>= λ x. parse_cond g.conds (disjunction_after (k x.0)) c x.1) (conjunction_is c (yield_before b ts) ts (fold g c b) (parsed b c ts o h.1))
       ∙ then_rest ts ts (fold g c b g.conds.one_of) (λ x. parse_cond g.conds (disjunction_after (k x.0)) c x.1) (λ v. Ok (g.conds.any (k v))) (λ v. cond_step g.conds (disjunction_after (k v)) c ts ∙ rw (h.0) refl)
   parsed (more_conjs b l d) c ts o h = λ k. let us = cons_token Or l (yield_before d ts) in
@@ -166,8 +166,8 @@ module _ {E B L T M : Type 0} (g : Actions E B L T M) where
   parsed (not_lit l x) c ts o h = cond_step g.conds literal c _ ∙ checked ts (enter_not c l.at) (λ d. change g.conds.negated (parse_cond g.conds literal d (yield_before x ts))) (λ d. fold g d x >>= λ v. Ok (g.conds.negated v))
       (λ d. ap (change g.conds.negated) (parsed x d ts o h) ∙ changed ts g.conds.negated (fold g d x))
   parsed (round_lit l b r) c ts o h = let us = cons_token RoundClose r ts in
-      cond_step g.conds literal c _ ∙ rw (o.0) (checked ts (enter c l.at) (λ d. change g.conds.enclosed (then_wants (is_terminal RoundClose) (parse_cond g.conds disjunction d (yield_before b us)))) (λ d. fold g d b g.conds.one_of >>= λ v. Ok (g.conds.enclosed v))
-      (λ d. ap (λ (m : Parsed B). change g.conds.enclosed (then_wants (is_terminal RoundClose) m)) (disjunction_is d (yield_before b us) us (fold g d b) (parsed b d us o.1 h)) ∙ ap (change g.conds.enclosed) (closed RoundClose r ts (fold g d b g.conds.one_of) refl) ∙ changed ts g.conds.enclosed (fold g d b g.conds.one_of)))
+      cond_step g.conds literal c _ ∙ rw (o.0) (checked ts (enter c l.at) (λ d. change g.conds.enclosed (then_expects (is_terminal RoundClose) (parse_cond g.conds disjunction d (yield_before b us)))) (λ d. fold g d b g.conds.one_of >>= λ v. Ok (g.conds.enclosed v))
+      (λ d. ap (λ (m : Parsed B). change g.conds.enclosed (then_expects (is_terminal RoundClose) m)) (disjunction_is d (yield_before b us) us (fold g d b) (parsed b d us o.1 h)) ∙ ap (change g.conds.enclosed) (closed RoundClose r ts (fold g d b g.conds.one_of) refl) ∙ changed ts g.conds.enclosed (fold g d b g.conds.one_of)))
   parsed (relation_lit e l r f) c ts o h = let us = cons_token (Compares r) l (yield_before f ts) in
       cond_step g.conds literal c _ ∙ compared e c us o.0
       ∙ ap (λ (m : Parsed E). m >>= λ x. relation x.1 >>= λ r. parse_expr g.conds.exprs sums c r.1 >>= λ y. Ok (g.conds.compare r.0 x.0 y.0, y.1)) (sums_is c (yield_before e us) us (fold g c e) (parsed e c us o.1 h.0))
@@ -191,8 +191,8 @@ module _ {E B L T M : Type 0} (g : Actions E B L T M) where
   parsed (wide_fac l) c ts o h = expr_step g.conds.exprs factor c _
   parsed (name_fac l) c ts o h = expr_step g.conds.exprs factor c _
   parsed (round_fac l e r) c ts o h = let us = cons_token RoundClose r ts in
-      expr_step g.conds.exprs factor c _ ∙ checked ts (enter c l.at) (λ d. change g.conds.exprs.enclosed (then_wants (is_terminal RoundClose) (parse_expr g.conds.exprs sums d (yield_before e us)))) (λ d. fold g d e (λ v. v) >>= λ v. Ok (g.conds.exprs.enclosed v))
-      (λ d. ap (λ (m : Parsed E). change g.conds.exprs.enclosed (then_wants (is_terminal RoundClose) m)) (sums_is d (yield_before e us) us (fold g d e) (parsed e d us o h)) ∙ ap (change g.conds.exprs.enclosed) (closed RoundClose r ts (fold g d e (λ v. v)) refl) ∙ changed ts g.conds.exprs.enclosed (fold g d e (λ v. v)))
+      expr_step g.conds.exprs factor c _ ∙ checked ts (enter c l.at) (λ d. change g.conds.exprs.enclosed (then_expects (is_terminal RoundClose) (parse_expr g.conds.exprs sums d (yield_before e us)))) (λ d. fold g d e (λ v. v) >>= λ v. Ok (g.conds.exprs.enclosed v))
+      (λ d. ap (λ (m : Parsed E). change g.conds.exprs.enclosed (then_expects (is_terminal RoundClose) m)) (sums_is d (yield_before e us) us (fold g d e) (parsed e d us o h)) ∙ ap (change g.conds.exprs.enclosed) (closed RoundClose r ts (fold g d e (λ v. v)) refl) ∙ changed ts g.conds.exprs.enclosed (fold g d e (λ v. v)))
 
   pub term_parsed : (p : Phrase term) (c : Context) (ts : List Lexeme) → MeetsLookahead p ts → IsLongest p ts → parse_term g choice c (yield_before p ts) ≡ before ts (fold g c p g.one_of)
   term_parsed p c ts o h = term_step g choice c (yield_before p ts) ∙ parsed p c ts o h g.one_of

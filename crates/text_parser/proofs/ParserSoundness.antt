@@ -9,12 +9,12 @@ use Rattle.text_parser.specs.declared.terminal.Terminal.{Terminal}
 use Rattle.text_parser.specs.declared.terminal.Terminal.TheVariants.{RoundOpen, RoundClose, SquareOpen, SquareClose, Bang, Star, Plus, Minus, Dot, And, Or, Compares, Zero, One, Number, WideNumber, True, False, Name}
 use Rattle.text_parser.specs.declared.reading.Context.{Context}
 use Rattle.text_parser.specs.Lexemes.{Lexeme, lexeme, heads, is_sum, is_terminal}
-use Rattle.text_parser.specs.Parsed.{Parsed, ◌>>=◌, before, change, wants, then_wants}
+use Rattle.text_parser.specs.Parsed.{Parsed, ◌>>=◌, before, change, expects, then_expects}
 use Rattle.text_parser.specs.Actions.{ExprActions, CondActions, Actions, context, enter, enter_not}
 use Rattle.text_parser.specs.Exprs.{ExprAim, sums, sums_after, products, products_after, factor, ExprParser, factor_by, expr_by, expr_within, parse_expr}
-use Rattle.text_parser.specs.Conds.{after_close, begins_expr, relation, comparison, CondAim, disjunction, disjunction_after, conjunction, conjunction_after, literal, CondParser, literal_by, cond_by, cond_within, parse_cond, parenthesis as cond_parenthesis, negation as cond_negation}
+use Rattle.text_parser.specs.Conds.{index_after_matching, begins_expr, relation, comparison, CondAim, disjunction, disjunction_after, conjunction, conjunction_after, literal, CondParser, literal_by, cond_by, cond_within, parse_cond, parenthesis as cond_parenthesis, negation as cond_negation}
 use Rattle.text_parser.specs.Terms.{TermAim, choice, choice_after, sequence, sequence_after, unit as unit_aim, TermParser, star_or_not, unit_by, term_by, term_within, parse_term, parenthesis as term_parenthesis, negation as term_negation, bracket}
-use Rattle.text_parser.proofs.TerminalEquality.{terminal_is, wants_ok}
+use Rattle.text_parser.proofs.TerminalEquality.{terminal_is, expects_ok}
 use Rattle.text_parser.specs.Phrases.{Symbol, term, prod, star, unit, cond, conj, lit, expr, mul, fac, Leaf, one_prod, more_prods, one_star, more_stars, bare, starred, zero_unit, one_unit, name_unit, not_unit, square_unit, round_unit, one_conj, more_conjs, one_lit, more_lits, true_lit, false_lit, name_lit, not_lit, round_lit, relation_lit, one_mul, more_muls, one_fac, more_facs, zero_fac, one_fac_number, number_fac, name_fac, round_fac, cons_token, sum_terminal, yield_before, BeginsExpr, IsPhrase}
 
 abbrev pub leaf : ℕ → List ℕ → Leaf
@@ -54,24 +54,24 @@ before_ok ts (Ok x) v rest e = ap rest_of e
 before_ok ts (Err x) v rest e = absurd cc
 
 -- a value was read, then one token of terminal `s`
-pub wanted_ok : {V : Type 0} (s : Terminal) (m : Parsed V) (y : V × List Lexeme) → then_wants (is_terminal s) m ≡ Ok y → (l : Leaf) × (m ≡ Ok (y.0, cons_token s l y.1))
-wanted_ok {V} s (Ok x) y e =
-    let a = bind_ok (wants (is_terminal s) x.1) (λ r. Ok (x.0, r)) y e in
-    let h = wants_ok s x.1 a.0 a.1 in
+pub expected_ok : {V : Type 0} (s : Terminal) (m : Parsed V) (y : V × List Lexeme) → then_expects (is_terminal s) m ≡ Ok y → (l : Leaf) × (m ≡ Ok (y.0, cons_token s l y.1))
+expected_ok {V} s (Ok x) y e =
+    let a = bind_ok (expects (is_terminal s) x.1) (λ r. Ok (x.0, r)) y e in
+    let h = expects_ok s x.1 a.0 a.1 in
     let same : (x.0, a.0) ≡ y = ap (value_or y) a.2 in
     (h.0, ap (λ q. Ok (x.0, q)) h.1 ∙ ap (λ (z : V × List Lexeme). Ok (z.0, cons_token s h.0 z.1)) same)
   where
     value_or : V × List Lexeme → Parsed V → V × List Lexeme
     value_or z (Ok v) = v
     value_or z (Err f) = z
-wanted_ok s (Err x) y e = absurd cc
+expected_ok s (Err x) y e = absurd cc
 
 -- a value was read inside, then the token that closes it
-closed_ok : {V W : Type 0} (s : Terminal) (f : V → W) (m : Parsed V) (w : W) (rest : List Lexeme) → change f (then_wants (is_terminal s) m) ≡ Ok (w, rest)
+closed_ok : {V W : Type 0} (s : Terminal) (f : V → W) (m : Parsed V) (w : W) (rest : List Lexeme) → change f (then_expects (is_terminal s) m) ≡ Ok (w, rest)
     → (v : V) × (l : Leaf) × (m ≡ Ok (v, cons_token s l rest))
 closed_ok s f m w rest e =
-    let a = changed_ok f (then_wants (is_terminal s) m) w rest e in
-    let b = wanted_ok s m (a.0, rest) a.1 in
+    let a = changed_ok f (then_expects (is_terminal s) m) w rest e in
+    let b = expected_ok s m (a.0, rest) a.1 in
     (a.0, b.0, b.1)
 
 -- a phrase one level deeper
@@ -110,11 +110,11 @@ put_is s s0 l ts us vs e f g = rw (e, f, g) refl
 round_fac_found : (d at : ℕ) (text : List ℕ) (ts rest : List Lexeme) (l : Leaf) → d < MAX_OPEN → IsPhrase expr (d + 1) ts (cons_token RoundClose l rest) → IsPhrase fac d (lexeme RoundOpen at text ∷ ts) rest
 round_fac_found d at text ts rest l lt p = record { phrase = round_fac (leaf at text) p.phrase l; spelled = ap (λ (x : List Lexeme). lexeme RoundOpen at text ∷ x) p.spelled; obeys = p.obeys; longest = p.longest; fits = (lt, p.fits) }
 
-round_lit_found : (d at : ℕ) (text : List ℕ) (ts rest : List Lexeme) (l : Leaf) → d < MAX_OPEN → begins_expr (after_close 0 ts) ≡ false → IsPhrase cond (d + 1) ts (cons_token RoundClose l rest) → IsPhrase lit d (lexeme RoundOpen at text ∷ ts) rest
+round_lit_found : (d at : ℕ) (text : List ℕ) (ts rest : List Lexeme) (l : Leaf) → d < MAX_OPEN → begins_expr (index_after_matching 0 ts) ≡ false → IsPhrase cond (d + 1) ts (cons_token RoundClose l rest) → IsPhrase lit d (lexeme RoundOpen at text ∷ ts) rest
 round_lit_found d at text ts rest l lt no_expr p = record {
   phrase = round_lit (leaf at text) p.phrase l;
   spelled = ap (λ (x : List Lexeme). lexeme RoundOpen at text ∷ x) p.spelled;
-  obeys = (subst (λ (u : List Lexeme). begins_expr (after_close 0 u) ≡ false) p.spelled no_expr, p.obeys);
+  obeys = (subst (λ (u : List Lexeme). begins_expr (index_after_matching 0 u) ≡ false) p.spelled no_expr, p.obeys);
   longest = p.longest;
   fits = (lt, p.fits);
 }
@@ -202,7 +202,7 @@ module _ {E : Type 0} (g : ExprActions E) where
   factor_finds f s c (lexeme (Number n) at text ∷ ts) y e = record { phrase = number_fac (leaf at text) n; spelled = ap (λ (x : List Lexeme). lexeme (Number n) at text ∷ x) (before_ok ts (g.number c at n) y.0 y.1 e); obeys = tt; longest = tt; fits = tt }
   factor_finds f s c (lexeme Name at text ∷ ts) y e = record { phrase = name_fac (leaf at text); spelled = ap (λ (x : List Lexeme). lexeme Name at text ∷ x) (before_ok ts (g.variable c at text) y.0 y.1 e); obeys = tt; longest = tt; fits = tt }
   factor_finds f s c (lexeme RoundOpen at text ∷ ts) y e =
-      let b = bind_ok (enter c at) (λ d. change g.enclosed (then_wants (is_terminal RoundClose) (f sums d ts))) y e in
+      let b = bind_ok (enter c at) (λ d. change g.enclosed (then_expects (is_terminal RoundClose) (f sums d ts))) y e in
       let n = enter_ok c b.0 at b.1 in
       let k = closed_ok RoundClose g.enclosed (f sums b.0 ts) y.0 y.1 b.2 in
       round_fac_found c.depth at text ts y.1 k.1 n.0 (inner expr c.depth b.0.depth ts (cons_token RoundClose k.1 y.1) n.1 (s sums b.0 ts (k.0, cons_token RoundClose k.1 y.1) k.2))
@@ -277,9 +277,9 @@ module _ {E B L : Type 0} (g : CondActions E B L) where
   abbrev pub CondFinds : CondParser B L → Type 0
   CondFinds f = (x : CondAim L) (c : Context) (ts : List Lexeme) (y : B × List Lexeme) → f x c ts ≡ Ok y → CondFound x c.depth ts y.1
 
-  parenthesis_finds : (f : CondParser B L) → CondFinds f → (c : Context) (at : ℕ) (text : List ℕ) (ts : List Lexeme) (y : B × List Lexeme) → begins_expr (after_close 0 ts) ≡ false → cond_parenthesis g f c at ts ≡ Ok y → IsPhrase lit c.depth (lexeme RoundOpen at text ∷ ts) y.1
+  parenthesis_finds : (f : CondParser B L) → CondFinds f → (c : Context) (at : ℕ) (text : List ℕ) (ts : List Lexeme) (y : B × List Lexeme) → begins_expr (index_after_matching 0 ts) ≡ false → cond_parenthesis g f c at ts ≡ Ok y → IsPhrase lit c.depth (lexeme RoundOpen at text ∷ ts) y.1
   parenthesis_finds f s c at text ts y no_expr e =
-      let b = bind_ok (enter c at) (λ d. change g.enclosed (then_wants (is_terminal RoundClose) (f disjunction d ts))) y e in
+      let b = bind_ok (enter c at) (λ d. change g.enclosed (then_expects (is_terminal RoundClose) (f disjunction d ts))) y e in
       let n = enter_ok c b.0 at b.1 in
       let k = closed_ok RoundClose g.enclosed (f disjunction b.0 ts) y.0 y.1 b.2 in
       round_lit_found c.depth at text ts y.1 k.1 n.0 no_expr (inner cond c.depth b.0.depth ts (cons_token RoundClose k.1 y.1) n.1 (s disjunction b.0 ts (k.0, cons_token RoundClose k.1 y.1) k.2))
@@ -300,7 +300,7 @@ module _ {E B L : Type 0} (g : CondActions E B L) where
       (λ h k. comparison_finds c (lexeme Name at text ∷ ts) y h k)
       (λ h k. let same : ts ≡ y.1 = before_ok ts (g.named c at text) y.0 y.1 k in record { phrase = name_lit (leaf at text); spelled = ap (λ (x : List Lexeme). lexeme Name at text ∷ x) same; obeys = subst (λ (u : List Lexeme). begins_expr u ≡ false) same h; longest = tt; fits = tt })
       e
-  literal_finds f s c (lexeme RoundOpen at text ∷ ts) y e = chosen (begins_expr (after_close 0 ts)) (comparison g c (lexeme RoundOpen at text ∷ ts)) (cond_parenthesis g f c at ts) y
+  literal_finds f s c (lexeme RoundOpen at text ∷ ts) y e = chosen (begins_expr (index_after_matching 0 ts)) (comparison g c (lexeme RoundOpen at text ∷ ts)) (cond_parenthesis g f c at ts) y
       (λ h k. comparison_finds c (lexeme RoundOpen at text ∷ ts) y h k)
       (λ h k. parenthesis_finds f s c at text ts y h k)
       e
@@ -349,14 +349,14 @@ module _ {E B L T M : Type 0} (g : Actions E B L T M) where
 
   round_finds : (f : TermParser T M) → TermFinds f → (c : Context) (at : ℕ) (text : List ℕ) (ts : List Lexeme) (y : T × List Lexeme) → term_parenthesis g f c at ts ≡ Ok y → IsPhrase unit c.depth (lexeme RoundOpen at text ∷ ts) y.1
   round_finds f s c at text ts y e =
-      let b = bind_ok (enter c at) (λ d. change g.enclosed (then_wants (is_terminal RoundClose) (f choice d ts))) y e in
+      let b = bind_ok (enter c at) (λ d. change g.enclosed (then_expects (is_terminal RoundClose) (f choice d ts))) y e in
       let n = enter_ok c b.0 at b.1 in
       let k = closed_ok RoundClose g.enclosed (f choice b.0 ts) y.0 y.1 b.2 in
       round_unit_found c.depth at text ts y.1 k.1 n.0 (inner term c.depth b.0.depth ts (cons_token RoundClose k.1 y.1) n.1 (s choice b.0 ts (k.0, cons_token RoundClose k.1 y.1) k.2))
 
   square_finds : (c : Context) (at : ℕ) (text : List ℕ) (ts : List Lexeme) (y : T × List Lexeme) → bracket g c at ts ≡ Ok y → IsPhrase unit c.depth (lexeme SquareOpen at text ∷ ts) y.1
   square_finds c at text ts y e =
-      let b = bind_ok (enter c at) (λ d. change g.tested (then_wants (is_terminal SquareClose) (parse_cond g.conds disjunction d ts))) y e in
+      let b = bind_ok (enter c at) (λ d. change g.tested (then_expects (is_terminal SquareClose) (parse_cond g.conds disjunction d ts))) y e in
       let n = enter_ok c b.0 at b.1 in
       let k = closed_ok SquareClose g.tested (parse_cond g.conds disjunction b.0 ts) y.0 y.1 b.2 in
       square_unit_found c.depth at text ts y.1 k.1 n.0 (inner cond c.depth b.0.depth ts (cons_token SquareClose k.1 y.1) n.1 (cond_found g.conds disjunction b.0 ts (k.0, cons_token SquareClose k.1 y.1) k.2))

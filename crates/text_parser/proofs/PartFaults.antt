@@ -7,7 +7,7 @@ use Rattle.text_parser.specs.declared.fault.TextFault.TheVariants.{NoMemory, Syn
 use Rattle.text_parser.specs.declared.reading.Context.{Context}
 use Rattle.text_parser.specs.declared.terminal.Terminal.{Terminal}
 use Rattle.text_parser.specs.Lexemes.{Lexeme, lexeme}
-use Rattle.text_parser.specs.Parsed.{Parsed, ◌>>=◌, before, change, wants, then_wants, Makes, Reads, Goes}
+use Rattle.text_parser.specs.Parsed.{Parsed, ◌>>=◌, before, change, expects, then_expects, Makes, Reads, Goes}
 use Rattle.text_parser.specs.Ended.{with_end}
 
 -- the function ends with the fault `e` of a part
@@ -54,13 +54,13 @@ fault_known memory whole ts r e m ends other is = rw (ended r e ends) (at_fault_
 pub syntax_read : {U X : Type 0} (memory : Type 0) (whole : U → X) (ts : List Lexeme) (e : TextFault) (at : ℕ) (m : Parsed X) → e ≡ Syntax at → m ≡ Err (Syntax at) → Reads memory whole ts (Err e) m
 syntax_read memory whole ts e at m is fails = rw is fails
 
-at_fault_told : {V U W X : Type 0} (memory : Type 0) (means : V → W) (whole : U → X) (ts : List Lexeme) (e : TextFault) (s : Parsed W) (m : Parsed X) → Reads ⊥ means ts (Err e) s → (s ≡ Err e → m ≡ Err e) → Reads memory whole ts (Err e) m
-at_fault_told memory means whole ts NoMemory s m h fails = absurd h
-at_fault_told memory means whole ts _ s m h fails = fails h
+at_fault_given : {V U W X : Type 0} (memory : Type 0) (means : V → W) (whole : U → X) (ts : List Lexeme) (e : TextFault) (s : Parsed W) (m : Parsed X) → Reads ⊥ means ts (Err e) s → (s ≡ Err e → m ≡ Err e) → Reads memory whole ts (Err e) m
+at_fault_given memory means whole ts NoMemory s m h fails = absurd h
+at_fault_given memory means whole ts _ s m h fails = fails h
 
 -- the part was read without memory
-pub fault_told : {V U W X : Type 0} (memory : Type 0) (means : V → W) (whole : U → X) (ts : List Lexeme) (r : Result (U × ℕ) TextFault) (e : TextFault) (s : Parsed W) (m : Parsed X) → EndsWith r e → Reads ⊥ means ts (Err e) s → (s ≡ Err e → m ≡ Err e) → Reads memory whole ts r m
-fault_told memory means whole ts r e s m ends h fails = rw (ended r e ends) (at_fault_told memory means whole ts e s m h fails)
+pub fault_given : {V U W X : Type 0} (memory : Type 0) (means : V → W) (whole : U → X) (ts : List Lexeme) (r : Result (U × ℕ) TextFault) (e : TextFault) (s : Parsed W) (m : Parsed X) → EndsWith r e → Reads ⊥ means ts (Err e) s → (s ≡ Err e → m ≡ Err e) → Reads memory whole ts r m
+fault_given memory means whole ts r e s m ends h fails = rw (ended r e ends) (at_fault_given memory means whole ts e s m h fails)
 
 -- what an action made, with the index after its phrase
 at_end_made : {V W : Type 0} (memory : Type 0) (means : V → W) (ts : List Lexeme) (end : ℕ) (made : Result V TextFault) (s : Result W TextFault) → Makes memory means made s → Reads memory means ts (with_end end made) (before (drop end ts) s)
@@ -94,17 +94,17 @@ at_closed_read memory means ts (Ok x) s h = rw h refl
 at_closed_read memory means ts (Err NoMemory) s h = absurd h
 at_closed_read memory means ts (Err _) s h = rw h refl
 
-pub closed_read : {V W : Type 0} (memory : Type 0) (means : V → W) (ts us : List Lexeme) (p : Terminal → Bool) (r : Result (V × ℕ) TextFault) (value : V) (v : W) (m : Parsed W) → Reads ⊥ (λ v. v) ts r (then_wants p (Ok (value, us))) → means value ≡ v → m ≡ then_wants p (Ok (v, us)) → Reads memory means ts r m
-closed_read memory means ts us p r value v m h is same = rw (same, ← closed_same means value v (wants p us) is) (at_closed_read memory means ts r (then_wants p (Ok (value, us))) h)
+pub closed_read : {V W : Type 0} (memory : Type 0) (means : V → W) (ts us : List Lexeme) (p : Terminal → Bool) (r : Result (V × ℕ) TextFault) (value : V) (v : W) (m : Parsed W) → Reads ⊥ (λ v. v) ts r (then_expects p (Ok (value, us))) → means value ≡ v → m ≡ then_expects p (Ok (v, us)) → Reads memory means ts r m
+closed_read memory means ts us p r value v m h is same = rw (same, ← closed_same means value v (expects p us) is) (at_closed_read memory means ts r (then_expects p (Ok (value, us))) h)
 
 -- what is too deep, or wanted, is no lack of memory
 pub enter_keeps_memory : (b : Bool) (d : Context) (at : ℕ) (e : TextFault) → cond b (Ok d) (Err (TooDeep at)) ≡ Err e → e ≡ NoMemory → ⊥
 enter_keeps_memory true d at e is lacks = absurd cc
 enter_keeps_memory false d at e is lacks = absurd cc
 
-pub wants_keeps_memory : (p : Terminal → Bool) (us : List Lexeme) (e : TextFault) → wants p us ≡ Err e → e ≡ NoMemory → ⊥
-wants_keeps_memory p [] e is lacks = absurd cc
-wants_keeps_memory p (lexeme s at text ∷ us) e is lacks = by_terminal (p s) is where
+pub expects_keeps_memory : (p : Terminal → Bool) (us : List Lexeme) (e : TextFault) → expects p us ≡ Err e → e ≡ NoMemory → ⊥
+expects_keeps_memory p [] e is lacks = absurd cc
+expects_keeps_memory p (lexeme s at text ∷ us) e is lacks = by_terminal (p s) is where
   by_terminal : (b : Bool) → cond b (Ok us) (Err (Syntax at)) ≡ Err e → ⊥
   by_terminal true h = absurd cc
   by_terminal false h = absurd cc

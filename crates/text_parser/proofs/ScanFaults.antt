@@ -9,13 +9,13 @@ use Rattle.text_parser.specs.declared.terminal.Terminal.{Terminal}
 use Rattle.text_parser.specs.declared.terminal.Terminal.TheVariants.{RoundOpen, RoundClose, SquareOpen, SquareClose, Bang, Star, Plus, Dot, And, Or, Compares, Zero, One, Number, WideNumber, True, False, Name}
 use Rattle.text_parser.specs.declared.reading.Context.{Context}
 use Rattle.text_parser.specs.Lexemes.{Lexeme, lexeme, heads, is_sum, is_terminal}
-use Rattle.text_parser.specs.Parsed.{Parsed, ◌>>=◌, change, wants, then_wants, Wants}
+use Rattle.text_parser.specs.Parsed.{Parsed, ◌>>=◌, change, expects, then_expects, Expects}
 use Rattle.text_parser.specs.Actions.{context, enter, enter_not}
 use Rattle.text_parser.specs.Exprs.{ExprAim, sums, sums_after, products, products_after, factor, ExprParser, factor_by, expr_by, steps as expr_steps, expr_within, parse_expr}
-use Rattle.text_parser.specs.Conds.{after_close, begins_expr, relation, comparison, CondAim, disjunction, disjunction_after, conjunction, conjunction_after, literal, CondParser, literal_by, cond_by, steps as cond_steps, cond_within, parse_cond}
+use Rattle.text_parser.specs.Conds.{index_after_matching, begins_expr, relation, comparison, CondAim, disjunction, disjunction_after, conjunction, conjunction_after, literal, CondParser, literal_by, cond_by, steps as cond_steps, cond_within, parse_cond}
 use Rattle.text_parser.specs.Terms.{TermAim, choice, choice_after, sequence, sequence_after, unit, TermParser, star_or_not, unit_by, term_by, steps as term_steps, term_within, parse_term}
 use Rattle.text_parser.specs.Scans.{scanning_exprs, scanning_conds, scanning, scan_term, scan_cond, scan_expr}
-use Rattle.text_parser.specs.Faults.{opens, is_wide, StandsAt, IsSyntaxFault, AnswersFaults}
+use Rattle.text_parser.specs.Faults.{opens, is_wide, OccursAt, IsSyntaxFault, AnswersFaults}
 use Rattle.text_parser.proofs.Within.{Within, headed}
 use Rattle.text_parser.proofs.ExprSteps as exprs
 use Rattle.text_parser.proofs.CondSteps as conds
@@ -26,7 +26,7 @@ abbrev Sound : {V : Type 0} → List Lexeme → Parsed V → Type 0
 Sound ts (Ok x) = (n : ℕ) × (x.1 ≡ drop n ts)
 Sound ts (Err e) = IsSyntaxFault ts e
 
-lift_place : (p : Terminal → Bool) (at n : ℕ) (ts : List Lexeme) → StandsAt p at (drop n ts) → StandsAt p at ts
+lift_place : (p : Terminal → Bool) (at n : ℕ) (ts : List Lexeme) → OccursAt p at (drop n ts) → OccursAt p at ts
 lift_place p at zero ts h = h
 lift_place p at (suc n) [] h = h
 lift_place p at (suc n) (lexeme s place text ∷ ts) h = inr (lift_place p at n ts h)
@@ -55,18 +55,18 @@ change_sound : {V W : Type 0} (ts : List Lexeme) (f : V → W) (s : Parsed V) �
 change_sound ts f (Ok x) h = h
 change_sound ts f (Err e) h = h
 
-wanted_sound : {V : Type 0} (p : Terminal → Bool) (v : V) (ts : List Lexeme) → Sound ts (wants p ts >>= λ r. Ok (v, r))
-wanted_sound p v [] = inl refl
-wanted_sound p v (lexeme s at text ∷ ts) = elim (p s) as (λ b. Sound (lexeme s at text ∷ ts) (cond b (Ok ts) (Err (Syntax at)) >>= λ r. Ok (v, r))) [ true ↦ (1, refl) | false ↦ inr (inl (refl, refl)) ]
+expected_sound : {V : Type 0} (p : Terminal → Bool) (v : V) (ts : List Lexeme) → Sound ts (expects p ts >>= λ r. Ok (v, r))
+expected_sound p v [] = inl refl
+expected_sound p v (lexeme s at text ∷ ts) = elim (p s) as (λ b. Sound (lexeme s at text ∷ ts) (cond b (Ok ts) (Err (Syntax at)) >>= λ r. Ok (v, r))) [ true ↦ (1, refl) | false ↦ inr (inl (refl, refl)) ]
 
-then_wants_sound : {V : Type 0} (p : Terminal → Bool) (ts : List Lexeme) (s : Parsed V) → Sound ts s → Sound ts (then_wants p s)
-then_wants_sound p ts (Ok x) h = lift h.0 ts x.1 h.1 (wants p x.1 >>= λ r. Ok (x.0, r)) (wanted_sound p x.0 x.1)
-then_wants_sound p ts (Err e) h = h
+then_expects_sound : {V : Type 0} (p : Terminal → Bool) (ts : List Lexeme) (s : Parsed V) → Sound ts s → Sound ts (then_expects p s)
+then_expects_sound p ts (Ok x) h = lift h.0 ts x.1 h.1 (expects p x.1 >>= λ r. Ok (x.0, r)) (expected_sound p x.0 x.1)
+then_expects_sound p ts (Err e) h = h
 
-enter_sound : {V : Type 0} (ts : List Lexeme) (c : Context) (at : ℕ) (k : Context → Parsed V) → StandsAt opens at ts → ((d : Context) → Sound ts (k d)) → Sound ts (enter c at >>= k)
+enter_sound : {V : Type 0} (ts : List Lexeme) (c : Context) (at : ℕ) (k : Context → Parsed V) → OccursAt opens at ts → ((d : Context) → Sound ts (k d)) → Sound ts (enter c at >>= k)
 enter_sound ts c at k h g = elim (nat_lt c.depth MAX_OPEN) as (λ b. Sound ts (cond b (Ok (context (c.depth + 1) c.negated c.compares)) (Err (TooDeep at)) >>= k)) [ true ↦ g _ | false ↦ h ]
 
-enter_not_sound : {V : Type 0} (ts : List Lexeme) (c : Context) (at : ℕ) (k : Context → Parsed V) → StandsAt opens at ts → ((d : Context) → Sound ts (k d)) → Sound ts (enter_not c at >>= k)
+enter_not_sound : {V : Type 0} (ts : List Lexeme) (c : Context) (at : ℕ) (k : Context → Parsed V) → OccursAt opens at ts → ((d : Context) → Sound ts (k d)) → Sound ts (enter_not c at >>= k)
 enter_not_sound ts c at k h g = elim (nat_lt c.depth MAX_OPEN) as (λ b. Sound ts (cond b (Ok (context (c.depth + 1) true c.compares)) (Err (TooDeep at)) >>= k)) [ true ↦ g _ | false ↦ h ]
 
 -- ---- expressions
@@ -81,8 +81,8 @@ factor_sound f c (lexeme One at text ∷ ts) a = (1, refl)
 factor_sound f c (lexeme (Number n) at text ∷ ts) a = (1, refl)
 factor_sound f c (lexeme WideNumber at text ∷ ts) a = inl (refl, refl)
 factor_sound f c (lexeme Name at text ∷ ts) a = (1, refl)
-factor_sound f c (lexeme RoundOpen at text ∷ ts) a = enter_sound (lexeme RoundOpen at text ∷ ts) c at (λ d. change scanning_exprs.enclosed (then_wants (is_terminal RoundClose) (f sums d ts))) (inl (refl, refl))
-    (λ d. lift 1 (lexeme RoundOpen at text ∷ ts) ts refl (change scanning_exprs.enclosed (then_wants (is_terminal RoundClose) (f sums d ts))) (change_sound ts scanning_exprs.enclosed (then_wants (is_terminal RoundClose) (f sums d ts)) (then_wants_sound (is_terminal RoundClose) ts (f sums d ts) (a sums d ts (omega arith)))))
+factor_sound f c (lexeme RoundOpen at text ∷ ts) a = enter_sound (lexeme RoundOpen at text ∷ ts) c at (λ d. change scanning_exprs.enclosed (then_expects (is_terminal RoundClose) (f sums d ts))) (inl (refl, refl))
+    (λ d. lift 1 (lexeme RoundOpen at text ∷ ts) ts refl (change scanning_exprs.enclosed (then_expects (is_terminal RoundClose) (f sums d ts))) (change_sound ts scanning_exprs.enclosed (then_expects (is_terminal RoundClose) (f sums d ts)) (then_expects_sound (is_terminal RoundClose) ts (f sums d ts) (a sums d ts (omega arith)))))
 factor_sound f c (lexeme _ at text ∷ ts) a = inr (inl (refl, refl))
 
 -- a part and the rest of its list
@@ -134,10 +134,10 @@ literal_sound f c (lexeme False at text ∷ ts) a = (1, refl)
 literal_sound f c (lexeme Bang at text ∷ ts) a = enter_not_sound (lexeme Bang at text ∷ ts) c at (λ d. change scanning_conds.negated (f literal d ts)) (inl (refl, refl))
     (λ d. lift 1 (lexeme Bang at text ∷ ts) ts refl (change scanning_conds.negated (f literal d ts)) (change_sound ts scanning_conds.negated (f literal d ts) (a literal d ts (omega arith))))
 literal_sound f c (lexeme Name at text ∷ ts) a = if_sound (lexeme Name at text ∷ ts) (begins_expr ts) (comparison scanning_conds c (lexeme Name at text ∷ ts)) (Ok (tt, ts)) (λ h. comparison_sound c (lexeme Name at text ∷ ts)) (λ h. (1, refl))
-literal_sound f c (lexeme RoundOpen at text ∷ ts) a = if_sound (lexeme RoundOpen at text ∷ ts) (begins_expr (after_close 0 ts)) (comparison scanning_conds c (lexeme RoundOpen at text ∷ ts)) (enter c at >>= λ d. change scanning_conds.enclosed (then_wants (is_terminal RoundClose) (f disjunction d ts)))
+literal_sound f c (lexeme RoundOpen at text ∷ ts) a = if_sound (lexeme RoundOpen at text ∷ ts) (begins_expr (index_after_matching 0 ts)) (comparison scanning_conds c (lexeme RoundOpen at text ∷ ts)) (enter c at >>= λ d. change scanning_conds.enclosed (then_expects (is_terminal RoundClose) (f disjunction d ts)))
     (λ h. comparison_sound c (lexeme RoundOpen at text ∷ ts))
-    (λ h. enter_sound (lexeme RoundOpen at text ∷ ts) c at (λ d. change scanning_conds.enclosed (then_wants (is_terminal RoundClose) (f disjunction d ts))) (inl (refl, refl))
-    (λ d. lift 1 (lexeme RoundOpen at text ∷ ts) ts refl (change scanning_conds.enclosed (then_wants (is_terminal RoundClose) (f disjunction d ts))) (change_sound ts scanning_conds.enclosed (then_wants (is_terminal RoundClose) (f disjunction d ts)) (then_wants_sound (is_terminal RoundClose) ts (f disjunction d ts) (a disjunction d ts (omega arith))))))
+    (λ h. enter_sound (lexeme RoundOpen at text ∷ ts) c at (λ d. change scanning_conds.enclosed (then_expects (is_terminal RoundClose) (f disjunction d ts))) (inl (refl, refl))
+    (λ d. lift 1 (lexeme RoundOpen at text ∷ ts) ts refl (change scanning_conds.enclosed (then_expects (is_terminal RoundClose) (f disjunction d ts))) (change_sound ts scanning_conds.enclosed (then_expects (is_terminal RoundClose) (f disjunction d ts)) (then_expects_sound (is_terminal RoundClose) ts (f disjunction d ts) (a disjunction d ts (omega arith))))))
 literal_sound f c (lexeme Zero at text ∷ ts) a = comparison_sound c (lexeme Zero at text ∷ ts)
 literal_sound f c (lexeme One at text ∷ ts) a = comparison_sound c (lexeme One at text ∷ ts)
 literal_sound f c (lexeme (Number n) at text ∷ ts) a = comparison_sound c (lexeme (Number n) at text ∷ ts)
@@ -183,10 +183,10 @@ unit_sound f c (lexeme One at text ∷ ts) a = (1, refl)
 unit_sound f c (lexeme Name at text ∷ ts) a = (1, refl)
 unit_sound f c (lexeme Bang at text ∷ ts) a = enter_not_sound (lexeme Bang at text ∷ ts) c at (λ d. change scanning.negated (f unit d ts)) (inl (refl, refl))
     (λ d. lift 1 (lexeme Bang at text ∷ ts) ts refl (change scanning.negated (f unit d ts)) (change_sound ts scanning.negated (f unit d ts) (a unit d ts (omega arith))))
-unit_sound f c (lexeme SquareOpen at text ∷ ts) a = enter_sound (lexeme SquareOpen at text ∷ ts) c at (λ d. change scanning.tested (then_wants (is_terminal SquareClose) (parse_cond scanning_conds disjunction d ts))) (inl (refl, refl))
-    (λ d. lift 1 (lexeme SquareOpen at text ∷ ts) ts refl (change scanning.tested (then_wants (is_terminal SquareClose) (parse_cond scanning_conds disjunction d ts))) (change_sound ts scanning.tested (then_wants (is_terminal SquareClose) (parse_cond scanning_conds disjunction d ts)) (then_wants_sound (is_terminal SquareClose) ts (parse_cond scanning_conds disjunction d ts) (cond_scan_sound disjunction d ts))))
-unit_sound f c (lexeme RoundOpen at text ∷ ts) a = enter_sound (lexeme RoundOpen at text ∷ ts) c at (λ d. change scanning.enclosed (then_wants (is_terminal RoundClose) (f choice d ts))) (inl (refl, refl))
-    (λ d. lift 1 (lexeme RoundOpen at text ∷ ts) ts refl (change scanning.enclosed (then_wants (is_terminal RoundClose) (f choice d ts))) (change_sound ts scanning.enclosed (then_wants (is_terminal RoundClose) (f choice d ts)) (then_wants_sound (is_terminal RoundClose) ts (f choice d ts) (a choice d ts (omega arith)))))
+unit_sound f c (lexeme SquareOpen at text ∷ ts) a = enter_sound (lexeme SquareOpen at text ∷ ts) c at (λ d. change scanning.tested (then_expects (is_terminal SquareClose) (parse_cond scanning_conds disjunction d ts))) (inl (refl, refl))
+    (λ d. lift 1 (lexeme SquareOpen at text ∷ ts) ts refl (change scanning.tested (then_expects (is_terminal SquareClose) (parse_cond scanning_conds disjunction d ts))) (change_sound ts scanning.tested (then_expects (is_terminal SquareClose) (parse_cond scanning_conds disjunction d ts)) (then_expects_sound (is_terminal SquareClose) ts (parse_cond scanning_conds disjunction d ts) (cond_scan_sound disjunction d ts))))
+unit_sound f c (lexeme RoundOpen at text ∷ ts) a = enter_sound (lexeme RoundOpen at text ∷ ts) c at (λ d. change scanning.enclosed (then_expects (is_terminal RoundClose) (f choice d ts))) (inl (refl, refl))
+    (λ d. lift 1 (lexeme RoundOpen at text ∷ ts) ts refl (change scanning.enclosed (then_expects (is_terminal RoundClose) (f choice d ts))) (change_sound ts scanning.enclosed (then_expects (is_terminal RoundClose) (f choice d ts)) (then_expects_sound (is_terminal RoundClose) ts (f choice d ts) (a choice d ts (omega arith)))))
 unit_sound f c (lexeme _ at text ∷ ts) a = inr (inl (refl, refl))
 
 star_sound : (c : Context) (t : Unit {0}) (ts : List Lexeme) → Sound ts (star_or_not scanning c t ts)
@@ -236,6 +236,6 @@ pub expr_faults : AnswersFaults scan_expr
 expr_faults d ts e same = let c = context d false true in fault_of ts (parse_expr scanning_exprs sums c ts) e (expr_scan_sound sums c ts) same
 
 -- a call with the result of the syntax check reports only syntax faults
-pub answers_fault : (scan : ℕ → List Lexeme → Result (List Lexeme) TextFault) → AnswersFaults scan → (d : ℕ) (all ts : List Lexeme) (r : Result ℕ TextFault) → Wants all r (scan d ts) → IfErr r (λ e. IsSyntaxFault ts e)
+pub answers_fault : (scan : ℕ → List Lexeme → Result (List Lexeme) TextFault) → AnswersFaults scan → (d : ℕ) (all ts : List Lexeme) (r : Result ℕ TextFault) → Expects all r (scan d ts) → IfErr r (λ e. IsSyntaxFault ts e)
 answers_fault scan faults d all ts (Ok i) h = tt
 answers_fault scan faults d all ts (Err e) h = faults d ts e h

@@ -6,13 +6,13 @@ use Rattle.text_parser.specs.declared.terminal.Terminal.{Terminal}
 use Rattle.text_parser.specs.declared.terminal.Terminal.TheVariants.{RoundOpen, RoundClose, SquareOpen, SquareClose, Bang, Star, Plus, Dot, Zero, One, Name}
 use Rattle.text_parser.specs.declared.reading.Context.{Context}
 use Rattle.text_parser.specs.Lexemes.{Lexeme, lexeme, heads, is_terminal}
-use Rattle.text_parser.specs.Parsed.{Parsed, ◌>>=◌, before, place_of, change, wants, then_wants}
+use Rattle.text_parser.specs.Parsed.{Parsed, ◌>>=◌, before, place_of, change, expects, then_expects}
 use Rattle.text_parser.specs.Actions.{Actions, enter, enter_not}
 use Rattle.text_parser.specs.Conds.{parse_cond, disjunction}
 use Rattle.text_parser.specs.Terms.{TermAim, choice, choice_after, sequence, sequence_after, unit, TermParser, parenthesis, bracket, negation, unit_by, star_or_not, term_by, rank, steps, term_within, parse_term}
 use Rattle.text_parser.proofs.TokenPlaces.{next_drop}
 use Rattle.text_parser.proofs.PartFaults.{closed_same}
-use Rattle.text_parser.proofs.Within.{Within, bind_within, if_within, weaken, before_within, enter_within, change_within, then_wants_within, headed, bind_same, if_same, enter_same}
+use Rattle.text_parser.proofs.Within.{Within, bind_within, if_within, weaken, before_within, enter_within, change_within, then_expects_within, headed, bind_same, if_same, enter_same}
 use Rattle.text_parser.proofs.CondSteps.{cond_read_short}
 
 -- 1 if the aim may consume no token, else 0
@@ -25,12 +25,12 @@ abbrev pub IsShort : {T M : Type 0} → TermParser T M → Type 0
 IsShort {T} {M} f = (x : TermAim M) (c : Context) (ts : List Lexeme) → Within (length ts + slack x) (f x c ts)
 
 parenthesis_short : {E B L T M : Type 0} (g : Actions E B L T M) (f : TermParser T M) → IsShort f → (c : Context) (at : ℕ) (ts : List Lexeme) → Within (suc (length ts)) (parenthesis g f c at ts)
-parenthesis_short g f s c at ts = enter_within (suc (length ts)) (enter c at) (λ d. change g.enclosed (then_wants (is_terminal RoundClose) (f choice d ts)))
-    (λ d. change_within (suc (length ts)) g.enclosed (then_wants (is_terminal RoundClose) (f choice d ts)) (then_wants_within (is_terminal RoundClose) (suc (length ts)) (f choice d ts) (weaken (length ts + 0) (suc (length ts)) (f choice d ts) (omega arith) (s choice d ts))))
+parenthesis_short g f s c at ts = enter_within (suc (length ts)) (enter c at) (λ d. change g.enclosed (then_expects (is_terminal RoundClose) (f choice d ts)))
+    (λ d. change_within (suc (length ts)) g.enclosed (then_expects (is_terminal RoundClose) (f choice d ts)) (then_expects_within (is_terminal RoundClose) (suc (length ts)) (f choice d ts) (weaken (length ts + 0) (suc (length ts)) (f choice d ts) (omega arith) (s choice d ts))))
 
 bracket_short : {E B L T M : Type 0} (g : Actions E B L T M) (c : Context) (at : ℕ) (ts : List Lexeme) → Within (suc (length ts)) (bracket g c at ts)
-bracket_short g c at ts = enter_within (suc (length ts)) (enter c at) (λ d. change g.tested (then_wants (is_terminal SquareClose) (parse_cond g.conds disjunction d ts)))
-    (λ d. change_within (suc (length ts)) g.tested (then_wants (is_terminal SquareClose) (parse_cond g.conds disjunction d ts)) (then_wants_within (is_terminal SquareClose) (suc (length ts)) (parse_cond g.conds disjunction d ts) (weaken (length ts + 0) (suc (length ts)) (parse_cond g.conds disjunction d ts) (omega arith) (cond_read_short g.conds disjunction d ts))))
+bracket_short g c at ts = enter_within (suc (length ts)) (enter c at) (λ d. change g.tested (then_expects (is_terminal SquareClose) (parse_cond g.conds disjunction d ts)))
+    (λ d. change_within (suc (length ts)) g.tested (then_expects (is_terminal SquareClose) (parse_cond g.conds disjunction d ts)) (then_expects_within (is_terminal SquareClose) (suc (length ts)) (parse_cond g.conds disjunction d ts) (weaken (length ts + 0) (suc (length ts)) (parse_cond g.conds disjunction d ts) (omega arith) (cond_read_short g.conds disjunction d ts))))
 
 negation_short : {E B L T M : Type 0} (g : Actions E B L T M) (f : TermParser T M) → IsShort f → (c : Context) (at : ℕ) (ts : List Lexeme) → Within (suc (length ts)) (negation g f c at ts)
 negation_short g f s c at ts = enter_within (suc (length ts)) (enter_not c at) (λ d. change g.negated (f unit d ts))
@@ -85,7 +85,7 @@ unit_same g f h c (lexeme One at text ∷ ts) a = refl
 unit_same g f h c (lexeme Name at text ∷ ts) a = refl
 unit_same g f h c (lexeme Bang at text ∷ ts) a = enter_same (enter_not c at) _ _ (λ d. ap (change g.negated) (a unit d ts (omega arith)))
 unit_same g f h c (lexeme SquareOpen at text ∷ ts) a = refl
-unit_same g f h c (lexeme RoundOpen at text ∷ ts) a = enter_same (enter c at) _ _ (λ d. ap (λ (m : Parsed _). change g.enclosed (then_wants (is_terminal RoundClose) m)) (a choice d ts (omega arith)))
+unit_same g f h c (lexeme RoundOpen at text ∷ ts) a = enter_same (enter c at) _ _ (λ d. ap (λ (m : Parsed _). change g.enclosed (then_expects (is_terminal RoundClose) m)) (a choice d ts (omega arith)))
 unit_same g f h c (lexeme _ at text ∷ ts) a = refl
 
 choice_same : {T M : Type 0} (f h : TermParser T M) → IsShort f → (y : T → TermAim M) → ((t : T) → rank (y t) ≤ 3) → (c : Context) (ts : List Lexeme) → f sequence c ts ≡ h sequence c ts → Same f h (8 * length ts) → (f sequence c ts >>= λ v. f (y v.0) c v.1) ≡ (h sequence c ts >>= λ v. h (y v.0) c v.1)
@@ -212,8 +212,8 @@ parenthesis_refused g f c at ts e refused = rw refused refl
 pub parenthesis_fault : {E B L T M : Type 0} (g : Actions E B L T M) (f : TermParser T M) (c d : Context) (at : ℕ) (ts : List Lexeme) (e : TextFault) → enter c at ≡ Ok d → f choice d ts ≡ Err e → parenthesis g f c at ts ≡ Err e
 parenthesis_fault g f c d at ts e entered h = rw (entered, h) refl
 
-pub parenthesis_read : {E B L T M : Type 0} (g : Actions E B L T M) (f : TermParser T M) (c d : Context) (at : ℕ) (ts : List Lexeme) (x : T × List Lexeme) → enter c at ≡ Ok d → f choice d ts ≡ Ok x → parenthesis g f c at ts ≡ then_wants (is_terminal RoundClose) (Ok (g.enclosed x.0, x.1))
-parenthesis_read g f c d at ts x entered h = rw (entered, h) (closed_same g.enclosed x.0 (g.enclosed x.0) (wants (is_terminal RoundClose) x.1) refl)
+pub parenthesis_read : {E B L T M : Type 0} (g : Actions E B L T M) (f : TermParser T M) (c d : Context) (at : ℕ) (ts : List Lexeme) (x : T × List Lexeme) → enter c at ≡ Ok d → f choice d ts ≡ Ok x → parenthesis g f c at ts ≡ then_expects (is_terminal RoundClose) (Ok (g.enclosed x.0, x.1))
+parenthesis_read g f c d at ts x entered h = rw (entered, h) (closed_same g.enclosed x.0 (g.enclosed x.0) (expects (is_terminal RoundClose) x.1) refl)
 
 -- what a bracket reads
 
@@ -223,10 +223,10 @@ bracket_refused g c at ts e refused = rw refused refl
 pub bracket_fault : {E B L T M : Type 0} (g : Actions E B L T M) (c d : Context) (at : ℕ) (ts : List Lexeme) (e : TextFault) → enter c at ≡ Ok d → parse_cond g.conds disjunction d ts ≡ Err e → bracket g c at ts ≡ Err e
 bracket_fault g c d at ts e entered h = rw (entered, h) refl
 
-pub bracket_open : {E B L T M : Type 0} (g : Actions E B L T M) (c d : Context) (at : ℕ) (ts : List Lexeme) (x : B × List Lexeme) (e : TextFault) → enter c at ≡ Ok d → parse_cond g.conds disjunction d ts ≡ Ok x → wants (is_terminal SquareClose) x.1 ≡ Err e → bracket g c at ts ≡ Err e
+pub bracket_open : {E B L T M : Type 0} (g : Actions E B L T M) (c d : Context) (at : ℕ) (ts : List Lexeme) (x : B × List Lexeme) (e : TextFault) → enter c at ≡ Ok d → parse_cond g.conds disjunction d ts ≡ Ok x → expects (is_terminal SquareClose) x.1 ≡ Err e → bracket g c at ts ≡ Err e
 bracket_open g c d at ts x e entered h missing = rw (entered, h, missing) refl
 
-pub bracket_closed : {E B L T M : Type 0} (g : Actions E B L T M) (c d : Context) (at : ℕ) (ts : List Lexeme) (x : B × List Lexeme) (us : List Lexeme) (v : T) → enter c at ≡ Ok d → parse_cond g.conds disjunction d ts ≡ Ok x → wants (is_terminal SquareClose) x.1 ≡ Ok us → ◌≡◌ {A = Result T TextFault} (Ok (g.tested x.0)) (Ok v) → bracket g c at ts ≡ Ok (v, us)
+pub bracket_closed : {E B L T M : Type 0} (g : Actions E B L T M) (c d : Context) (at : ℕ) (ts : List Lexeme) (x : B × List Lexeme) (us : List Lexeme) (v : T) → enter c at ≡ Ok d → parse_cond g.conds disjunction d ts ≡ Ok x → expects (is_terminal SquareClose) x.1 ≡ Ok us → ◌≡◌ {A = Result T TextFault} (Ok (g.tested x.0)) (Ok v) → bracket g c at ts ≡ Ok (v, us)
 bracket_closed g c d at ts x us v entered h closed made =
     let same : g.tested x.0 ≡ v = cc in
     rw (entered, h, closed, same) refl

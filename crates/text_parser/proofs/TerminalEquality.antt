@@ -10,7 +10,7 @@ use Rattle.text_parser.specs.contracts.terminal.TerminalPartialEq.TheImpl.{ghost
 use Rattle.text_parser.specs.declared.terminal.Terminal.{Terminal}
 use Rattle.text_parser.specs.declared.terminal.Terminal.TheVariants.{RoundOpen, RoundClose, SquareOpen, SquareClose, Bang, Star, Plus, Minus, Dot, And, Or, Compares, Zero, One, Number, WideNumber, True, False, Name, Keyword, Separator, Other}
 use Rattle.text_parser.specs.Lexemes.{Lexeme, lexeme, is_terminal}
-use Rattle.text_parser.specs.Parsed.{wants}
+use Rattle.text_parser.specs.Parsed.{expects}
 use Rattle.text_parser.specs.Phrases.{Leaf, cons_token}
 
 -- the check agrees with the program's comparison of terminals
@@ -64,9 +64,9 @@ terminal_is (Separator a) (Separator b) e = ap Separator (sym (same_true separat
 terminal_is Other Other e = refl
 terminal_is _ _ e = absurd cc
 
-pub wants_ok : (x : Terminal) (ts rest : List Lexeme) → wants (is_terminal x) ts ≡ Ok rest → (l : Leaf) × (ts ≡ cons_token x l rest)
-wants_ok x [] rest e = absurd cc
-wants_ok x (lexeme s at text ∷ ts) rest e = by_terminal (is_terminal x s) refl e where
+pub expects_ok : (x : Terminal) (ts rest : List Lexeme) → expects (is_terminal x) ts ≡ Ok rest → (l : Leaf) × (ts ≡ cons_token x l rest)
+expects_ok x [] rest e = absurd cc
+expects_ok x (lexeme s at text ∷ ts) rest e = by_terminal (is_terminal x s) refl e where
   by_terminal : (b : Bool) → is_terminal x s ≡ b → cond b (Ok ts) (Err (Syntax at)) ≡ Ok rest → (l : Leaf) × (lexeme s at text ∷ ts ≡ cons_token x l rest)
   by_terminal true h k = let same : ts ≡ rest = cc in (record { at = at; text = text }, rw (terminal_is x s h, same) refl)
   by_terminal false h k = absurd cc

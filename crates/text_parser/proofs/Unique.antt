@@ -4,7 +4,7 @@ use Rattle.kat_model.specs.declared.expression.Rel.{Rel}
 use Rattle.text_parser.specs.declared.terminal.Terminal.{Terminal}
 use Rattle.text_parser.specs.declared.terminal.Terminal.TheVariants.{RoundOpen, RoundClose, SquareOpen, SquareClose, Bang, Star, Plus, Dot, And, Or, Compares, Zero, One, Number, WideNumber, True, False, Name}
 use Rattle.text_parser.specs.Lexemes.{Lexeme, lexeme, heads, is_sum, is_terminal}
-use Rattle.text_parser.specs.Conds.{after_close, begins_expr}
+use Rattle.text_parser.specs.Conds.{index_after_matching, begins_expr}
 use Rattle.text_parser.specs.Phrases.{Symbol, expr, mul, fac, Leaf, Phrase, one_prod, more_prods, one_star, more_stars, bare, starred, zero_unit, one_unit, name_unit, not_unit, square_unit, round_unit, one_conj, more_conjs, one_lit, more_lits, true_lit, false_lit, name_lit, not_lit, round_lit, relation_lit, one_mul, more_muls, one_fac, more_facs, zero_fac, one_fac_number, number_fac, wide_fac, name_fac, round_fac, cons_token, sum_terminal, yield_before, BeginsExpr, MeetsLookahead, IsLongest}
 
 abbrev terminal_at_front : List Lexeme → Terminal
@@ -164,13 +164,13 @@ one_phrase (not_lit l p) q r s e o u h k = clash (is_terminal Bang) (yield_befor
 one_phrase (round_lit l p a) (round_lit m q b) r s e o u h k =
     let i = one_phrase p q (cons_token RoundClose a r) (cons_token RoundClose b s) (same_rest RoundOpen RoundOpen l m (yield_before p (cons_token RoundClose a r)) (yield_before q (cons_token RoundClose b s)) e) o.1 u.1 h k in
     (rw (same_leaf RoundOpen RoundOpen l m (yield_before p (cons_token RoundClose a r)) (yield_before q (cons_token RoundClose b s)) e, i.0, same_leaf RoundClose RoundClose a b r s i.1) refl, same_rest RoundClose RoundClose a b r s i.1)
-one_phrase (round_lit l p c) (relation_lit a m t b) r s e o u h k = not_both (begins_expr (after_close 0 (yield_before p (cons_token RoundClose c r)))) o.0 (subst BeginsExpr (sym e) u.0)
+one_phrase (round_lit l p c) (relation_lit a m t b) r s e o u h k = not_both (begins_expr (index_after_matching 0 (yield_before p (cons_token RoundClose c r)))) o.0 (subst BeginsExpr (sym e) u.0)
 one_phrase (round_lit l p c) q r s e o u h k = clash (is_terminal RoundOpen) (yield_before q s) (yield_before (round_lit l p c) r) (sym e) refl refl
 one_phrase (relation_lit a m t b) (true_lit l) r s e o u h k = no_comparison True l s (cons_token (Compares t) m (yield_before b r)) a (sym e) refl
 one_phrase (relation_lit a m t b) (false_lit l) r s e o u h k = no_comparison False l s (cons_token (Compares t) m (yield_before b r)) a (sym e) refl
 one_phrase (relation_lit a m t b) (name_lit l) r s e o u h k = not_both (begins_expr s) u (subst BeginsExpr e o.0)
 one_phrase (relation_lit a m t b) (not_lit l q) r s e o u h k = no_comparison Bang l (yield_before q s) (cons_token (Compares t) m (yield_before b r)) a (sym e) refl
-one_phrase (relation_lit a m t b) (round_lit l q c) r s e o u h k = not_both (begins_expr (after_close 0 (yield_before q (cons_token RoundClose c s)))) u.0 (subst BeginsExpr e o.0)
+one_phrase (relation_lit a m t b) (round_lit l q c) r s e o u h k = not_both (begins_expr (index_after_matching 0 (yield_before q (cons_token RoundClose c s)))) u.0 (subst BeginsExpr e o.0)
 one_phrase (relation_lit a l t b) (relation_lit c m w d) r s e o u h k =
     let i = one_phrase a c (cons_token (Compares t) l (yield_before b r)) (cons_token (Compares w) m (yield_before d s)) e o.1 u.1 h.0 k.0 in
     let j = one_phrase b d r s (same_rest (Compares t) (Compares w) l m (yield_before b r) (yield_before d s) i.1) o.2 u.2 h.1 k.1 in

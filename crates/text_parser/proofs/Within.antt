@@ -4,7 +4,7 @@ use Rattle.text_parser.specs.declared.fault.TextFault.{TextFault}
 use Rattle.text_parser.specs.declared.fault.TextFault.TheVariants.{Syntax}
 use Rattle.text_parser.specs.declared.terminal.Terminal.{Terminal}
 use Rattle.text_parser.specs.Lexemes.{Lexeme, lexeme, heads}
-use Rattle.text_parser.specs.Parsed.{Parsed, ◌>>=◌, before, change, wants, then_wants}
+use Rattle.text_parser.specs.Parsed.{Parsed, ◌>>=◌, before, change, expects, then_expects}
 
 -- fewer than `n` tokens remain
 abbrev pub Within : {V : Type 0} → ℕ → Parsed V → Type 0
@@ -35,13 +35,13 @@ pub change_within : {V W : Type 0} (n : ℕ) (f : V → W) (s : Parsed V) → Wi
 change_within n f (Ok x) h = h
 change_within n f (Err e) h = tt
 
-wanted_within : {V : Type 0} (p : Terminal → Bool) (n : ℕ) (v : V) (ts : List Lexeme) → length ts < n → Within n (wants p ts >>= λ r. Ok (v, r))
-wanted_within p n v [] lt = tt
-wanted_within p n v (lexeme s at text ∷ ts) lt = elim (p s) as (λ b. Within n (cond b (Ok ts) (Err (Syntax at)) >>= λ r. Ok (v, r))) [ true ↦ omega arith | false ↦ tt ]
+expected_within : {V : Type 0} (p : Terminal → Bool) (n : ℕ) (v : V) (ts : List Lexeme) → length ts < n → Within n (expects p ts >>= λ r. Ok (v, r))
+expected_within p n v [] lt = tt
+expected_within p n v (lexeme s at text ∷ ts) lt = elim (p s) as (λ b. Within n (cond b (Ok ts) (Err (Syntax at)) >>= λ r. Ok (v, r))) [ true ↦ omega arith | false ↦ tt ]
 
-pub then_wants_within : {V : Type 0} (p : Terminal → Bool) (n : ℕ) (s : Parsed V) → Within n s → Within n (then_wants p s)
-then_wants_within p n (Ok x) h = wanted_within p n x.0 x.1 h
-then_wants_within p n (Err e) h = tt
+pub then_expects_within : {V : Type 0} (p : Terminal → Bool) (n : ℕ) (s : Parsed V) → Within n s → Within n (then_expects p s)
+then_expects_within p n (Ok x) h = expected_within p n x.0 x.1 h
+then_expects_within p n (Err e) h = tt
 
 pub headed : (p : Terminal → Bool) (ts : List Lexeme) → heads p ts ≡ true → length (drop 1 ts) < length ts
 headed p [] e = absurd cc

@@ -5,15 +5,15 @@ use Rattle.text_parser.specs.declared.fault.TextFault.TheVariants.{NoMemory, Syn
 use Rattle.text_parser.specs.declared.terminal.Terminal.TheVariants.{RoundOpen, RoundClose, Bang, And, Or, Compares, Zero, One, Number, WideNumber, True, False, Name}
 use Rattle.text_parser.specs.declared.reading.Context.{Context}
 use Rattle.text_parser.specs.Lexemes.{Lexeme, lexeme, heads, makes_expr, is_terminal}
-use Rattle.text_parser.specs.Parsed.{Parsed, ◌>>=◌, at_end, before, change, then_wants}
+use Rattle.text_parser.specs.Parsed.{Parsed, ◌>>=◌, at_end, before, change, then_expects}
 use Rattle.text_parser.specs.Actions.{CondActions, enter, enter_not}
 use Rattle.text_parser.specs.Exprs.{parse_expr, sums}
 
 -- the tokens after the matching parenthesis, with `n` parentheses open, or empty
-abbrev pub after_close : ℕ → List Lexeme → List Lexeme
-after_close n [] = []
-after_close zero (lexeme s at text ∷ ts) = if is_terminal RoundOpen s then after_close 1 ts else if is_terminal RoundClose s then ts else after_close 0 ts
-after_close (suc n) (lexeme s at text ∷ ts) = if is_terminal RoundOpen s then after_close (suc (suc n)) ts else if is_terminal RoundClose s then after_close n ts else after_close (suc n) ts
+abbrev pub index_after_matching : ℕ → List Lexeme → List Lexeme
+index_after_matching n [] = []
+index_after_matching zero (lexeme s at text ∷ ts) = if is_terminal RoundOpen s then index_after_matching 1 ts else if is_terminal RoundClose s then ts else index_after_matching 0 ts
+index_after_matching (suc n) (lexeme s at text ∷ ts) = if is_terminal RoundOpen s then index_after_matching (suc (suc n)) ts else if is_terminal RoundClose s then index_after_matching n ts else index_after_matching (suc n) ts
 
 -- whether the next token makes an expression of what precedes it
 abbrev pub begins_expr : List Lexeme → Bool
@@ -43,7 +43,7 @@ comparison g c ts = parse_expr g.exprs sums c ts >>= λ x. relation x.1 >>= λ r
 
 -- parses a condition and the parenthesis that closes it
 abbrev pub parenthesis : {E B L : Type 0} → CondActions E B L → CondParser B L → Context → ℕ → List Lexeme → Parsed B
-parenthesis g f c at ts = enter c at >>= λ d. change g.enclosed (then_wants (is_terminal RoundClose) (f disjunction d ts))
+parenthesis g f c at ts = enter c at >>= λ d. change g.enclosed (then_expects (is_terminal RoundClose) (f disjunction d ts))
 
 -- parses the operand of a `!`
 abbrev pub negation : {E B L : Type 0} → CondActions E B L → CondParser B L → Context → ℕ → List Lexeme → Parsed B
@@ -56,7 +56,7 @@ literal_by g f c (lexeme True at text ∷ ts) = Ok (g.always, ts)
 literal_by g f c (lexeme False at text ∷ ts) = Ok (g.never, ts)
 literal_by g f c (lexeme Bang at text ∷ ts) = negation g f c at ts
 literal_by g f c (lexeme Name at text ∷ ts) = if begins_expr ts then comparison g c (lexeme Name at text ∷ ts) else before ts (g.named c at text)
-literal_by g f c (lexeme RoundOpen at text ∷ ts) = if begins_expr (after_close 0 ts) then comparison g c (lexeme RoundOpen at text ∷ ts) else parenthesis g f c at ts
+literal_by g f c (lexeme RoundOpen at text ∷ ts) = if begins_expr (index_after_matching 0 ts) then comparison g c (lexeme RoundOpen at text ∷ ts) else parenthesis g f c at ts
 literal_by g f c (lexeme Zero at text ∷ ts) = comparison g c (lexeme Zero at text ∷ ts)
 literal_by g f c (lexeme One at text ∷ ts) = comparison g c (lexeme One at text ∷ ts)
 literal_by g f c (lexeme (Number n) at text ∷ ts) = comparison g c (lexeme (Number n) at text ∷ ts)

@@ -6,7 +6,7 @@ use Rattle.text_parser.specs.declared.reading.Context.{Context}
 use Rattle.text_parser.specs.declared.reading.Operator.{Operator}
 use Rattle.text_parser.specs.declared.reading.Operator.TheVariants.{Add, Subtract, Multiply}
 use Rattle.text_parser.specs.Lexemes.{Lexeme, lexeme, heads, is_sum, is_terminal}
-use Rattle.text_parser.specs.Parsed.{Parsed, ◌>>=◌, at_end, before, change, then_wants}
+use Rattle.text_parser.specs.Parsed.{Parsed, ◌>>=◌, at_end, before, change, then_expects}
 use Rattle.text_parser.specs.Actions.{ExprActions, enter}
 
 -- the operator at the start of the tokens after a product
@@ -29,7 +29,7 @@ ExprParser E = ExprAim E → Context → List Lexeme → Parsed E
 
 -- parses an expression and the parenthesis that closes it
 abbrev pub parenthesis : {E : Type 0} → ExprActions E → ExprParser E → Context → ℕ → List Lexeme → Parsed E
-parenthesis g f c at ts = enter c at >>= λ d. change g.enclosed (then_wants (is_terminal RoundClose) (f sums d ts))
+parenthesis g f c at ts = enter c at >>= λ d. change g.enclosed (then_expects (is_terminal RoundClose) (f sums d ts))
 
 -- parses a number, a name, or an expression in parentheses
 abbrev pub factor_by : {E : Type 0} → ExprActions E → ExprParser E → Context → List Lexeme → Parsed E

@@ -20,15 +20,15 @@ is_wide WideNumber = true
 is_wide _ = false
 
 -- a token of such a terminal is at the place
-abbrev pub StandsAt : (Terminal → Bool) → ℕ → List Lexeme → Type 0
-StandsAt p place [] = ⊥
-StandsAt p place (lexeme s at text ∷ ts) = ((p s ≡ true) × (at ≡ place)) ⊎ StandsAt p place ts
+abbrev pub OccursAt : (Terminal → Bool) → ℕ → List Lexeme → Type 0
+OccursAt p place [] = ⊥
+OccursAt p place (lexeme s at text ∷ ts) = ((p s ≡ true) × (at ≡ place)) ⊎ OccursAt p place ts
 
 -- a syntax fault: at a token, or after the last
 abbrev pub IsSyntaxFault : List Lexeme → TextFault → Type 0
-IsSyntaxFault ts (Syntax at) = (at ≡ at_end) ⊎ StandsAt (λ s. true) at ts
-IsSyntaxFault ts (TooDeep at) = StandsAt opens at ts
-IsSyntaxFault ts (NumberTooWide at) = StandsAt is_wide at ts
+IsSyntaxFault ts (Syntax at) = (at ≡ at_end) ⊎ OccursAt (λ s. true) at ts
+IsSyntaxFault ts (TooDeep at) = OccursAt opens at ts
+IsSyntaxFault ts (NumberTooWide at) = OccursAt is_wide at ts
 IsSyntaxFault ts other = ⊥
 
 -- the check reports only syntax faults

@@ -30,12 +30,12 @@ pub record PassesPhrases {E B L T M : Type 0} (g : Actions E B L T M) : Type 0 w
 
 -- the reported number of nodes: capped, and `MAX_TERM_NODES + 1` if the largest expression has more than
 -- `MAX_EXPR_NODES` nodes
-abbrev pub told_nodes : ℕ → ℕ → ℕ
-told_nodes largest size = if nat_lt MAX_EXPR_NODES largest then MAX_TERM_NODES + 1 else capped size
+abbrev pub given_nodes : ℕ → ℕ → ℕ
+given_nodes largest size = if nat_lt MAX_EXPR_NODES largest then MAX_TERM_NODES + 1 else capped size
 
 -- the reported number of nodes of a condition
 abbrev pub cond_nodes : CondTree → ℕ
-cond_nodes b = told_nodes (largest_expr b) (cond_size b)
+cond_nodes b = given_nodes (largest_expr b) (cond_size b)
 
 -- the term has a tree; the measures are the size of the tree and the nesting of the term, both capped
 pub record MeasuresTerm (w : ScopeParts) (c : Context) (p : Phrase term) (m : Extent) : Type 0 where

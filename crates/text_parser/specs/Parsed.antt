@@ -38,13 +38,13 @@ abbrev pub change : {V W : Type 0} → (V → W) → Parsed V → Parsed W
 change f m = m >>= λ x. Ok (f x.0, x.1)
 
 -- requires a first token whose terminal passes `p`; gives the tokens after it
-abbrev pub wants : (Terminal → Bool) → List Lexeme → Result (List Lexeme) TextFault
-wants p [] = Err (Syntax at_end)
-wants p (lexeme s at text ∷ ts) = if p s then Ok ts else Err (Syntax at)
+abbrev pub expects : (Terminal → Bool) → List Lexeme → Result (List Lexeme) TextFault
+expects p [] = Err (Syntax at_end)
+expects p (lexeme s at text ∷ ts) = if p s then Ok ts else Err (Syntax at)
 
 -- a value, followed by one token whose terminal passes `p`
-abbrev pub then_wants : {V : Type 0} → (Terminal → Bool) → Parsed V → Parsed V
-then_wants p m = m >>= λ x. wants p x.1 >>= λ r. Ok (x.0, r)
+abbrev pub then_expects : {V : Type 0} → (Terminal → Bool) → Parsed V → Parsed V
+then_expects p m = m >>= λ x. expects p x.1 >>= λ r. Ok (x.0, r)
 
 -- the program's result agrees with `m`: the same value under `means`, or the same fault; `memory` holds on `NoMemory`
 abbrev pub Makes : {V W : Type 0} → Type 0 → (V → W) → Result V TextFault → Result W TextFault → Type 0
@@ -59,9 +59,9 @@ Reads memory means ts (Err NoMemory) m = memory
 Reads memory means ts (Err e) m = m ≡ Err e
 
 -- likewise for one required token, with the index after it
-abbrev pub Wants : List Lexeme → Result ℕ TextFault → Result (List Lexeme) TextFault → Type 0
-Wants ts (Ok i) m = m ≡ Ok (drop i ts)
-Wants ts (Err e) m = m ≡ Err e
+abbrev pub Expects : List Lexeme → Result ℕ TextFault → Result (List Lexeme) TextFault → Type 0
+Expects ts (Ok i) m = m ≡ Ok (drop i ts)
+Expects ts (Err e) m = m ≡ Err e
 
 -- the parser consumed at least one token and stopped within the tokens
 abbrev pub Goes : {V : Type 0} → ℕ → ℕ → Result (V × ℕ) TextFault → Type 0

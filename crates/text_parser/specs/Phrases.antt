@@ -5,7 +5,7 @@ use Rattle.kat_model.specs.declared.expression.Rel.{Rel}
 use Rattle.text_parser.specs.declared.terminal.Terminal.{Terminal}
 use Rattle.text_parser.specs.declared.terminal.Terminal.TheVariants.{RoundOpen, RoundClose, SquareOpen, SquareClose, Bang, Star, Plus, Minus, Dot, And, Or, Compares, Zero, One, Number, WideNumber, True, False, Name}
 use Rattle.text_parser.specs.Lexemes.{Lexeme, lexeme, heads, is_sum, is_terminal}
-use Rattle.text_parser.specs.Conds.{after_close, begins_expr}
+use Rattle.text_parser.specs.Conds.{index_after_matching, begins_expr}
 
 -- the nonterminals of the grammar
 pub data Symbol : Type 0 where
@@ -102,7 +102,7 @@ yield_before (round_fac l e r) ts = cons_token RoundOpen l (yield_before e (cons
 abbrev pub BeginsExpr : List Lexeme → Type 0
 BeginsExpr [] = Unit {0}
 BeginsExpr (lexeme Name at text ∷ ts) = begins_expr ts ≡ true
-BeginsExpr (lexeme RoundOpen at text ∷ ts) = begins_expr (after_close 0 ts) ≡ true
+BeginsExpr (lexeme RoundOpen at text ∷ ts) = begins_expr (index_after_matching 0 ts) ≡ true
 BeginsExpr (lexeme _ at text ∷ ts) = Unit {0}
 
 -- the rules on the token that follows a name or a parenthesis in a condition
@@ -122,7 +122,7 @@ MeetsLookahead (one_lit x) ts = MeetsLookahead x ts
 MeetsLookahead (more_lits x l c) ts = MeetsLookahead x (cons_token And l (yield_before c ts)) × MeetsLookahead c ts
 MeetsLookahead (name_lit l) ts = begins_expr ts ≡ false
 MeetsLookahead (not_lit l x) ts = MeetsLookahead x ts
-MeetsLookahead (round_lit l c r) ts = (begins_expr (after_close 0 (yield_before c (cons_token RoundClose r ts))) ≡ false) × MeetsLookahead c (cons_token RoundClose r ts)
+MeetsLookahead (round_lit l c r) ts = (begins_expr (index_after_matching 0 (yield_before c (cons_token RoundClose r ts))) ≡ false) × MeetsLookahead c (cons_token RoundClose r ts)
 MeetsLookahead (relation_lit e l r f) ts = BeginsExpr (yield_before e (cons_token (Compares r) l (yield_before f ts))) × MeetsLookahead e (cons_token (Compares r) l (yield_before f ts)) × MeetsLookahead f ts
 MeetsLookahead (one_mul m) ts = MeetsLookahead m ts
 MeetsLookahead (more_muls m l minus e) ts = MeetsLookahead m (cons_token (sum_terminal minus) l (yield_before e ts)) × MeetsLookahead e ts

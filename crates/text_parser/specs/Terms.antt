@@ -4,7 +4,7 @@ use Rattle.text_parser.specs.declared.fault.TextFault.TheVariants.{NoMemory, Syn
 use Rattle.text_parser.specs.declared.terminal.Terminal.TheVariants.{RoundOpen, RoundClose, SquareOpen, SquareClose, Bang, Star, Plus, Dot, Zero, One, Name}
 use Rattle.text_parser.specs.declared.reading.Context.{Context}
 use Rattle.text_parser.specs.Lexemes.{Lexeme, lexeme, heads, is_terminal}
-use Rattle.text_parser.specs.Parsed.{Parsed, ◌>>=◌, at_end, before, change, then_wants, place_of}
+use Rattle.text_parser.specs.Parsed.{Parsed, ◌>>=◌, at_end, before, change, then_expects, place_of}
 use Rattle.text_parser.specs.Actions.{Actions, enter, enter_not}
 use Rattle.text_parser.specs.Conds.{parse_cond, disjunction}
 
@@ -22,11 +22,11 @@ TermParser T M = TermAim M → Context → List Lexeme → Parsed T
 
 -- parses a term and the parenthesis that closes it
 abbrev pub parenthesis : {E B L T M : Type 0} → Actions E B L T M → TermParser T M → Context → ℕ → List Lexeme → Parsed T
-parenthesis g f c at ts = enter c at >>= λ d. change g.enclosed (then_wants (is_terminal RoundClose) (f choice d ts))
+parenthesis g f c at ts = enter c at >>= λ d. change g.enclosed (then_expects (is_terminal RoundClose) (f choice d ts))
 
 -- parses a condition and the bracket that closes it
 abbrev pub bracket : {E B L T M : Type 0} → Actions E B L T M → Context → ℕ → List Lexeme → Parsed T
-bracket g c at ts = enter c at >>= λ d. change g.tested (then_wants (is_terminal SquareClose) (parse_cond g.conds disjunction d ts))
+bracket g c at ts = enter c at >>= λ d. change g.tested (then_expects (is_terminal SquareClose) (parse_cond g.conds disjunction d ts))
 
 -- parses the operand of a `!`
 abbrev pub negation : {E B L T M : Type 0} → Actions E B L T M → TermParser T M → Context → ℕ → List Lexeme → Parsed T

@@ -7,7 +7,7 @@
 ghost use Rattle.std.specs.Prelude.{◌≡◌, ℕ, ◌+◌, ◌<◌, ◌≤◌, length, drop, IfOk};
 ghost use Rattle.text_parser.specs.Lexemes.{lexemes};
 ghost use Rattle.text_parser.specs.Parsed.{Reads, Goes};
-ghost use Rattle.text_parser.specs.Conds.{after_close, begins_expr, relation, comparison, parenthesis, negation, parse_cond, disjunction, conjunction, literal};
+ghost use Rattle.text_parser.specs.Conds.{index_after_matching, begins_expr, relation, comparison, parenthesis, negation, parse_cond, disjunction, conjunction, literal};
 
 use crate::expr::parse_expr;
 use crate::fault::TextFault;
@@ -23,8 +23,8 @@ use kat_model::Rel;
 // none. Compares the text of a token with one symbol: `terminal_at`, which distinguishes all terminals, took four to
 // ten times as long.
 #[tactic(auto, using(crate::proofs::Parentheses::match_closed, crate::proofs::TokenPlaces::next_drop))]
-fn after_close(toks: &[Token], from: usize) -> usize
-    ensures { drop result (lexemes toks.now) ≡ after_close 0 (drop from (lexemes toks.now)) }
+fn index_after_matching(toks: &[Token], from: usize) -> usize
+    ensures { drop result (lexemes toks.now) ≡ index_after_matching 0 (drop from (lexemes toks.now)) }
 {
     let mut open: usize = 0;
     for i in from..toks.len() {
@@ -145,7 +145,7 @@ fn literal<R: Reading>(
             with_end(reading.named_cond(context, at, text_at(toks, from)), next)
         }
         Terminal::RoundOpen => {
-            if begins_expr(toks, after_close(toks, next)) {
+            if begins_expr(toks, index_after_matching(toks, next)) {
                 return comparison(reading, toks, from, context);
             }
             parenthesis(reading, toks, next, context, at)

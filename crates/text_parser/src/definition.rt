@@ -16,7 +16,7 @@ pub(crate) struct Definition {
     pub(crate) extent: Extent,
     pub(crate) testable: bool,
     pub(crate) ghost measured: { extent ≡ limited (term_size (kat_tree tree)) (test_size (as_test (kat_tree tree))) nesting },
-    pub(crate) ghost told: { testable ≡ is_test (kat_tree tree) },
+    pub(crate) ghost given: { testable ≡ is_test (kat_tree tree) },
 }
 
 // Returns the number of nodes of the term as a test, at most `u64::MAX`.

@@ -1,6 +1,7 @@
-//! The parser of terms, conditions and expressions: the tokens of a text (names, numbers and symbols between separators and
-//! comments), the grammar of phrases with one parser whose callers supply the semantic actions ([`Reading`]), and scopes, in
-//! which phrases are measured and built.
+//! Tokens, scopes, and one parser of terms, conditions and expressions.
+//!
+//! A text has names, numbers and symbols between separators and comments. The grammar of phrases has one parser, whose
+//! callers supply the semantic actions ([`Reading`]); in scopes, phrases are measured and built.
 #![tactic(auto)]
 
 mod build;

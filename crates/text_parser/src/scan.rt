@@ -1,7 +1,7 @@
 //! The syntax check, which takes no memory.
 ghost use Rattle.std.specs.Prelude.{◌≡◌, ℕ, ◌+◌, ◌<◌, ◌≤◌, length, drop, IfOk, IfErr, false, true};
 ghost use Rattle.text_parser.specs.Lexemes.{lexemes};
-ghost use Rattle.text_parser.specs.Parsed.{Wants};
+ghost use Rattle.text_parser.specs.Parsed.{Expects};
 ghost use Rattle.text_parser.specs.Scans.{scanning, scan_term, scan_cond, scan_expr};
 ghost use Rattle.text_parser.specs.Faults.{IsSyntaxFault};
 
@@ -141,7 +141,7 @@ impl Reading for Scan {
 /// fault after the last token has the place `usize::MAX`. Takes no memory, and time proportional to the number of
 /// tokens.
 pub fn term_end(toks: &[Token], from: usize, depth: usize) -> Result<usize, TextFault>
-    ensures value { Wants (lexemes toks.now) result (scan_term depth (drop from (lexemes toks.now))) }
+    ensures value { Expects (lexemes toks.now) result (scan_term depth (drop from (lexemes toks.now))) }
     ensures goes { IfOk result (λ end. (from < end) × (end ≤ length toks.now)) }
     ensures fault { IfErr result (λ fault. IsSyntaxFault (drop from (lexemes toks.now)) fault) }
 {
@@ -151,7 +151,7 @@ pub fn term_end(toks: &[Token], from: usize, depth: usize) -> Result<usize, Text
 
 /// Returns the index after the condition that begins at `from`, like `term_end` for a term.
 pub fn cond_end(toks: &[Token], from: usize, depth: usize) -> Result<usize, TextFault>
-    ensures value { Wants (lexemes toks.now) result (scan_cond depth (drop from (lexemes toks.now))) }
+    ensures value { Expects (lexemes toks.now) result (scan_cond depth (drop from (lexemes toks.now))) }
     ensures goes { IfOk result (λ end. (from < end) × (end ≤ length toks.now)) }
     ensures fault { IfErr result (λ fault. IsSyntaxFault (drop from (lexemes toks.now)) fault) }
 {
@@ -161,7 +161,7 @@ pub fn cond_end(toks: &[Token], from: usize, depth: usize) -> Result<usize, Text
 
 /// Returns the index after the expression that begins at `from`, like `term_end` for a term.
 pub fn expr_end(toks: &[Token], from: usize, depth: usize) -> Result<usize, TextFault>
-    ensures value { Wants (lexemes toks.now) result (scan_expr depth (drop from (lexemes toks.now))) }
+    ensures value { Expects (lexemes toks.now) result (scan_expr depth (drop from (lexemes toks.now))) }
     ensures goes { IfOk result (λ end. (from < end) × (end ≤ length toks.now)) }
     ensures fault { IfErr result (λ fault. IsSyntaxFault (drop from (lexemes toks.now)) fault) }
 {

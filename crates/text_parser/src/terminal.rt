@@ -8,7 +8,7 @@ ghost use Rattle.text_parser.specs.Terminals.{terminal_of, is_symbol, heads_symb
 ghost use Rattle.text_parser.specs.Working.Symbols.{symbol_of_one, symbol_of_two};
 ghost use Rattle.text_parser.specs.Working.Words.{word_of_four, word_of_five, word_of_six, other_word};
 ghost use Rattle.text_parser.specs.Lexemes.{lexemes, text_at, Sees, heads, is_terminal, is_sum};
-ghost use Rattle.text_parser.specs.Parsed.{place_of, Reads, Wants, wants, then_wants};
+ghost use Rattle.text_parser.specs.Parsed.{place_of, Reads, Expects, expects, then_expects};
 
 use crate::fault::TextFault;
 use crate::token::{Kind, Token};
@@ -325,10 +325,10 @@ pub(crate) fn is_round_close_at(toks: &[Token], i: usize) -> bool
     is_symbol_at(toks, i, b')')
 }
 
-pub(crate) fn is_terminal(wanted: Terminal, terminal: Terminal) -> bool
-    ensures { result ≡ is_terminal wanted terminal }
+pub(crate) fn is_terminal(expected: Terminal, terminal: Terminal) -> bool
+    ensures { result ≡ is_terminal expected terminal }
 {
-    wanted == terminal
+    expected == terminal
 }
 
 /// Whether the token at index `i` is this terminal.
@@ -352,9 +352,9 @@ pub fn is_sum_at(toks: &[Token], i: usize) -> bool
 
 /// Returns the index after the token at `i`, which must be this terminal. Otherwise fails with `Syntax` at the place of
 /// that token, or at `usize::MAX` after the last token.
-#[tactic(auto, using(crate::proofs::TokenPlaces::heads_wants, crate::proofs::TokenPlaces::other_wants, crate::proofs::TokenPlaces::next_drop))]
+#[tactic(auto, using(crate::proofs::TokenPlaces::heads_expects, crate::proofs::TokenPlaces::other_expects, crate::proofs::TokenPlaces::next_drop))]
 pub fn expect(toks: &[Token], i: usize, terminal: Terminal) -> Result<usize, TextFault>
-    ensures value { Wants (lexemes toks.now) result (wants (is_terminal terminal) (drop i (lexemes toks.now))) }
+    ensures value { Expects (lexemes toks.now) result (expects (is_terminal terminal) (drop i (lexemes toks.now))) }
     ensures goes { IfOk result (λ end. (end ≡ i + 1) × (i < length toks.now)) }
 {
     if !is_at(toks, i, terminal) {
@@ -370,7 +370,7 @@ pub(crate) fn then_expect<T: Drop>(
     i: usize,
     terminal: Terminal,
 ) -> Result<(T, usize), TextFault>
-    ensures value { Reads ⊥ (λ v. v) (lexemes toks.now) result (then_wants (is_terminal terminal) (Ok (value, drop i (lexemes toks.now)))) }
+    ensures value { Reads ⊥ (λ v. v) (lexemes toks.now) result (then_expects (is_terminal terminal) (Ok (value, drop i (lexemes toks.now)))) }
     ensures goes { IfOk result (λ x. (x.1 ≡ i + 1) × (i < length toks.now)) }
 {
     let end = expect(toks, i, terminal)?;

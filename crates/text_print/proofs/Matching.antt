@@ -4,27 +4,27 @@ use Rattle.kat_model.specs.declared.expression.Rel.{Rel}
 use Rattle.text_parser.specs.declared.terminal.Terminal.{Terminal}
 use Rattle.text_parser.specs.declared.terminal.Terminal.TheVariants.{RoundOpen, RoundClose, SquareOpen, SquareClose, Bang, Star, Plus, Minus, Dot, And, Or, Compares, Zero, One, Number, WideNumber, True, False, Name}
 use Rattle.text_parser.specs.Lexemes.{Lexeme, is_terminal}
-use Rattle.text_parser.specs.Conds.{after_close, begins_expr}
+use Rattle.text_parser.specs.Conds.{index_after_matching, begins_expr}
 use Rattle.text_parser.specs.Phrases.{Symbol, fac, Leaf, Phrase, one_prod, more_prods, one_star, more_stars, bare, starred, zero_unit, one_unit, name_unit, not_unit, square_unit, round_unit, one_conj, more_conjs, one_lit, more_lits, true_lit, false_lit, name_lit, not_lit, round_lit, relation_lit, one_mul, more_muls, one_fac, more_facs, zero_fac, one_fac_number, number_fac, wide_fac, name_fac, round_fac, cons_token, sum_terminal, yield_before, BeginsExpr}
 use Rattle.text_parser.proofs.Parentheses.{inner_opened, inner_closed, other_passed}
 
-other : (n : ℕ) (s : Terminal) (l : Leaf) (ts : List Lexeme) → is_terminal RoundOpen s ≡ false → is_terminal RoundClose s ≡ false → after_close n (cons_token s l ts) ≡ after_close n ts
+other : (n : ℕ) (s : Terminal) (l : Leaf) (ts : List Lexeme) → is_terminal RoundOpen s ≡ false → is_terminal RoundClose s ≡ false → index_after_matching n (cons_token s l ts) ≡ index_after_matching n ts
 other n s l ts o c = other_passed n (cons_token s l ts) o c
 
-opened : (n : ℕ) (l : Leaf) (ts : List Lexeme) → after_close n (cons_token RoundOpen l ts) ≡ after_close (n + 1) ts
+opened : (n : ℕ) (l : Leaf) (ts : List Lexeme) → index_after_matching n (cons_token RoundOpen l ts) ≡ index_after_matching (n + 1) ts
 opened n l ts = inner_opened n (cons_token RoundOpen l ts) refl
 
-closed : (n : ℕ) (l : Leaf) (ts : List Lexeme) → after_close (n + 1) (cons_token RoundClose l ts) ≡ after_close n ts
+closed : (n : ℕ) (l : Leaf) (ts : List Lexeme) → index_after_matching (n + 1) (cons_token RoundClose l ts) ≡ index_after_matching n ts
 closed n l ts =
     let back : n + 1 - 1 ≡ n = omega arith in
-    inner_closed (n + 1) (cons_token RoundClose l ts) (λ e. absurd (omega arith)) refl refl ∙ ap (λ (k : ℕ). after_close k ts) back
+    inner_closed (n + 1) (cons_token RoundClose l ts) (λ e. absurd (omega arith)) refl refl ∙ ap (λ (k : ℕ). index_after_matching k ts) back
 
-sum_passed : (n : ℕ) (minus : Bool) (l : Leaf) (ts : List Lexeme) → after_close n (cons_token (sum_terminal minus) l ts) ≡ after_close n ts
+sum_passed : (n : ℕ) (minus : Bool) (l : Leaf) (ts : List Lexeme) → index_after_matching n (cons_token (sum_terminal minus) l ts) ≡ index_after_matching n ts
 sum_passed n true l ts = other n Minus l ts refl refl
 sum_passed n false l ts = other n Plus l ts refl refl
 
 -- the search for a matching parenthesis skips a phrase
-pub passed : {x : Symbol} (p : Phrase x) (n : ℕ) (ts : List Lexeme) → after_close n (yield_before p ts) ≡ after_close n ts
+pub passed : {x : Symbol} (p : Phrase x) (n : ℕ) (ts : List Lexeme) → index_after_matching n (yield_before p ts) ≡ index_after_matching n ts
 passed (one_prod p) n ts = passed p n ts
 passed (more_prods p l t) n ts = passed p n (cons_token Plus l (yield_before t ts)) ∙ other n Plus l (yield_before t ts) refl refl ∙ passed t n ts
 passed (one_star s) n ts = passed s n ts
@@ -59,7 +59,7 @@ passed (name_fac l) n ts = other n Name l ts refl refl
 passed (round_fac l e r) n ts = opened n l (yield_before e (cons_token RoundClose r ts)) ∙ passed e (n + 1) (cons_token RoundClose r ts) ∙ closed n r ts
 
 -- the matching parenthesis is the one after the phrase
-pub matched : {x : Symbol} (p : Phrase x) (r : Leaf) (ts : List Lexeme) → after_close 0 (yield_before p (cons_token RoundClose r ts)) ≡ ts
+pub matched : {x : Symbol} (p : Phrase x) (r : Leaf) (ts : List Lexeme) → index_after_matching 0 (yield_before p (cons_token RoundClose r ts)) ≡ ts
 matched p r ts = passed p 0 (cons_token RoundClose r ts)
 
 -- a factor before a relation begins an expression

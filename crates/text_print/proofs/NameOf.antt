@@ -57,12 +57,12 @@ module _ (w : ScopeParts) (m : Meaning) where
   none_found [] none = refl
   none_found (x ∷ xs) none = kept (is_meant m (meaning w x)) x (first_name w m xs) (λ t. none x (meant_is m (meaning w x) t)) (none_found xs none)
 
-  pub name_stands : (name : List ℕ) → Means w name m → Means w (name_of w m) m
-  name_stands name h = found name (entries w.meanings) (sym (get-entries w.meanings name) ∙ h) h
+  pub name_occurs : (name : List ℕ) → Means w name m → Means w (name_of w m) m
+  name_occurs name h = found name (entries w.meanings) (sym (get-entries w.meanings name) ∙ h) h
 
   -- the only name of a meaning is the one found
   pub name_is : (name : List ℕ) → IsNameOf w name m → name ≡ name_of w m
-  name_is name h = sym (h.only (name_of w m) (name_stands name h.means))
+  name_is name h = sym (h.only (name_of w m) (name_occurs name h.means))
 
   pub no_name : IsUnnamed w m → [] ≡ name_of w m
   no_name none = sym (none_found _ none)

@@ -71,7 +71,7 @@ module _ (w : ScopeParts) where
       read_as MAX_TERM_NODES (place_of (yield_before p [])) (parse_cond (cond_extents w) disjunction c (yield_before p [])) (parse_cond (cond_trees w) disjunction c (yield_before p [])) m.0 b n
       (cond_parsed (extents w) p c [] obeys (longest p [] refl) ∙ ap (before []) m.1)
       (cond_parsed (trees w) p c [] obeys (longest p [] refl) ∙ ap (before []) built)
-      (let few = few_nodes b large size in let told : (m.0).nodes ≡ cond_nodes b = k.nodes ∙ ap cond_nodes same in omega (arith, told, few))
+      (let few = few_nodes b large size in let given : (m.0).nodes ≡ cond_nodes b = k.nodes ∙ ap cond_nodes same in omega (arith, given, few))
       (omega (arith, k.levels, deep, within_depth))
 
   read_expr : (d : ℕ) (p : Phrase expr) (e : ExprTree) (n : ℕ) → MeetsLookahead p [] → fold (trees w) (context d false true) p (λ x. x) ≡ Ok e → IsSound w (context d false true) p → IsWithinLimits d p → nesting w p ≡ n → d + n ≤ MAX_OPEN → expr_size e ≤ MAX_EXPR_NODES → expr_at w d (yield_before p []) ≡ Ok (record { tree = e; nesting = n; rest = [] })

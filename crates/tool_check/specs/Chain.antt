@@ -13,9 +13,9 @@ use Rattle.chain_rules.specs.Chained.{IsChained, IsReason}
 use Rattle.chain_rules.specs.declared.answer.ChainReason.{ChainReason}
 use Rattle.chain_rules.specs.declared.answer.ChainReason.TheVariants.{Start, End, Step}
 use Rattle.chain_proofs.specs.Reads.{Reads as ReadsProof, FirstFault}
-use Rattle.tool_inputs.specs.FileProblem.{Asks}
+use Rattle.tool_inputs.specs.FileProblem.{Poses}
 use Rattle.tool_inputs.specs.TextProblem.{HasNoProblem}
-use Rattle.tool_inputs.specs.Steps.{ReplySpec, IsRefusal, AsksText}
+use Rattle.tool_inputs.specs.Steps.{ReplySpec, IsRefusal, PosesText}
 
 -- ---- its lines
 
@@ -81,7 +81,7 @@ abbrev pub ProvesBytes : ProblemParts → List ℕ → ReplySpec
 ProvesBytes q bytes = ReadsChain q bytes (IsProved q)
 
 abbrev pub ProvesTexts : List ℕ → List ℕ → ReplySpec
-ProvesTexts text bytes = AsksText text (λ q. ProvesBytes q bytes)
+ProvesTexts text bytes = PosesText text (λ q. ProvesBytes q bytes)
 
 -- The status is 0 exactly when the bytes spell a chain that is a proof of the question, 2 exactly when they spell no
 -- chain, and 3 exactly when they spell a chain that is not a proof.
@@ -106,6 +106,6 @@ pub record ChainHeadline (bytes : List ℕ) (q : ProblemParts) (status : ℕ) (o
 -- a question is refused with its line.
 pub record ChainReply (text bytes : List ℕ) (status : ℕ) (output : List ℕ) : Type 0 where
   pub replies : ProvesTexts text bytes status output
-  pub headline : (q : ProblemParts) → Asks text q → ChainHeadline bytes q status output
+  pub headline : (q : ProblemParts) → Poses text q → ChainHeadline bytes q status output
   pub stores : (f : FileParts) → Reads text f → IsConcrete f → status ≡ 0 → Agrees f
   pub declined : (line : List ℕ) → HasNoProblem text line → (status ≡ 2) × (output ≡ line)

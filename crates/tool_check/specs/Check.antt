@@ -15,19 +15,19 @@ use Rattle.certificate.specs.declared.evidence.Evidence.TheVariants.{Equal, Diff
 use Rattle.certificate.specs.declared.evidence.EvidenceFault.{EvidenceFault}
 use Rattle.cert_checker.specs.declared.answer.Reason.{Reason}
 use Rattle.cert_checker.specs.Answers.{Shows, IsFoundBy}
-use Rattle.cert_checker.specs.Laws.{Says}
+use Rattle.cert_checker.specs.Laws.{Denotes}
 use Rattle.kat_report.specs.Acceptances.{accepted_line}
 use Rattle.kat_report.specs.Reasons.{reason_line}
 use Rattle.kat_report.specs.Refusals.{evidence_fault_line}
-use Rattle.tool_inputs.specs.FileProblem.{Asks}
+use Rattle.tool_inputs.specs.FileProblem.{Poses}
 use Rattle.tool_inputs.specs.TextProblem.{HasNoProblem}
 use Rattle.tool_inputs.specs.EvidenceBytes.{evidence_status, Spells}
-use Rattle.tool_inputs.specs.Steps.{ReplySpec, AsksText, ReadsEvidence}
+use Rattle.tool_inputs.specs.Steps.{ReplySpec, PosesText, ReadsEvidence}
 
 -- the evidence shows what it says, and so it is
 pub record IsAccepting (q : ProblemParts) (e : Evidence) (status : ℕ) (output : List ℕ) : Type 0 where
   pub shows : Shows q e
-  pub says : Says q e
+  pub denotes : Denotes q e
   pub has_status : status ≡ evidence_status e
   pub printed : output ≡ accepted_line e
 
@@ -48,7 +48,7 @@ abbrev pub ChecksBytes : ProblemParts → List ℕ → ReplySpec
 ChecksBytes q bytes = ReadsEvidence bytes (IsChecked q)
 
 abbrev pub ChecksTexts : List ℕ → List ℕ → ReplySpec
-ChecksTexts text bytes = AsksText text (λ q. ChecksBytes q bytes)
+ChecksTexts text bytes = PosesText text (λ q. ChecksBytes q bytes)
 
 -- The status is 0 exactly when the bytes are the text of an accepted certificate, 1 exactly when they are the text of a
 -- string that refutes the question, 2 exactly when they are not the text of evidence, and 3 exactly when they are the
@@ -77,6 +77,6 @@ pub record CheckHeadline (evidence : List ℕ) (q : ProblemParts) (status : ℕ)
 -- a question is refused with its line.
 pub record CheckReply (text bytes : List ℕ) (status : ℕ) (output : List ℕ) : Type 0 where
   pub replies : ChecksTexts text bytes status output
-  pub headline : (q : ProblemParts) → Asks text q → CheckHeadline bytes q status output
+  pub headline : (q : ProblemParts) → Poses text q → CheckHeadline bytes q status output
   pub stores : (f : FileParts) → Reads text f → IsConcrete f → status ≡ 0 → Agrees f
   pub declined : (line : List ℕ) → HasNoProblem text line → (status ≡ 2) × (output ≡ line)

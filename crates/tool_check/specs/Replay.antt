@@ -14,29 +14,29 @@ use Rattle.cert_checker.specs.declared.answer.Reason.TheVariants.{Shape}
 use Rattle.kat_report.specs.Reasons.{reason_line, no_string_line}
 use Rattle.kat_report.specs.Refusals.{evidence_fault_line}
 use Rattle.kat_report.specs.Replays.{replay_text, Fits}
-use Rattle.tool_inputs.specs.FileProblem.{Asks}
+use Rattle.tool_inputs.specs.FileProblem.{Poses}
 use Rattle.tool_inputs.specs.TextProblem.{HasNoProblem}
 use Rattle.tool_inputs.specs.EvidenceBytes.{Spells}
-use Rattle.tool_inputs.specs.Steps.{ReplySpec, AsksText, ReadsEvidence}
+use Rattle.tool_inputs.specs.Steps.{ReplySpec, PosesText, ReadsEvidence}
 
 -- a string that fits is printed with its finding; for any other string, the position that does not fit is printed
-abbrev pub IsTold : GuardedString → Finding → ReplySpec
-IsTold x (Misfit k) status output = (status ≡ 3) × (output ≡ reason_line (Shape k))
-IsTold x (Refutes left) status output = (status ≡ 0) × (output ≡ replay_text x (Refutes left))
-IsTold x (HypBroken h i j) status output = (status ≡ 0) × (output ≡ replay_text x (HypBroken h i j))
-IsTold x (EndsAgree both) status output = (status ≡ 0) × (output ≡ replay_text x (EndsAgree both))
+abbrev pub IsGiven : GuardedString → Finding → ReplySpec
+IsGiven x (Misfit k) status output = (status ≡ 3) × (output ≡ reason_line (Shape k))
+IsGiven x (Refutes left) status output = (status ≡ 0) × (output ≡ replay_text x (Refutes left))
+IsGiven x (HypBroken h i j) status output = (status ≡ 0) × (output ≡ replay_text x (HypBroken h i j))
+IsGiven x (EndsAgree both) status output = (status ≡ 0) × (output ≡ replay_text x (EndsAgree both))
 
 -- the reply to a problem and evidence
 abbrev pub IsReplayed : ProblemParts → Evidence → ReplySpec
 IsReplayed q (Equal c) status output = (status ≡ 3) × (output ≡ no_string_line)
-IsReplayed q (Different x) status output = (f : Finding) × IsFinding q x f × IsTold x f status output
+IsReplayed q (Different x) status output = (f : Finding) × IsFinding q x f × IsGiven x f status output
 
 -- the steps of the reply to a problem and bytes, and to two texts
 abbrev pub ReplaysBytes : ProblemParts → List ℕ → ReplySpec
 ReplaysBytes q bytes = ReadsEvidence bytes (IsReplayed q)
 
 abbrev pub ReplaysTexts : List ℕ → List ℕ → ReplySpec
-ReplaysTexts text bytes = AsksText text (λ q. ReplaysBytes q bytes)
+ReplaysTexts text bytes = PosesText text (λ q. ReplaysBytes q bytes)
 
 -- the bytes are the text of a string that does not fit, or of a certificate
 abbrev pub SpellsNoString : List ℕ → ProblemParts → Type 0
@@ -61,7 +61,7 @@ IsMisfitLine bytes q output =
 -- or 3, the printed line gives the first fault of the bytes, or the first position that does not fit.
 pub record ReplayHeadline (evidence : List ℕ) (q : ProblemParts) (status : ℕ) (output : List ℕ) : Type 0 where
   pub answers : ReplayStatus evidence q status
-  pub told : status ≡ 0 → (x : GuardedString) × (f : Finding) × Spells evidence (Different x) × IsFinding q x f × Fits f × (output ≡ replay_text x f)
+  pub given : status ≡ 0 → (x : GuardedString) × (f : Finding) × Spells evidence (Different x) × IsFinding q x f × Fits f × (output ≡ replay_text x f)
   pub faulty_output : (fault : EvidenceFault) → line_fault evidence ≡ Some fault → output ≡ evidence_fault_line fault
   pub misfit_output : status ≡ 3 → IsMisfitLine evidence q output
 
@@ -69,5 +69,5 @@ pub record ReplayHeadline (evidence : List ℕ) (q : ProblemParts) (status : ℕ
 -- text. A text without a question is refused with its line.
 pub record ReplayReply (text bytes : List ℕ) (status : ℕ) (output : List ℕ) : Type 0 where
   pub replies : ReplaysTexts text bytes status output
-  pub headline : (q : ProblemParts) → Asks text q → ReplayHeadline bytes q status output
+  pub headline : (q : ProblemParts) → Poses text q → ReplayHeadline bytes q status output
   pub declined : (line : List ℕ) → HasNoProblem text line → (status ≡ 2) × (output ≡ line)

@@ -8,7 +8,7 @@ ghost use Rattle.while_lang.specs.Concrete.{IsConcrete, Agrees};
 ghost use Rattle.text_parser.specs.declared.fault.TextFault.TheVariants.{NoMemory as NoRoom};
 ghost use Rattle.chain_rules.specs.Chained.{HasTermsInRange};
 ghost use Rattle.tool_inputs.specs.Steps.{IsRefusal};
-ghost use Rattle.tool_inputs.specs.FileProblem.{Asks};
+ghost use Rattle.tool_inputs.specs.FileProblem.{Poses};
 ghost use Rattle.tool_inputs.specs.ReplySpecs.{EndsWith, Yields};
 ghost use Rattle.tool_check.specs.Chain.{accepted_chain_line, chain_fault_line, chain_reason_line, long_proof_line, IsNoChain, SpellsChain, IsProved, ProvesBytes, ChainHeadline, ChainReply};
 
@@ -53,7 +53,7 @@ fn reason_line(alloc: Global, reason: &ChainReason) -> Result<Vec<u8>, NoMemory>
 }
 
 // Returns the reply to the text of a proof with this fault: a refusal, unless memory ran out.
-fn fault_stop(alloc: Global, fault: TextFault) -> EarlyEnd
+fn fault_end(alloc: Global, fault: TextFault) -> EarlyEnd
     ensures { EndsWith (λ status output. (status ≡ 2) × ((fault ≢ NoRoom) × (output ≡ chain_fault_line fault))) result }
 {
     match fault {
@@ -72,7 +72,7 @@ fn chain_in(alloc: Global, problem: &Problem, bytes: &[u8]) -> Result<Chain, Ear
 {
     match read_chain(alloc, bytes, problem.tests(), problem.actions()) {
         Ok(chain) => Ok(chain),
-        Err(fault) => Err(fault_stop(alloc, fault)),
+        Err(fault) => Err(fault_end(alloc, fault)),
     }
 }
 
@@ -144,7 +144,7 @@ impl PairCommand for ChainCommand {
 /// fault, and 3 exactly when they spell a chain that is not such a proof, with the line of the first reason. Fails only
 /// when out of memory.
 pub fn chain_bytes(alloc: Global, text: &[u8], proof: &[u8]) -> Result<Reply, NoMemory>
-    ensures headline { (q : ProblemParts) → Asks text.now q
+    ensures headline { (q : ProblemParts) → Poses text.now q
         → IfOk result (λ r. ChainHeadline proof.now q r.status r.output.items) }
     ensures stores { (f : FileParts) → Reads text.now f → IsConcrete f → IfOk result (λ r. r.status ≡ 0 → Agrees f) }
     ensures reply { IfOk result (λ r. ChainReply text.now proof.now r.status r.output.items) }

@@ -11,7 +11,7 @@ ghost use Rattle.while_lang.specs.Concrete.{IsConcrete, Agrees};
 ghost use Rattle.kat_report.specs.Acceptances.{accepted_line};
 ghost use Rattle.kat_report.specs.Reasons.{reason_line};
 ghost use Rattle.tool_inputs.specs.EvidenceBytes.{evidence_status};
-ghost use Rattle.tool_inputs.specs.FileProblem.{Asks};
+ghost use Rattle.tool_inputs.specs.FileProblem.{Poses};
 ghost use Rattle.tool_inputs.specs.StoreAnswers.{AlwaysEndAlike, AlwaysMeets};
 ghost use Rattle.tool_check.specs.Check.{IsChecked, ChecksBytes, CheckHeadline, CheckReply};
 
@@ -98,7 +98,7 @@ impl PairCommand for CheckCommand {
 /// they do not. It is 2 exactly when the bytes are not the text of evidence, and 3 exactly when the evidence does not
 /// show its claim. Fails only when out of memory.
 pub fn check_bytes(alloc: Global, text: &[u8], evidence: &[u8]) -> Result<Reply, NoMemory>
-    ensures headline { (q : ProblemParts) → Asks text.now q
+    ensures headline { (q : ProblemParts) → Poses text.now q
         → IfOk result (λ r. CheckHeadline evidence.now q r.status r.output.items) }
     ensures programs { (w : Width) (v : ℕ) (p q : ProgTree) → ArePrintable w v p q → text.now ≡ programs_text w v p q
         → IfOk result (λ r. r.status ≡ 0 → AlwaysEndAlike w v p q) }

@@ -1,5 +1,6 @@
-//! The replies of the commands that check evidence and proofs from any source: `check`, `replay` and `chain`. No
-//! dependency of this crate is a prover.
+//! The replies of `check`, `replay` and `chain`.
+//!
+//! They check evidence and proofs from any source. No dependency of this crate is a prover.
 #![tactic(auto)]
 
 mod chain;

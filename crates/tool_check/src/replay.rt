@@ -1,8 +1,8 @@
 //! `replay`: prints the string that bytes spell, with what it shows about the problem that a text poses.
 ghost use Rattle.std.specs.Prelude.{[], None, IfOk};
 ghost use Rattle.kat_model.specs.Problems.{ProblemParts};
-ghost use Rattle.tool_inputs.specs.FileProblem.{Asks};
-ghost use Rattle.tool_check.specs.Replay.{IsTold, IsReplayed, ReplaysBytes, ReplayHeadline, ReplayReply};
+ghost use Rattle.tool_inputs.specs.FileProblem.{Poses};
+ghost use Rattle.tool_check.specs.Replay.{IsGiven, IsReplayed, ReplaysBytes, ReplayHeadline, ReplayReply};
 
 use crate::check::rejection;
 use cert_checker::Reason;
@@ -15,7 +15,7 @@ use tool_inputs::{EarlyEnd, PairCommand, Reply, evidence_in, line, reply_to_pair
 
 // Returns the reply to a string with this finding.
 fn finding_reply(alloc: Global, string: &GString, finding: &Finding) -> Result<Reply, NoMemory>
-    ensures { IfOk result (λ r. IsTold string.now finding.now r.status r.output.items) }
+    ensures { IfOk result (λ r. IsGiven string.now finding.now r.status r.output.items) }
 {
     if let Finding::Shape(k) = finding {
         return rejection(alloc, &Reason::Shape(*k));
@@ -84,7 +84,7 @@ impl PairCommand for ReplayCommand {
 /// exactly when the bytes are not the text of evidence; and 3 exactly when they are the text of a string that does not
 /// fit, or of a certificate. Fails only when out of memory.
 pub fn replay_bytes(alloc: Global, text: &[u8], evidence: &[u8]) -> Result<Reply, NoMemory>
-    ensures headline { (q : ProblemParts) → Asks text.now q
+    ensures headline { (q : ProblemParts) → Poses text.now q
         → IfOk result (λ r. ReplayHeadline evidence.now q r.status r.output.items) }
     ensures reply { IfOk result (λ r. ReplayReply text.now evidence.now r.status r.output.items) }
 {

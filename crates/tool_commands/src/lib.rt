@@ -1,4 +1,4 @@
-//! The words of a command line: the command that they form, and their meaning in a file.
+//! The words of a command line, and their meaning in a file.
 #![tactic(auto)]
 
 mod numbers;

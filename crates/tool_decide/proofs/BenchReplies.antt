@@ -18,11 +18,11 @@ use Rattle.tool_inputs.proofs.FileReplies.{HasOneFileReply}
 
 -- a decision of a problem: both sides are the same, or a shortest string refutes it
 pub decided_same : (q p : ProblemParts) (e : Evidence) (c : CertParts) → IsDecision q e → q ≡ p → e ≡ Equal c → Same p
-decided_same q p e c decision is told = subst Same is (subst (IsDecision q) told decision).0
+decided_same q p e c decision is given = subst Same is (subst (IsDecision q) given decision).0
 
 pub decided_fewest : (q p : ProblemParts) (e : Evidence) (x : GuardedString) (moves : ℕ) → IsDecision q e → q ≡ p → e ≡ Different x → moves ≡ length x.rest → HasFewest p moves
-decided_fewest q p e x moves decision is told count =
-    let d : IsDecision q (Different x) = subst (IsDecision q) told decision in
+decided_fewest q p e x moves decision is given count =
+    let d : IsDecision q (Different x) = subst (IsDecision q) given decision in
     subst (λ r. HasFewest r moves) is (d.0, (x, d.1, count))
 
 pub none_tallied : IsTallied 0 0 0 0
@@ -89,5 +89,5 @@ bench_reply count output prints = record {
 pub bench_one : (s : ShelfUse) (count : ℕ) → HasOneFileReply s [] (BenchReply count) ⊥
 bench_one s count = record {
   small = λ status output r. inl (small_status status (inl r.answers));
-  once = λ unfailed told a b o p x y. x.answers ∙ sym y.answers;
+  once = λ unfailed given a b o p x y. x.answers ∙ sym y.answers;
 }

@@ -9,8 +9,8 @@ use Rattle.kat_model.specs.Trees.{Term, prim, test, act, product}
 use Rattle.text_print.specs.Printing.{term_nesting}
 use Rattle.text_print.proofs.WordTerminals.{zero_written}
 use Rattle.problem_file.specs.Questions.{question_text, IsPrintable}
-use Rattle.tool_inputs.specs.FileProblem.{Asks}
-use Rattle.tool_decide.proofs.PlainTexts.{plain_asks}
+use Rattle.tool_inputs.specs.FileProblem.{Poses}
+use Rattle.tool_decide.proofs.PlainTexts.{plain_poses}
 
 -- if test 0 is false everywhere, action 0 after the test is nothing
 abbrev dead : ProblemParts
@@ -43,5 +43,5 @@ dead_printable = record {
 }
 
 -- so the text asks this question
-pub dead_asked : Asks dead_text dead
-dead_asked = subst (λ (l : List ℕ). Asks l dead) dead_spelled (plain_asks dead dead_printable)
+pub dead_posed : Poses dead_text dead
+dead_posed = subst (λ (l : List ℕ). Poses l dead) dead_spelled (plain_poses dead dead_printable)

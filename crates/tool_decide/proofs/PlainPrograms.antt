@@ -16,13 +16,13 @@ use Rattle.abstraction.specs.Tables.{first_comparisons, file_assignments}
 use Rattle.abstraction.specs.Abstracts.{AbstractParts, file_problem, abstract_parts, abstract_of}
 use Rattle.kat_report.specs.AbstractRefusals.{abstract_fault_line}
 use Rattle.problem_file.specs.ProgramTexts.{programs_text, triple_text, ArePrintable, IsTriplePrintable}
-use Rattle.problem_file.specs.TextLaws.{AsksOfPrograms}
+use Rattle.problem_file.specs.TextLaws.{PosesPrograms}
 use Rattle.tool_inputs.specs.TextProblem.{HasNoAbstraction}
-use Rattle.tool_inputs.specs.Steps.{AsksQuestion}
+use Rattle.tool_inputs.specs.Steps.{PosesQuestion}
 use Rattle.tool_inputs.specs.StoreAnswers.{AlwaysEndAlike, AlwaysMeets, IsLimitLine, goal_file, programs_abstraction, triple_abstraction, StoreHeadline}
 use Rattle.tool_inputs.specs.Working.Questions.{not_both}
-use Rattle.tool_inputs.proofs.Steps.{one_value, one_line, reads_said}
-use Rattle.tool_inputs.proofs.ProgramSentences.{asks_equal, always_alike, asks_triple, always_met}
+use Rattle.tool_inputs.proofs.Steps.{one_value, one_line, reads_denoted}
+use Rattle.tool_inputs.proofs.ProgramSentences.{poses_equal, always_alike, poses_triple, always_met}
 use Rattle.tool_decide.specs.Decide.{IsDecided, DecidesText}
 use Rattle.tool_decide.specs.Working.DecideReplies.{text_stores}
 
@@ -76,61 +76,61 @@ unfolding abstraction_at
 goal_abstraction w v goal = refl
 
 -- the file of a text of a goal about programs has the abstraction of the goal
-asked_abstraction : (text : List ℕ) (w : Width) (v : ℕ) (goal : GoalTree) (asks : AsksOfPrograms text w v goal) → abstract_of asks.file ≡ abstract_of (goal_file w v goal)
-asked_abstraction text w v goal asks =
-    let f = asks.file in
+posed_abstraction : (text : List ℕ) (w : Width) (v : ℕ) (goal : GoalTree) (poses : PosesPrograms text w v goal) → abstract_of poses.file ≡ abstract_of (goal_file w v goal)
+posed_abstraction text w v goal poses =
+    let f = poses.file in
     let same : abstraction_at f.tests f.actions f.hyps f.rounds f.goal f.width f.vars ≡ abstraction_at 0 0 [] 1 goal w v =
-    cc (asks.concrete.tests, asks.concrete.actions, asks.concrete.hyps, asks.rounds, asks.goal, asks.width, asks.vars) in
+    cc (poses.concrete.tests, poses.concrete.actions, poses.concrete.hyps, poses.rounds, poses.goal, poses.width, poses.vars) in
     file_abstraction f ∙ same ∙ goal_abstraction w v goal
 
 -- ---- the reply to a text of a goal about programs
 
 module _ (f : FileParts) (Sentence : Type 0) (status : ℕ) (output : List ℕ) where
   -- the reply to the question of a file, if the sentence follows from 0
-  question_headline : (status ≡ 0 → Sentence) → AsksQuestion f IsDecided status output → StoreHeadline (abstract_of f) Sentence status output
-  question_headline says (inl refusal) = record {
+  question_headline : (status ≡ 0 → Sentence) → PosesQuestion f IsDecided status output → StoreHeadline (abstract_of f) Sentence status output
+  question_headline denotes (inl refusal) = record {
     answers = inr (inr refusal.0);
     same = ((λ zero. absurd (omega (arith, zero, refusal.0))), (λ h. absurd (not_both (abstract_of f) h.0 refusal.1.fault h.1 refusal.1.has_none)));
     different = ((λ one. absurd (omega (arith, one, refusal.0))), (λ h. absurd (not_both (abstract_of f) h.0 refusal.1.fault h.1 refusal.1.has_none)));
     limit = ((λ two. (refusal.1.fault, refusal.1.has_none)), (λ h. refusal.0));
-    equal = says;
+    equal = denotes;
     refused = λ two. limit_line f output refusal.1;
     line = λ fault none. refused_line f output refusal.1 fault none;
   }
-  question_headline says (inr (a, is, inl d)) = record {
+  question_headline denotes (inr (a, is, inl d)) = record {
     answers = inl d.0;
     same = ((λ zero. (a, is, d.1.same)), (λ h. d.0));
     different = ((λ one. absurd (omega (arith, one, d.0))), (λ h. absurd (h.2 (same_abstract f h.0 a h.1 is Same d.1.same))));
     limit = ((λ two. absurd (omega (arith, two, d.0))), (λ h. absurd (not_both (abstract_of f) a h.0 is h.1)));
-    equal = says;
+    equal = denotes;
     refused = λ two. absurd (omega (arith, two, d.0));
     line = λ fault none. absurd (not_both (abstract_of f) a fault is none);
   }
-  question_headline says (inr (a, is, inr d)) = record {
+  question_headline denotes (inr (a, is, inr d)) = record {
     answers = inr (inl d.0);
     same = ((λ zero. absurd (omega (arith, zero, d.0))), (λ h. absurd (d.1.differ (same_abstract f a h.0 is h.1 Same h.2))));
     different = ((λ one. (a, is, d.1.differ)), (λ h. d.0));
     limit = ((λ two. absurd (omega (arith, two, d.0))), (λ h. absurd (not_both (abstract_of f) a h.0 is h.1)));
-    equal = says;
+    equal = denotes;
     refused = λ two. absurd (omega (arith, two, d.0));
     line = λ fault none. absurd (not_both (abstract_of f) a fault is none);
   }
 
-module _ (text : List ℕ) (w : Width) (v : ℕ) (goal : GoalTree) (asks : AsksOfPrograms text w v goal) (status : ℕ) (output : List ℕ) where
-  headline : (Sentence : Type 0) → (Agrees asks.file → Sentence) → DecidesText text status output → StoreHeadline (abstract_of (goal_file w v goal)) Sentence status output
-  headline Sentence says r =
-      subst (λ abstraction. StoreHeadline abstraction Sentence status output) (asked_abstraction text w v goal asks)
-      (question_headline asks.file Sentence status output
-      (λ zero. says (text_stores text status output asks.file asks.reads asks.concrete r zero))
-      (reads_said text (λ f. AsksQuestion f IsDecided) status output asks.file asks.reads r))
+module _ (text : List ℕ) (w : Width) (v : ℕ) (goal : GoalTree) (poses : PosesPrograms text w v goal) (status : ℕ) (output : List ℕ) where
+  headline : (Sentence : Type 0) → (Agrees poses.file → Sentence) → DecidesText text status output → StoreHeadline (abstract_of (goal_file w v goal)) Sentence status output
+  headline Sentence denotes r =
+      subst (λ abstraction. StoreHeadline abstraction Sentence status output) (posed_abstraction text w v goal poses)
+      (question_headline poses.file Sentence status output
+      (λ zero. denotes (text_stores text status output poses.file poses.reads poses.concrete r zero))
+      (reads_denoted text (λ f. PosesQuestion f IsDecided) status output poses.file poses.reads r))
 
 -- ---- the plainest texts
 
 module _ (text : List ℕ) (w : Width) (v : ℕ) (status : ℕ) (output : List ℕ) where
   pub programs_headline : (p q : ProgTree) → ArePrintable w v p q → text ≡ programs_text w v p q → DecidesText text status output → StoreHeadline (programs_abstraction w v p q) (AlwaysEndAlike w v p q) status output
   programs_headline p q printable is r =
-      headline text w v (equal (prog_side p) (prog_side q)) (asks_equal text w v p q printable is) status output (AlwaysEndAlike w v p q) (always_alike text w v p q printable is) r
+      headline text w v (equal (prog_side p) (prog_side q)) (poses_equal text w v p q printable is) status output (AlwaysEndAlike w v p q) (always_alike text w v p q printable is) r
 
   pub triple_headline : (b : CondTree) (p : ProgTree) (c : CondTree) → IsTriplePrintable w v b p c → text ≡ triple_text w v b p c → DecidesText text status output → StoreHeadline (triple_abstraction w v b p c) (AlwaysMeets w v b p c) status output
   triple_headline b p c printable is r =
-      headline text w v (triple b (prog_side p) c) (asks_triple text w v b p c printable is) status output (AlwaysMeets w v b p c) (always_met text w v b p c printable is) r
+      headline text w v (triple b (prog_side p) c) (poses_triple text w v b p c printable is) status output (AlwaysMeets w v b p c) (always_met text w v b p c printable is) r

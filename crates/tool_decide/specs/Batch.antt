@@ -19,12 +19,12 @@ abbrev pub with_each : FileParts → List GoalTree → List FileParts
 with_each f more = f ∷ map (with_goal f) more
 
 -- the file asks a question
-abbrev pub AsksSome : FileParts → Type 0
-AsksSome f = (a : AbstractParts) × (abstract_of f ≡ Ok a)
+abbrev pub PosesSome : FileParts → Type 0
+PosesSome f = (a : AbstractParts) × (abstract_of f ≡ Ok a)
 
 -- the file asks a question, and both sides of it are the same
-abbrev pub AsksSame : FileParts → Type 0
-AsksSame f = (a : AbstractParts) × (abstract_of f ≡ Ok a) × Same a.problem
+abbrev pub PosesSame : FileParts → Type 0
+PosesSame f = (a : AbstractParts) × (abstract_of f ≡ Ok a) × Same a.problem
 
 -- the line before the answer to goal `k`
 abbrev pub goal_line : ℕ → List ℕ
@@ -54,7 +54,7 @@ AnswersFrom k (f ∷ fs) status output = AnswersGoal k f (AnswersFrom (k + 1) fs
 -- this line refuses the first of the files that asks no question
 abbrev pub IsFirstRefused : List FileParts → List ℕ → Type 0
 IsFirstRefused [] output = ⊥
-IsFirstRefused (f ∷ fs) output = HasNoAbstraction f output ⊎ (AsksSome f × IsFirstRefused fs output)
+IsFirstRefused (f ∷ fs) output = HasNoAbstraction f output ⊎ (PosesSome f × IsFirstRefused fs output)
 
 -- the reply to all goals of a text: only the line of the first refused goal, or an answer to each goal
 abbrev pub AnswersAll : FileParts → List GoalTree → ReplySpec
@@ -70,8 +70,8 @@ AnswersText text = ReadsAs (FirstFaultOfAll text) (ReadsBoth text) (λ x. Answer
 -- any file hold for them under every reading of its declared tests and actions that satisfies its stated hypotheses.
 pub record BatchHeadline (f : FileParts) (more : List GoalTree) (status : ℕ) (output : List ℕ) : Type 0 where
   pub answers : (status ≡ 0) ⊎ ((status ≡ 1) ⊎ (status ≡ 2))
-  pub equal : (status ≡ 0) ↔ ((g : FileParts) → Has (with_each f more) g → AsksSame g)
-  pub different : (status ≡ 1) ↔ (((g : FileParts) → Has (with_each f more) g → AsksSome g) × (((g : FileParts) → Has (with_each f more) g → AsksSame g) → ⊥))
+  pub equal : (status ≡ 0) ↔ ((g : FileParts) → Has (with_each f more) g → PosesSame g)
+  pub different : (status ≡ 1) ↔ (((g : FileParts) → Has (with_each f more) g → PosesSome g) × (((g : FileParts) → Has (with_each f more) g → PosesSame g) → ⊥))
   pub refused : (status ≡ 2) ↔ ((line : List ℕ) × IsFirstRefused (with_each f more) line)
   pub refused_line : (line : List ℕ) → IsFirstRefused (with_each f more) line → output ≡ line
   pub answered : (status ≡ 0) ⊎ (status ≡ 1) → AnswersFrom 0 (with_each f more) status output

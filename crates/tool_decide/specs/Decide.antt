@@ -16,10 +16,10 @@ use Rattle.certificate.specs.declared.evidence.Evidence.TheVariants.{Equal, Diff
 use Rattle.certificate.specs.Decisions.{IsAnswerCert, IsShortest}
 use Rattle.kat_laws.specs.Models.{SameInModels}
 use Rattle.kat_laws.specs.SmallStrings.{IsSmall}
-use Rattle.tool_inputs.specs.FileProblem.{Asks}
+use Rattle.tool_inputs.specs.FileProblem.{Poses}
 use Rattle.tool_inputs.specs.TextProblem.{HasNoProblem}
 use Rattle.tool_inputs.specs.EvidenceBytes.{Spells}
-use Rattle.tool_inputs.specs.Steps.{ReplySpec, AsksText}
+use Rattle.tool_inputs.specs.Steps.{ReplySpec, PosesText}
 
 -- Both sides denote one relation in every table that satisfies the hypotheses, and an accepted certificate is printed.
 -- No pair of it is redundant; or, only if some hypothesis is short, its pairs are under tests. It has few pairs if both
@@ -44,7 +44,7 @@ IsDecided q status output = ((status ≡ 0) × IsEqual q output) ⊎ ((status �
 
 -- the steps of the reply to a text
 abbrev pub DecidesText : List ℕ → ReplySpec
-DecidesText text = AsksText text IsDecided
+DecidesText text = PosesText text IsDecided
 
 -- The status is 0 exactly when both sides denote one relation in every table that satisfies the hypotheses; then the
 -- output spells an accepted certificate. It is 1 exactly when they do not; then the output spells a shortest string that
@@ -64,7 +64,7 @@ pub record Headline (q : ProblemParts) (status : ℕ) (output : List ℕ) : Type
 -- tests and actions that satisfies its stated hypotheses. A text without a question is refused with its line.
 pub record DecideReply (text : List ℕ) (status : ℕ) (output : List ℕ) : Type 0 where
   pub replies : DecidesText text status output
-  pub headline : (q : ProblemParts) → Asks text q → Headline q status output
+  pub headline : (q : ProblemParts) → Poses text q → Headline q status output
   pub stores : (f : FileParts) → Reads text f → IsConcrete f → status ≡ 0 → Agrees f
   pub readings : (f : FileParts) (a : AbstractParts) (r : Reading) → Reads text f → abstract_of f ≡ Ok a → KeepsStated f a r → status ≡ 0 → GoalHoldsBy f a r f.goal
   pub declined : (line : List ℕ) → HasNoProblem text line → (status ≡ 2) × (output ≡ line)

@@ -8,10 +8,10 @@ use Rattle.while_lang.specs.Concrete.{IsConcrete, Agrees}
 use Rattle.abstraction.specs.Abstracts.{AbstractParts, abstract_of}
 use Rattle.abstraction.specs.Readings.{Reading, KeepsStated, GoalHoldsBy}
 use Rattle.kat_report.specs.Reports.{json_report}
-use Rattle.tool_inputs.specs.FileProblem.{Asks}
+use Rattle.tool_inputs.specs.FileProblem.{Poses}
 use Rattle.tool_inputs.specs.TextProblem.{HasNoProblem}
 use Rattle.tool_inputs.specs.EvidenceBytes.{Spells}
-use Rattle.tool_inputs.specs.Steps.{ReplySpec, AsksText}
+use Rattle.tool_inputs.specs.Steps.{ReplySpec, PosesText}
 use Rattle.tool_decide.specs.Decide.{IsDecided, Headline}
 
 -- the text spells evidence, and the report of this evidence is printed
@@ -28,7 +28,7 @@ pub record IsReported (q : ProblemParts) (status : ℕ) (output : List ℕ) : Ty
 
 -- the steps of the reply to a text
 abbrev pub ReportsText : List ℕ → ReplySpec
-ReportsText text = AsksText text IsReported
+ReportsText text = PosesText text IsReported
 
 -- the headline of `decide` holds for the status and the text of the reported evidence
 pub record ReportHeadline (q : ProblemParts) (status : ℕ) (output : List ℕ) : Type 0 where
@@ -39,7 +39,7 @@ pub record ReportHeadline (q : ProblemParts) (status : ℕ) (output : List ℕ) 
 -- what a reply of `decide` with `--json` says about its text, as in `DecideReply`
 pub record DecideJsonReply (text : List ℕ) (status : ℕ) (output : List ℕ) : Type 0 where
   pub replies : ReportsText text status output
-  pub headline : (q : ProblemParts) → Asks text q → ReportHeadline q status output
+  pub headline : (q : ProblemParts) → Poses text q → ReportHeadline q status output
   pub stores : (f : FileParts) → Reads text f → IsConcrete f → status ≡ 0 → Agrees f
   pub readings : (f : FileParts) (a : AbstractParts) (r : Reading) → Reads text f → abstract_of f ≡ Ok a → KeepsStated f a r → status ≡ 0 → GoalHoldsBy f a r f.goal
   pub declined : (line : List ℕ) → HasNoProblem text line → (status ≡ 2) × (output ≡ line)

@@ -8,10 +8,10 @@ use Rattle.while_lang.specs.Concrete.{IsConcrete, Agrees}
 use Rattle.outline_rules.specs.NoteLists.{NotesParts}
 use Rattle.outline_rules.specs.Tasks.{TaskParts}
 use Rattle.outline_rules.specs.Follows.{Follows}
-use Rattle.tool_inputs.specs.FileProblem.{Asks}
+use Rattle.tool_inputs.specs.FileProblem.{Poses}
 use Rattle.tool_inputs.specs.Steps.{ReplySpec}
 use Rattle.tool_decide.specs.Decide.{IsDifferent}
-use Rattle.tool_decide.specs.Triples.{HasTask, HasNoTask, AsksTask, PosesNoTask}
+use Rattle.tool_decide.specs.Triples.{HasTask, HasNoTask, AnswersTask, PosesNoTask}
 use Rattle.tool_decide.specs.OutlineCheck.{SpellsNotes}
 
 -- both sides denote one relation in every table that satisfies the hypotheses, and the text of notes that follow is
@@ -28,7 +28,7 @@ IsOutlined q t status output = ((status ≡ 0) × IsNoted q t output) ⊎ ((stat
 
 -- the steps of the reply to a text
 abbrev pub OutlinesText : List ℕ → ReplySpec
-OutlinesText text = AsksTask text IsOutlined
+OutlinesText text = AnswersTask text IsOutlined
 
 -- For the file of a text and its question. The status is 0 exactly when the goal is a triple of a program, all
 -- hypotheses are simple, and both sides denote one relation in every table that satisfies the hypotheses; then the text
@@ -49,6 +49,6 @@ pub record OutlineHeadline (f : FileParts) (q : ProblemParts) (status : ℕ) (ou
 -- line.
 pub record OutlineReply (text : List ℕ) (status : ℕ) (output : List ℕ) : Type 0 where
   pub replies : OutlinesText text status output
-  pub headline : (q : ProblemParts) (asks : Asks text q) → OutlineHeadline asks.file q status output
+  pub headline : (q : ProblemParts) (poses : Poses text q) → OutlineHeadline poses.file q status output
   pub stores : (f : FileParts) → Reads text f → IsConcrete f → status ≡ 0 → Agrees f
   pub declined : (line : List ℕ) → PosesNoTask text line → (status ≡ 2) × (output ≡ line)

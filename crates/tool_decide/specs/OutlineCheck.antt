@@ -13,11 +13,11 @@ use Rattle.outline_rules.specs.declared.answer.NoteReason.{NoteReason}
 use Rattle.outline_rules.specs.Tasks.{TaskParts}
 use Rattle.outline_rules.specs.Follows.{Follows}
 use Rattle.outline_rules.specs.Reasons.{IsFirstReason}
-use Rattle.tool_inputs.specs.FileProblem.{Asks}
+use Rattle.tool_inputs.specs.FileProblem.{Poses}
 use Rattle.tool_inputs.specs.Steps.{ReplySpec, IsRefusal}
 use Rattle.kat_report.specs.Acceptances.{accepted_outline_line}
 use Rattle.kat_report.specs.OutlineLines.{notes_fault_line, note_reason_line}
-use Rattle.tool_decide.specs.Triples.{HasTask, HasNoTask, AsksTask, PosesNoTask}
+use Rattle.tool_decide.specs.Triples.{HasTask, HasNoTask, AnswersTask, PosesNoTask}
 
 -- the bytes are the text of these notes
 pub record SpellsNotes (bytes : List ℕ) (ns : NotesParts) : Type 0 where
@@ -58,7 +58,7 @@ abbrev pub ChecksNotes : List ℕ → ProblemParts → TaskParts → ReplySpec
 ChecksNotes bytes q t = ReadsNotes bytes (AreChecked q t)
 
 abbrev pub ChecksNoteTexts : List ℕ → List ℕ → ReplySpec
-ChecksNoteTexts text bytes = AsksTask text (ChecksNotes bytes)
+ChecksNoteTexts text bytes = AnswersTask text (ChecksNotes bytes)
 
 -- the question has no outlines, or the bytes are not the text of notes; the printed line gives the reason
 abbrev pub HasNoNotes : FileParts → ProblemParts → List ℕ → List ℕ → Type 0
@@ -84,6 +84,6 @@ pub record NotesHeadline (bytes : List ℕ) (f : FileParts) (q : ProblemParts) (
 -- asks no triple with simple hypotheses is refused with its line.
 pub record OutlineCheckReply (text bytes : List ℕ) (status : ℕ) (output : List ℕ) : Type 0 where
   pub replies : ChecksNoteTexts text bytes status output
-  pub headline : (q : ProblemParts) (asks : Asks text q) → NotesHeadline bytes asks.file q status output
+  pub headline : (q : ProblemParts) (poses : Poses text q) → NotesHeadline bytes poses.file q status output
   pub stores : (f : FileParts) → Reads text f → IsConcrete f → status ≡ 0 → Agrees f
   pub declined : (line : List ℕ) → PosesNoTask text line → (status ≡ 2) × (output ≡ line)

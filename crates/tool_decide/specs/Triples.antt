@@ -8,7 +8,7 @@ use Rattle.abstraction.specs.Rounds.{tables_of}
 use Rattle.abstraction.specs.Tests.{cond_test, prog_flow}
 use Rattle.goal_forms.specs.TestTerms.{AreSimple, IsNotSimple}
 use Rattle.outline_rules.specs.Tasks.{TaskParts, IsTripleOf}
-use Rattle.tool_inputs.specs.FileProblem.{Asks}
+use Rattle.tool_inputs.specs.FileProblem.{Poses}
 use Rattle.tool_inputs.specs.TextProblem.{HasNoProblem}
 use Rattle.tool_inputs.specs.Steps.{ReplySpec, IsRefusal, ReadsText, AbstractsFile}
 use Rattle.kat_report.specs.OutlineLines.{not_a_triple_line, not_simple_line}
@@ -30,37 +30,37 @@ pub record HasTask (f : FileParts) (q : ProblemParts) (t : TaskParts) : Type 0 w
   pub simple : AreSimple q.hyps
 
 -- the goal is not a triple of a program, and the printed line says so
-pub record AsksNoTriple (f : FileParts) (output : List ℕ) : Type 0 where
+pub record PosesNoTriple (f : FileParts) (output : List ℕ) : Type 0 where
   pub none : file_task f ≡ None
   pub printed : output ≡ not_a_triple_line
 
 -- some hypothesis is not simple, and the printed line gives the least number of such a hypothesis
-pub record TellsNotSimple (hyps : List Term) (output : List ℕ) : Type 0 where
+pub record ReportsNotSimple (hyps : List Term) (output : List ℕ) : Type 0 where
   pub hyp : ℕ
   pub least : IsNotSimple hyps hyp
   pub printed : output ≡ not_simple_line hyp
 
 -- the goal is not a triple of a program, or it is and some hypothesis is not simple
 abbrev pub HasNoTask : FileParts → ProblemParts → List ℕ → Type 0
-HasNoTask f q output = AsksNoTriple f output ⊎ ((t : TaskParts) × (file_task f ≡ Some t) × TellsNotSimple q.hyps output)
+HasNoTask f q output = PosesNoTriple f output ⊎ ((t : TaskParts) × (file_task f ≡ Some t) × ReportsNotSimple q.hyps output)
 
 -- the question of a file is taken as a triple: it is not one, or the command continues with the triple
 abbrev pub TakesTask : (ProblemParts → TaskParts → ReplySpec) → FileParts → ProblemParts → ReplySpec
 TakesTask GoesOn f q status output = IsRefusal (HasNoTask f q) status output ⊎ ((t : TaskParts) × HasTask f q t × GoesOn q t status output)
 
 -- a text is read and abstracted, and its question is taken as a triple
-abbrev pub AsksTask : List ℕ → (ProblemParts → TaskParts → ReplySpec) → ReplySpec
-AsksTask text GoesOn = ReadsText text (λ f. AbstractsFile f (λ a. TakesTask GoesOn f a.problem))
+abbrev pub AnswersTask : List ℕ → (ProblemParts → TaskParts → ReplySpec) → ReplySpec
+AnswersTask text GoesOn = ReadsText text (λ f. AbstractsFile f (λ a. TakesTask GoesOn f a.problem))
 
 -- the text asks this triple, and the sides of the question are those of the triple
 pub record PosesTask (text : List ℕ) (q : ProblemParts) (t : TaskParts) : Type 0 where
-  pub asks : Asks text q
-  pub task : HasTask asks.file q t
+  pub poses : Poses text q
+  pub task : HasTask poses.file q t
   pub sides : IsTripleOf q t
 
 -- the text asks no triple, and the printed line gives the reason
 abbrev pub PosesNoTask : List ℕ → List ℕ → Type 0
-PosesNoTask text output = HasNoProblem text output ⊎ ((q : ProblemParts) × (asks : Asks text q) × HasNoTask asks.file q output)
+PosesNoTask text output = HasNoProblem text output ⊎ ((q : ProblemParts) × (poses : Poses text q) × HasNoTask poses.file q output)
 
 -- the text asks some triple
 abbrev pub PosesSomeTask : List ℕ → Type 0

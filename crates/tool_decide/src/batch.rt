@@ -10,7 +10,7 @@ ghost use Rattle.while_lang.specs.Trees.{goal_tree};
 ghost use Rattle.tool_inputs.specs.TextProblem.{IsFaultOf, HasNoAbstraction};
 ghost use Rattle.tool_inputs.specs.Steps.{IsRefusal};
 ghost use Rattle.tool_decide.specs.Decide.{IsDecided};
-ghost use Rattle.tool_decide.specs.Batch.{with_each, AsksSome, IsFirstRefused, goal_line, IsGoalAnswer, AnswersFrom, AnswersAll, BatchHeadline, BatchReply};
+ghost use Rattle.tool_decide.specs.Batch.{with_each, PosesSome, IsFirstRefused, goal_line, IsGoalAnswer, AnswersFrom, AnswersAll, BatchHeadline, BatchReply};
 ghost use Rattle.tool_inputs.specs.ReplySpecs.{Yields, RepliesWith, IsQuestionOf};
 ghost use Rattle.tool_decide.specs.Working.Goals.{AreInRange};
 
@@ -21,7 +21,7 @@ use kat_model::{NoMemory, Problem};
 use problem_file::{File, Goal, read_all};
 use std::alloc::Global;
 use term_store::Store;
-use tool_inputs::{EarlyEnd, Reply, TextCommand, abstract_for, reply_to_text, text_fault_stop};
+use tool_inputs::{EarlyEnd, Reply, TextCommand, abstract_for, reply_to_text, text_fault_end};
 
 // Reads a text. Returns the file with its first goal, and the goals after it.
 fn goals_of(alloc: Global, text: &[u8]) -> Result<(File, Vec<Goal>), EarlyEnd>
@@ -29,14 +29,14 @@ fn goals_of(alloc: Global, text: &[u8]) -> Result<(File, Vec<Goal>), EarlyEnd>
 {
     match read_all(alloc, text) {
         Ok(goals) => Ok(goals),
-        Err(fault) => Err(text_fault_stop(alloc, fault)),
+        Err(fault) => Err(text_fault_end(alloc, fault)),
     }
 }
 
 // Checks that a goal asks a question. Does not keep the question.
 fn test_goal(alloc: Global, file: &File, goal: &Goal) -> Result<(), EarlyEnd>
     requires { HasNumbersInRange (with_goal file.now (goal_tree goal.now)) }
-    ensures { Yields (λ u. AsksSome (with_goal file.now (goal_tree goal.now))) (IsRefusal (HasNoAbstraction (with_goal file.now (goal_tree goal.now)))) result }
+    ensures { Yields (λ u. PosesSome (with_goal file.now (goal_tree goal.now))) (IsRefusal (HasNoAbstraction (with_goal file.now (goal_tree goal.now)))) result }
 {
     match abstract_for(alloc, file, goal) {
         Ok(_) => Ok(()),
@@ -47,7 +47,7 @@ fn test_goal(alloc: Global, file: &File, goal: &Goal) -> Result<(), EarlyEnd>
 // Checks that each goal asks a question. Keeps no question, since all hypotheses together can have millions of nodes.
 fn test_goals(alloc: Global, file: &File, more: &[Goal]) -> Result<(), EarlyEnd>
     requires { AreInRange file.now (map goal_tree more.now) }
-    ensures { Yields (λ u. (f : FileParts) → Has (with_each file.now (map goal_tree more.now)) f → AsksSome f) (IsRefusal (IsFirstRefused (with_each file.now (map goal_tree more.now)))) result }
+    ensures { Yields (λ u. (f : FileParts) → Has (with_each file.now (map goal_tree more.now)) f → PosesSome f) (IsRefusal (IsFirstRefused (with_each file.now (map goal_tree more.now)))) result }
 {
     test_goal(alloc, file, &file.goal)?;
     for goal in more {
@@ -59,7 +59,7 @@ fn test_goals(alloc: Global, file: &File, more: &[Goal]) -> Result<(), EarlyEnd>
 // Returns the question of a goal that asks one. Fails only when out of memory.
 fn question_of(alloc: Global, file: &File, goal: &Goal) -> Result<Problem, NoMemory>
     requires numbers { HasNumbersInRange (with_goal file.now (goal_tree goal.now)) }
-    requires asks { AsksSome (with_goal file.now (goal_tree goal.now)) }
+    requires poses { PosesSome (with_goal file.now (goal_tree goal.now)) }
     ensures { IfOk result (IsQuestionOf (with_goal file.now (goal_tree goal.now))) }
 {
     match abstracted_for(alloc, file, goal) {
@@ -72,7 +72,7 @@ fn question_of(alloc: Global, file: &File, goal: &Goal) -> Result<Problem, NoMem
 // Returns the answer to a goal.
 fn goal_reply(alloc: Global, store: &mut Store, file: &File, goal: &Goal) -> Result<Reply, NoMemory>
     requires numbers { HasNumbersInRange (with_goal file.now (goal_tree goal.now)) }
-    requires asks { AsksSome (with_goal file.now (goal_tree goal.now)) }
+    requires poses { PosesSome (with_goal file.now (goal_tree goal.now)) }
     ensures { IfOk result (λ r. IsGoalAnswer (with_goal file.now (goal_tree goal.now)) r.status r.output.items) }
 {
     let problem = question_of(alloc, file, goal)?;
@@ -101,7 +101,7 @@ fn answers_in(
     more: &[Goal],
 ) -> Result<Reply, NoMemory>
     requires numbers { AreInRange file.now (map goal_tree more.now) }
-    requires asks { (f : FileParts) → Has (with_each file.now (map goal_tree more.now)) f → AsksSome f }
+    requires poses { (f : FileParts) → Has (with_each file.now (map goal_tree more.now)) f → PosesSome f }
     ensures { IfOk result (λ r. AnswersFrom 0 (with_each file.now (map goal_tree more.now)) r.status r.output.items) }
 {
     let mut all = Reply {
@@ -120,7 +120,7 @@ fn answers_in(
 // Returns the answers to all goals. The store is owned where nothing else can fail.
 fn answers(alloc: Global, file: &File, more: &[Goal]) -> Result<Reply, NoMemory>
     requires numbers { AreInRange file.now (map goal_tree more.now) }
-    requires asks { (f : FileParts) → Has (with_each file.now (map goal_tree more.now)) f → AsksSome f }
+    requires poses { (f : FileParts) → Has (with_each file.now (map goal_tree more.now)) f → PosesSome f }
     ensures { IfOk result (λ r. AnswersFrom 0 (with_each file.now (map goal_tree more.now)) r.status r.output.items) }
 {
     let mut store = Store::new(alloc);

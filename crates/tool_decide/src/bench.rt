@@ -42,7 +42,7 @@ fn moves_of(alloc: Global, k: u64) -> Result<Option<usize>, NoMemory>
 fn one_more(tally: Tally, k: u64, moves: Option<usize>) -> Tally
     requires before { IsTallied k tally.equal tally.different tally.moves }
     requires within { k < 10000 }
-    requires told { MatchOption moves (Same (bench_problem k)) (HasFewest (bench_problem k)) }
+    requires given { MatchOption moves (Same (bench_problem k)) (HasFewest (bench_problem k)) }
     ensures { IsTallied (k + 1) result.equal result.different result.moves }
 {
     match moves {

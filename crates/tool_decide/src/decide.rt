@@ -14,7 +14,7 @@ ghost use Rattle.abstraction.specs.Readings.{Reading, KeepsStated, GoalHoldsBy};
 ghost use Rattle.certificate.specs.Decisions.{IsDecision};
 ghost use Rattle.certificate.specs.Texts.{IsEvidence};
 ghost use Rattle.tool_inputs.specs.EvidenceBytes.{Spells, evidence_status};
-ghost use Rattle.tool_inputs.specs.FileProblem.{Asks};
+ghost use Rattle.tool_inputs.specs.FileProblem.{Poses};
 ghost use Rattle.tool_inputs.specs.StoreAnswers.{AlwaysEndAlike, AlwaysMeets, programs_abstraction, triple_abstraction, StoreHeadline};
 ghost use Rattle.tool_decide.specs.Decide.{IsDecided, Headline, DecideReply};
 
@@ -126,7 +126,7 @@ pub fn decide_bytes(alloc: Global, text: &[u8]) -> Result<Reply, NoMemory>
     ensures triples { (w : Width) (v : ℕ) (b : CondTree) (p : ProgTree) (c : CondTree) → IsTriplePrintable w v b p c → text.now ≡ triple_text w v b p c
         → IfOk result (λ r. StoreHeadline (triple_abstraction w v b p c) (AlwaysMeets w v b p c) r.status r.output.items) }
     // For every text.
-    ensures headline { (q : ProblemParts) → Asks text.now q
+    ensures headline { (q : ProblemParts) → Poses text.now q
         → IfOk result (λ r. Headline q r.status r.output.items) }
     ensures stores { (f : FileParts) → Reads text.now f → IsConcrete f → IfOk result (λ r. r.status ≡ 0 → Agrees f) }
     // For every reading of the declared tests and actions that satisfies the stated hypotheses.

@@ -1,5 +1,6 @@
-//! The replies of the commands that need the prover: `decide`, with or without a report, `batch` and `bench`; `outline`, notes
-//! that prove a triple of a program, found or checked; and `optimise`.
+//! The replies of `decide`, `batch`, `bench`, `outline` and `optimise`.
+//!
+//! They are the commands that need the prover; `outline` finds or checks notes that prove a triple of a program.
 #![tactic(auto)]
 
 mod batch;

@@ -9,7 +9,7 @@ use crate::log_text::optimised_text;
 use kat_model::NoMemory;
 use optimiser_steps::optimise;
 use std::alloc::Global;
-use tool_inputs::{EarlyEnd, FileCommand, Reply, reply_to_bytes, unfit_stop};
+use tool_inputs::{EarlyEnd, FileCommand, Reply, reply_to_bytes, unfit_end};
 use while_lang::{File, Prog};
 
 // Returns the log of a program of the file, with the resulting program.
@@ -44,7 +44,7 @@ impl FileCommand for OptimiseCommand<'_> {
 
     fn file_reply(&self, alloc: Global, file: &mut File) -> Result<Reply, EarlyEnd> {
         let Some(prog) = file.prog(self.prog) else {
-            return Err(unfit_stop(alloc));
+            return Err(unfit_end(alloc));
         };
         Ok(Reply {
             status: 0,

@@ -10,7 +10,7 @@ ghost use Rattle.outline_rules.specs.Texts.{AreNarrowNotes};
 ghost use Rattle.outline_rules.specs.Tasks.{task_parts, IsTripleOf};
 ghost use Rattle.outline_rules.specs.Follows.{HasTests};
 ghost use Rattle.tool_decide.specs.OutlineCheck.{SpellsNotes};
-ghost use Rattle.tool_inputs.specs.FileProblem.{Asks};
+ghost use Rattle.tool_inputs.specs.FileProblem.{Poses};
 ghost use Rattle.tool_decide.specs.Outline.{IsOutlined, OutlineHeadline, OutlineReply};
 
 use crate::decide::{count, decide_reply};
@@ -79,8 +79,8 @@ impl TextCommand for OutlineCommand {
 /// `decide`; and 2 exactly when the goal is not such a triple or some hypothesis is not simple. If the text asks no
 /// question, the status is also 2. With 2, the line gives the reason. Fails only when out of memory.
 pub fn outline_bytes(alloc: Global, text: &[u8]) -> Result<Reply, NoMemory>
-    ensures headline { (q : ProblemParts) (asks : Asks text.now q)
-        → IfOk result (λ r. OutlineHeadline asks.file q r.status r.output.items) }
+    ensures headline { (q : ProblemParts) (poses : Poses text.now q)
+        → IfOk result (λ r. OutlineHeadline poses.file q r.status r.output.items) }
     ensures stores { (f : FileParts) → Reads text.now f → IsConcrete f → IfOk result (λ r. r.status ≡ 0 → Agrees f) }
     ensures reply { IfOk result (λ r. OutlineReply text.now r.status r.output.items) }
 {

@@ -9,7 +9,7 @@ ghost use Rattle.outline_rules.specs.declared.fault.NotesFault.TheVariants.{NoMe
 ghost use Rattle.outline_rules.specs.Tasks.{task_parts, IsTripleOf};
 ghost use Rattle.kat_report.specs.OutlineLines.{notes_fault_line, note_reason_line};
 ghost use Rattle.tool_decide.specs.OutlineCheck.{SpellsNotes, IsNoNotes, AreChecked, ChecksNotes, NotesHeadline, OutlineCheckReply};
-ghost use Rattle.tool_inputs.specs.FileProblem.{Asks};
+ghost use Rattle.tool_inputs.specs.FileProblem.{Poses};
 ghost use Rattle.tool_inputs.specs.Steps.{IsRefusal};
 ghost use Rattle.tool_inputs.specs.ReplySpecs.{EndsWith, Yields};
 
@@ -21,7 +21,7 @@ use std::alloc::Global;
 use tool_inputs::{EarlyEnd, PairCommand, Reply, line, reply_to_pair};
 
 // Returns the reply to bytes with this fault: a refusal, unless memory ran out.
-fn fault_stop(alloc: Global, fault: NotesFault) -> EarlyEnd
+fn fault_end(alloc: Global, fault: NotesFault) -> EarlyEnd
     ensures { EndsWith (λ status output. (status ≡ 2) × ((fault ≢ NoRoom) × (output ≡ notes_fault_line fault))) result }
 {
     match fault {
@@ -39,7 +39,7 @@ fn notes_in(alloc: Global, bytes: &[u8]) -> Result<Notes, EarlyEnd>
 {
     match read_notes(alloc, bytes) {
         Ok(notes) => Ok(notes),
-        Err(fault) => Err(fault_stop(alloc, fault)),
+        Err(fault) => Err(fault_end(alloc, fault)),
     }
 }
 
@@ -118,8 +118,8 @@ impl PairCommand for OutlineCheckCommand {
 /// follow, with the line of the first reason; and 2 exactly when the goal is not such a triple, some hypothesis is not
 /// simple, or the bytes are not the text of notes, with the line that gives the reason. Fails only when out of memory.
 pub fn outline_check_bytes(alloc: Global, text: &[u8], notes: &[u8]) -> Result<Reply, NoMemory>
-    ensures headline { (q : ProblemParts) (asks : Asks text.now q)
-        → IfOk result (λ r. NotesHeadline notes.now asks.file q r.status r.output.items) }
+    ensures headline { (q : ProblemParts) (poses : Poses text.now q)
+        → IfOk result (λ r. NotesHeadline notes.now poses.file q r.status r.output.items) }
     ensures stores { (f : FileParts) → Reads text.now f → IsConcrete f → IfOk result (λ r. r.status ≡ 0 → Agrees f) }
     ensures reply { IfOk result (λ r. OutlineCheckReply text.now notes.now r.status r.output.items) }
 {

@@ -6,7 +6,7 @@ ghost use Rattle.problem_file.specs.Reads.{Reads};
 ghost use Rattle.while_lang.specs.Concrete.{IsConcrete, Agrees};
 ghost use Rattle.abstraction.specs.Abstracts.{AbstractParts, abstract_of};
 ghost use Rattle.abstraction.specs.Readings.{Reading, KeepsStated, GoalHoldsBy};
-ghost use Rattle.tool_inputs.specs.FileProblem.{Asks};
+ghost use Rattle.tool_inputs.specs.FileProblem.{Poses};
 ghost use Rattle.tool_decide.specs.DecideJson.{IsReported, ReportHeadline, DecideJsonReply};
 
 use crate::decide::{evidence_status, know_numbers};
@@ -48,7 +48,7 @@ impl TextCommand for DecideJsonCommand {
 /// Returns the reply of `decide` with `--json` to the bytes of a text: that of `decide_bytes`, with one line of JSON
 /// that contains the text of the evidence instead of this text. Fails only when out of memory.
 pub fn decide_json_bytes(alloc: Global, text: &[u8]) -> Result<Reply, NoMemory>
-    ensures headline { (q : ProblemParts) → Asks text.now q
+    ensures headline { (q : ProblemParts) → Poses text.now q
         → IfOk result (λ r. ReportHeadline q r.status r.output.items) }
     ensures stores { (f : FileParts) → Reads text.now f → IsConcrete f → IfOk result (λ r. r.status ≡ 0 → Agrees f) }
     ensures readings { (f : FileParts) (a : AbstractParts) (reading : Reading) → Reads text.now f → abstract_of f ≡ Ok a → KeepsStated f a reading

@@ -7,10 +7,10 @@ ghost use Rattle.abstraction.specs.ShownTables.{shown_tables};
 ghost use Rattle.goal_forms.specs.TestTerms.{AreSimple};
 ghost use Rattle.outline_rules.specs.Tasks.{task_parts};
 ghost use Rattle.kat_report.specs.OutlineLines.{not_simple_line};
-ghost use Rattle.tool_decide.specs.Triples.{goal_task, file_task, TellsNotSimple, PosesTask, PosesNoTask};
+ghost use Rattle.tool_decide.specs.Triples.{goal_task, file_task, ReportsNotSimple, PosesTask, PosesNoTask};
 ghost use Rattle.tool_inputs.specs.Steps.{IsRefusal};
 ghost use Rattle.tool_inputs.specs.ReplySpecs.{EndsWith, Yields};
-ghost use Rattle.tool_decide.specs.Working.FileTriples.{IsSimpleTriple, IsTripleOfFile, AsksNoTask};
+ghost use Rattle.tool_decide.specs.Working.FileTriples.{IsSimpleTriple, IsTripleOfFile, LacksTask};
 
 use abstraction::{Abstract, flow_of, test_of};
 use hoare_outlines::{Task, not_simple};
@@ -66,7 +66,7 @@ fn file_task(alloc: Global, file: &File, shown: &Abstract) -> Result<Option<Task
 // Returns the task of a file. A file whose goal is not a triple of a program is refused.
 fn task_in(alloc: Global, file: &File, shown: &Abstract) -> Result<Task, EarlyEnd>
     requires { abstract_of file.now ≡ Ok shown.now }
-    ensures { Yields (λ t. file_task file.now ≡ Some (task_parts t)) (IsRefusal (AsksNoTask file.now)) result }
+    ensures { Yields (λ t. file_task file.now ≡ Some (task_parts t)) (IsRefusal (LacksTask file.now)) result }
 {
     match file_task(alloc, file, shown)? {
         Some(task) => Ok(task),
@@ -75,7 +75,7 @@ fn task_in(alloc: Global, file: &File, shown: &Abstract) -> Result<Task, EarlyEn
 }
 
 // Returns the refusal of a hypothesis that is not simple.
-fn not_simple_stop(alloc: Global, hyp: usize) -> EarlyEnd
+fn not_simple_end(alloc: Global, hyp: usize) -> EarlyEnd
     ensures { EndsWith (IsRefusal (λ line. line ≡ not_simple_line hyp)) result }
 {
     match not_simple_line(alloc, hyp) {
@@ -86,17 +86,17 @@ fn not_simple_stop(alloc: Global, hyp: usize) -> EarlyEnd
 
 // Checks that all hypotheses are simple. Refuses the first that is not.
 fn test_hypotheses(alloc: Global, problem: &Problem) -> Result<(), EarlyEnd>
-    ensures { Yields (λ u. AreSimple problem.now.hyps) (IsRefusal (TellsNotSimple problem.now.hyps)) result }
+    ensures { Yields (λ u. AreSimple problem.now.hyps) (IsRefusal (ReportsNotSimple problem.now.hyps)) result }
 {
     match not_simple(problem) {
-        Some(hyp) => Err(not_simple_stop(alloc, hyp)),
+        Some(hyp) => Err(not_simple_end(alloc, hyp)),
         None => Ok(()),
     }
 }
 
 // Returns the triple of an abstraction with this task. Refuses a hypothesis that is not simple.
 fn simple_triple(alloc: Global, shown: Abstract, task: Task) -> Result<Triple, EarlyEnd>
-    ensures { Yields (IsSimpleTriple shown task) (IsRefusal (TellsNotSimple shown.problem.hyps)) result }
+    ensures { Yields (IsSimpleTriple shown task) (IsRefusal (ReportsNotSimple shown.problem.hyps)) result }
 {
     let problem = shown.into_problem();
     test_hypotheses(alloc, &problem)?;
@@ -106,7 +106,7 @@ fn simple_triple(alloc: Global, shown: Abstract, task: Task) -> Result<Triple, E
 // Returns the triple of a file with this abstraction.
 fn abstract_triple(alloc: Global, file: &File, shown: Abstract) -> Result<Triple, EarlyEnd>
     requires { abstract_of file.now ≡ Ok shown }
-    ensures { Yields (IsTripleOfFile file.now) (IsRefusal (AsksNoTask file.now)) result }
+    ensures { Yields (IsTripleOfFile file.now) (IsRefusal (LacksTask file.now)) result }
 {
     let task = task_in(alloc, file, &shown)?;
     simple_triple(alloc, shown, task)
@@ -115,7 +115,7 @@ fn abstract_triple(alloc: Global, file: &File, shown: Abstract) -> Result<Triple
 // Returns the triple of a file.
 fn file_triple(alloc: Global, file: &File) -> Result<Triple, EarlyEnd>
     requires { HasNumbersInRange file.now }
-    ensures { Yields (IsTripleOfFile file.now) (IsRefusal (AsksNoTask file.now)) result }
+    ensures { Yields (IsTripleOfFile file.now) (IsRefusal (LacksTask file.now)) result }
 {
     let shown = abstract_in(alloc, file)?;
     abstract_triple(alloc, file, shown)

@@ -404,10 +404,10 @@ module _ (path : List ℕ) where
               with_turn atom x.0 y.0 (after_test b e atom x.0 on x.3) (subst (λ δ. Takes (loop_term b e) δ y.0) x.2 y.3),
             )
 
-        turned : truth b atom ≡ true → (w : Walk) → walk ms k atom F ≡ w → Followed ms atom β left
-        turned on (stopped place) is =
+        converse : truth b atom ≡ true → (w : Walk) → walk ms k atom F ≡ w → Followed ms atom β left
+        converse on (stopped place) is =
             let both : stopped place ≡ ended l β left = sym (loop_stopped path b F empty ms k atom on place is) ∙ h in absurd cc
-        turned on (ended j γ mid) is = ⊎_elim (λ same. idle on j γ mid is same) (λ later. next on j γ mid is later) (apart k j (walk_onward ms k atom F j γ mid is))
+        converse on (ended j γ mid) is = ⊎_elim (λ same. idle on j γ mid is same) (λ later. next on j γ mid is later) (apart k j (walk_onward ms k atom F j γ mid is))
 
         by : (t : Bool) → truth b atom ≡ t → Followed ms atom β left
         by false off =
@@ -415,7 +415,7 @@ module _ (path : List ℕ) where
             let rest : ms ≡ left = cc in
             let same : atom ≡ β = cc in
             ([], rest, sym same, product_accepts (star turn) (test (complement b)) atom [] [] refl (not_true (truth b atom) off))
-        by true on = turned on (walk ms k atom F) refl
+        by true on = converse on (walk ms k atom F) refl
 
     sound_within : (n : ℕ) → Sound F (Takes e) → (ms : List Move) (k : ℕ) (atom : Atom) (l : ℕ) (β : Atom) (left : List Move) → length ms ≤ n → walk ms k atom Loop ≡ ended l β left → Followed ms atom β left
     sound_within zero f ms k atom l β left few h = sound_turn f ms k atom l β left (λ mid j γ less e'. absurd (omega (arith, few, less))) h

@@ -1,6 +1,8 @@
-//! The reply of `explain`: evidence in the words of the file that it is about. No dependency of this crate is a prover.
-//! Where a program over tests and actions is after a string is the residual of the program along the string (the
-//! derivatives of guarded programs: Smolka, Foster, Hsu, Kappé, Kozen and Silva 2020), with the paths of its statements.
+//! The reply of `explain`: evidence in the words of its file.
+//!
+//! No dependency of this crate is a prover. Where a program over tests and actions is after a string is the residual of
+//! the program along the string (the derivatives of guarded programs: Smolka, Foster, Hsu, Kappé, Kozen and Silva
+//! 2020), with the paths of its statements.
 #![tactic(auto)]
 
 mod certificates;

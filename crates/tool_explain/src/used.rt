@@ -7,7 +7,7 @@ ghost use Rattle.tool_explain.specs.Used.{marked, with_marked};
 use abstraction::Rule;
 use cert_checker::{Answer, check};
 use certificate::{Cert, Evidence, Style, TestNode};
-use goal_forms::{asks_only, is_short};
+use goal_forms::{is_short, tests_only_from};
 use kat_model::{Kat, NoMemory, Problem, append};
 use std::alloc::Global;
 
@@ -59,7 +59,7 @@ fn marked_prims(alloc: Global, nodes: &[TestNode], marks: &[bool]) -> Result<Vec
 }
 
 // Returns the primitive tests that the tests of pairs name.
-fn asked_tests(alloc: Global, cert: &Cert) -> Result<Vec<usize>, NoMemory> {
+fn queried_tests(alloc: Global, cert: &Cert) -> Result<Vec<usize>, NoMemory> {
     let mut marks = vec![in alloc; false; cert.test_nodes().len()]?;
     mark_pair_tests(&mut marks, cert);
     mark_all_parts(&mut marks, cert.test_nodes());
@@ -69,10 +69,10 @@ fn asked_tests(alloc: Global, cert: &Cert) -> Result<Vec<usize>, NoMemory> {
 // Marks the long hypotheses, and the short ones that depend, after each action or without one, only on tests that the
 // tests of pairs name. The checker tries the same ones first.
 fn likely_marks(alloc: Global, problem: &Problem, cert: &Cert) -> Result<Vec<bool>, NoMemory> {
-    let known = asked_tests(alloc, cert)?;
+    let known = queried_tests(alloc, cert)?;
     let mut marks = Vec::new(alloc);
     for hyp in problem.hyps() {
-        marks.push(!is_short(hyp) || asks_only(hyp, &known, hyp.acts() == 0))?;
+        marks.push(!is_short(hyp) || tests_only_from(hyp, &known, hyp.acts() == 0))?;
     }
     Ok(marks)
 }

@@ -6,17 +6,17 @@ use Rattle.flow_model.specs.Polish.{graph_of}
 use Rattle.flow_ways.specs.Sorted.{IsSortedGraph}
 use Rattle.flow_text.specs.Trees as read
 use Rattle.flow_text.specs.Checking.{FlowFileParts, graph_or_none, pair_of}
-use Rattle.flow_sorts.proofs.ReadGraphs.{graph_whole}
-use Rattle.flow_sorts.specs.WholeGraphs.{are_whole_blocks}
-use Rattle.flow_questions.specs.HypothesisViews.{flow_rule}
+use Rattle.flow_laws.proofs.ReadGraphs.{graph_whole}
+use Rattle.flow_laws.specs.WholeGraphs.{are_whole_blocks}
+use Rattle.flow_abstraction.specs.HypothesisViews.{flow_rule}
 use Rattle.flow_problem.specs.FlowProblems.{FlowQuestion}
 use Rattle.flow_problem.specs.PlacedProblems.{IsFlowPair, IsFlowProblem}
-use Rattle.flow_questions.specs.declared.fault.FlowFault.{FlowFault}
-use Rattle.flow_questions.specs.declared.fault.FlowFault.TheVariants.{NoMemory}
-use Rattle.flow_questions.specs.declared.question.FlowAbstract.{FlowAbstract}
-use Rattle.flow_questions.specs.Abstracts.{flow_problem_of}
-use Rattle.flow_questions.specs.Asked as blocks
-use Rattle.flow_questions.specs.Asked.{asked, HasFault}
+use Rattle.flow_abstraction.specs.declared.fault.FlowFault.{FlowFault}
+use Rattle.flow_abstraction.specs.declared.fault.FlowFault.TheVariants.{NoMemory}
+use Rattle.flow_abstraction.specs.declared.question.FlowAbstract.{FlowAbstract}
+use Rattle.flow_abstraction.specs.Abstracts.{flow_problem_of}
+use Rattle.flow_abstraction.specs.PosedQuestion as blocks
+use Rattle.flow_abstraction.specs.PosedQuestion.{posed, HasFault}
 use Rattle.tool_flow.specs.FlowFaults.{flow_fault_line}
 use Rattle.tool_flow.specs.Questions.{question_of, IsRefused, rules_of, HasNoFlowProblem}
 use Rattle.tool_flow.specs.Working.Found.{IsFound}
@@ -38,7 +38,7 @@ has_blocks f before after first second pair =
 
 module _ (f : FlowFileParts) (before after : List Block) (has : HasBlocks f before after) where
   abbrev question : FlowQuestion
-  question = blocks.question_of (asked f.sorts before after f.rounds f.splits)
+  question = blocks.question_of (posed f.sorts before after f.rounds f.splits)
 
   with_graphs : (g h : Graph) → graph_of before ≡ g → graph_of after ≡ h →
       question ≡ record { pair = record { sorts = f.sorts; before = g; after = h }; rounds = f.rounds; splits = f.splits }
@@ -47,23 +47,23 @@ module _ (f : FlowFileParts) (before after : List Block) (has : HasBlocks f befo
   one_question : question ≡ question_of f
   one_question = with_graphs (graph_or_none (slice_get f.graphs f.before)) (graph_or_none (slice_get f.graphs f.after)) has.before_graph has.after_graph
 
-  unrefused : (fault : FlowFault) → blocks.HasNoFault (asked f.sorts before after f.rounds f.splits) → IsRefused (question_of f) fault → ⊥
+  unrefused : (fault : FlowFault) → blocks.HasNoFault (posed f.sorts before after f.rounds f.splits) → IsRefused (question_of f) fault → ⊥
   unrefused fault none refused =
-      none fault (refused_as_blocks (asked f.sorts before after f.rounds f.splits) has.before_whole has.after_whole fault
+      none fault (refused_as_blocks (posed f.sorts before after f.rounds f.splits) has.before_whole has.after_whole fault
       (subst (λ q. IsRefused q fault) (sym one_question) refused))
 
   pub found_of : (a : FlowAbstract) → IsFlowProblem question (flow_problem_of a) → map flow_rule a.rules.items ≡ rules_of f (flow_problem_of a)
-      → blocks.HasNoFault (asked f.sorts before after f.rounds f.splits) → IsFound f a
+      → blocks.HasNoFault (posed f.sorts before after f.rounds f.splits) → IsFound f a
   found_of a problem rules none = record {
     problem = subst (λ q. IsFlowProblem q (flow_problem_of a)) one_question problem;
     unrefused = λ fault refused. unrefused fault none refused;
     rules = rules;
   }
 
-  pub none_of : (fault : FlowFault) (line : List ℕ) → HasFault (asked f.sorts before after f.rounds f.splits) fault → (fault ≡ NoMemory → ⊥) → line ≡ flow_fault_line fault → HasNoFlowProblem f line
+  pub none_of : (fault : FlowFault) (line : List ℕ) → HasFault (posed f.sorts before after f.rounds f.splits) fault → (fault ≡ NoMemory → ⊥) → line ≡ flow_fault_line fault → HasNoFlowProblem f line
   none_of fault line (inl out) some printed = absurd (some out)
   none_of fault line (inr refused) some printed = record {
     fault = fault;
-    reason = inl (subst (λ q. IsRefused q fault) one_question (refused_as_trees (asked f.sorts before after f.rounds f.splits) has.before_whole has.after_whole fault refused));
+    reason = inl (subst (λ q. IsRefused q fault) one_question (refused_as_trees (posed f.sorts before after f.rounds f.splits) has.before_whole has.after_whole fault refused));
     printed = printed;
   }

@@ -1,7 +1,7 @@
 -- The lines that report why two graphs have no problem.
 use Rattle.std.specs.Prelude.{ℕ, List, ◌++◌, codes}
-use Rattle.flow_questions.specs.declared.fault.FlowFault.{FlowFault}
-use Rattle.flow_questions.specs.declared.fault.FlowFault.TheVariants.{NoMemory, UncutLoop, TooManyPaths, TooLarge, TooManyTests, TooManyActions, ProblemTooLarge}
+use Rattle.flow_abstraction.specs.declared.fault.FlowFault.{FlowFault}
+use Rattle.flow_abstraction.specs.declared.fault.FlowFault.TheVariants.{NoMemory, UncutLoop, TooManyPaths, TooLarge, TooManyTests, TooManyActions, ProblemTooLarge}
 
 abbrev pub flow_fault_word : FlowFault → List ℕ
 flow_fault_word NoMemory = codes "NoMemory"

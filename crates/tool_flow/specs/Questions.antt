@@ -4,17 +4,17 @@ use Rattle.flow_model.specs.declared.sort.Sort.{Sort}
 use Rattle.flow_model.specs.Graphs.{Graph}
 use Rattle.flow_text.specs.Checking.{FlowFileParts, pair_of}
 use Rattle.flow_ways.specs.Outcomes.{Outcome}
-use Rattle.flow_sorts.specs.GraphOutcomes.{graph_outcome}
-use Rattle.flow_problem.specs.Places.{is_place}
+use Rattle.flow_laws.specs.GraphOutcomes.{graph_outcome}
+use Rattle.flow_places.specs.Places.{is_place}
 use Rattle.flow_problem.specs.FlowFacts.{FlowRule, flow_hypotheses}
 use Rattle.flow_problem.specs.Points.{FlowProblem}
 use Rattle.flow_problem.specs.FlowProblems.{FlowQuestion}
 use Rattle.flow_problem.specs.PlacedProblems.{IsFlowProblem}
 use Rattle.flow_print.specs.NameTables.{NameTable}
 use Rattle.flow_print.specs.FlowTexts.{flow_text, IsFlowPrintable}
-use Rattle.flow_questions.specs.declared.fault.FlowFault.{FlowFault}
-use Rattle.flow_questions.specs.declared.fault.FlowFault.TheVariants.{ProblemTooLarge}
-use Rattle.flow_questions.specs.Asked.{IsRefusedBy}
+use Rattle.flow_abstraction.specs.declared.fault.FlowFault.{FlowFault}
+use Rattle.flow_abstraction.specs.declared.fault.FlowFault.TheVariants.{ProblemTooLarge}
+use Rattle.flow_abstraction.specs.PosedQuestion.{IsRefusedBy}
 use Rattle.tool_flow.specs.FlowFaults.{flow_fault_line}
 
 -- whether both graphs that the goal of a file names always return the same

@@ -1,10 +1,10 @@
 //! The line that reports why two graphs have no problem.
 ghost use Rattle.std.specs.Prelude.{◌≡◌, ◌≢◌, IfOk};
-ghost use Rattle.flow_questions.specs.declared.fault.FlowFault.TheVariants.{NoMemory as NoRoom};
+ghost use Rattle.flow_abstraction.specs.declared.fault.FlowFault.TheVariants.{NoMemory as NoRoom};
 ghost use Rattle.tool_inputs.specs.ReplySpecs.{EndsWith};
 ghost use Rattle.tool_flow.specs.FlowFaults.{flow_fault_word, flow_fault_line};
 
-use flow_questions::FlowFault;
+use flow_abstraction::FlowFault;
 use kat_model::NoMemory;
 use std::alloc::Global;
 use text_print::put;
@@ -35,7 +35,7 @@ fn fault_line(alloc: Global, fault: &FlowFault) -> Result<Vec<u8>, NoMemory>
 }
 
 /// Returns the reply to graphs that have no problem for this reason: a refusal, unless memory ran out.
-pub(crate) fn fault_stop(alloc: Global, fault: FlowFault) -> EarlyEnd
+pub(crate) fn fault_end(alloc: Global, fault: FlowFault) -> EarlyEnd
     ensures { EndsWith (λ status output. (status ≡ 2) × ((fault ≢ NoRoom) × (output ≡ flow_fault_line fault))) result }
 {
     match fault {

@@ -6,7 +6,7 @@ ghost use Rattle.flow_text.specs.FileViews.{graphs_of, file_parts};
 ghost use Rattle.flow_text.specs.Texts.{IsFlowText, FirstFault};
 ghost use Rattle.flow_problem.specs.PlacedProblems.{IsFlowPair};
 ghost use Rattle.flow_print.specs.FlowTexts.{AreLines};
-ghost use Rattle.flow_questions.specs.Abstracts.{flow_problem_of};
+ghost use Rattle.flow_abstraction.specs.Abstracts.{flow_problem_of};
 ghost use Rattle.tool_inputs.specs.TextProblem.{IsFaultOf};
 ghost use Rattle.tool_inputs.specs.Steps.{IsRefusal};
 ghost use Rattle.tool_inputs.specs.ReplySpecs.{Yields};
@@ -14,15 +14,15 @@ ghost use Rattle.tool_flow.specs.Questions.{names_of, problem_text, IsPrintable,
 ghost use Rattle.tool_flow.specs.Flow.{FlowHeadline, FlowReply};
 ghost use Rattle.tool_flow.specs.Working.Found.{IsFound};
 
-use crate::fault::fault_stop;
+use crate::fault::fault_end;
 use crate::printable::are_shallow;
+use flow_abstraction::{FlowAbstract, FlowFault, problem_of};
 use flow_model::Block;
 use flow_print::{FlowNames, flow_text};
-use flow_questions::{FlowAbstract, FlowFault, problem_of};
 use flow_text::{FlowFile, read};
 use kat_model::{MAX_TEXT_BYTES, NoMemory};
 use std::alloc::Global;
-use tool_inputs::{EarlyEnd, Reply, TextCommand, reply_to_text, text_fault_stop};
+use tool_inputs::{EarlyEnd, Reply, TextCommand, reply_to_text, text_fault_end};
 
 // Reads a flow file. A text with a first fault is refused with the line of the fault.
 fn file_of(alloc: Global, text: &[u8]) -> Result<FlowFile, EarlyEnd>
@@ -30,7 +30,7 @@ fn file_of(alloc: Global, text: &[u8]) -> Result<FlowFile, EarlyEnd>
 {
     match read(alloc, text) {
         Ok(file) => Ok(file),
-        Err(fault) => Err(text_fault_stop(alloc, fault)),
+        Err(fault) => Err(text_fault_end(alloc, fault)),
     }
 }
 
@@ -60,7 +60,7 @@ fn problem_in(alloc: Global, file: &FlowFile) -> Result<FlowAbstract, EarlyEnd>
         file.splits,
     ) {
         Ok(found) => Ok(found),
-        Err(fault) => Err(fault_stop(alloc, fault)),
+        Err(fault) => Err(fault_end(alloc, fault)),
     }
 }
 
@@ -111,7 +111,7 @@ impl TextCommand for FlowCommand {
         let found = problem_in(alloc, &file)?;
         let output = text_of(alloc, &file, &found)?;
         if !is_printable(&file, &found, &output) {
-            return Err(fault_stop(alloc, FlowFault::ProblemTooLarge));
+            return Err(fault_end(alloc, FlowFault::ProblemTooLarge));
         }
         Ok(Reply { status: 0, output })
     }

@@ -1,4 +1,4 @@
-//! `flow`: replies to a text of two flow graphs with the question whether they always return the same, as a problem file.
+//! The reply of `flow`: two flow graphs as a problem file.
 #![tactic(auto)]
 
 mod fault;

@@ -18,8 +18,8 @@ use Rattle.abstraction.specs.Derived.{stated_from, hypotheses}
 use Rattle.abstraction.specs.Abstracts.{file_problem, abstract_parts, abstract_of}
 use Rattle.abstraction.proofs.AppendedRows.{no_rounds}
 use Rattle.abstraction.proofs.NumberedRows.{stated_terms}
-use Rattle.problem_file.specs.TextLaws.{AsksEqual}
-use Rattle.tool_inputs.specs.FileProblem.{Asks}
+use Rattle.problem_file.specs.TextLaws.{PosesEqual}
+use Rattle.tool_inputs.specs.FileProblem.{Poses}
 
 -- ---- the abstraction of a goal of two terms
 
@@ -90,8 +90,8 @@ bare_abstract f l r e problem =
 
 -- ---- the question of the text
 
-pub asks_equal : (text : List ℕ) (q : ProblemParts) → IsProblem q → AsksEqual text q → Asks text q
-asks_equal text q problem read =
+pub poses_equal : (text : List ℕ) (q : ProblemParts) → IsProblem q → PosesEqual text q → Poses text q
+poses_equal text q problem read =
     let f = read.file in
     let same : q ≡ question_of f q.left q.right = read.question in
     record {

@@ -9,28 +9,28 @@ use Rattle.tool_inputs.specs.declared.reply.Reply.{Reply}
 use Rattle.tool_inputs.specs.declared.reply.EarlyEnd.{EarlyEnd}
 use Rattle.tool_inputs.specs.Contents.{MayContain}
 use Rattle.kat_report.specs.InputLines.{too_long_line, words_line}
-use Rattle.tool_inputs.specs.Steps.{ShelfUse, ReplySpec, IsRefusal, FailsOn, HasFailedOn, AsksFor, shelf_use}
+use Rattle.tool_inputs.specs.Steps.{ShelfUse, ReplySpec, IsRefusal, FailsOn, HasFailedOn, PosesFor, shelf_use}
 use Rattle.tool_inputs.specs.FileReplies.{OfFile, WithSecond, OfTwoFiles, IsTooLong}
 use Rattle.tool_inputs.specs.ReplySpecs.{RepliesWith}
-use Rattle.tool_inputs.proofs.Contents.{held_same, told_bytes}
+use Rattle.tool_inputs.proofs.Contents.{held_same, given_bytes}
 use Rattle.tool_inputs.proofs.ReplySpecs.{RepliesWith-weaker}
 use Rattle.tool_inputs.proofs.Steps.{OneStatus}
 
 -- ---- files whose content is known
 
 -- the reply to a file is that to its bytes
-pub of_told : (s : ShelfUse) (file : List ℕ) (R : List ℕ → ReplySpec) (status : ℕ) (output bytes : List ℕ) → s.content file ≡ Known bytes → (FailsOn s file → ⊥) → OfFile s file R status output → R bytes status output
-of_told s file R status output bytes is unfailed (inl f) = absurd (unfailed f.fails)
-of_told s file R status output bytes is unfailed (inr (got, may, r)) = subst (λ b. R b status output) (held_same (s.content file) bytes got is may) r
+pub of_given : (s : ShelfUse) (file : List ℕ) (R : List ℕ → ReplySpec) (status : ℕ) (output bytes : List ℕ) → s.content file ≡ Known bytes → (FailsOn s file → ⊥) → OfFile s file R status output → R bytes status output
+of_given s file R status output bytes is unfailed (inl f) = absurd (unfailed f.fails)
+of_given s file R status output bytes is unfailed (inr (got, may, r)) = subst (λ b. R b status output) (held_same (s.content file) bytes got is may) r
 
 module _ (s : ShelfUse) (file other : List ℕ) (Accepts : List ℕ → Type 0) (Both : List ℕ → List ℕ → ReplySpec) (status : ℕ) (output : List ℕ) where
   -- the reply to two files is that to their bytes
-  pub of_both_told : (text bytes : List ℕ) → s.content file ≡ Known text → s.content other ≡ Known bytes → (FailsOn s file → ⊥) → (FailsOn s other → ⊥) → OfTwoFiles s file other Accepts Both status output → Both text bytes status output
-  of_both_told text bytes is is_other unfailed unfailed_other r = second (of_told s file (WithSecond s other Accepts Both) status output text is unfailed r)
+  pub of_both_given : (text bytes : List ℕ) → s.content file ≡ Known text → s.content other ≡ Known bytes → (FailsOn s file → ⊥) → (FailsOn s other → ⊥) → OfTwoFiles s file other Accepts Both status output → Both text bytes status output
+  of_both_given text bytes is is_other unfailed unfailed_other r = second (of_given s file (WithSecond s other Accepts Both) status output text is unfailed r)
     where
       second : WithSecond s other Accepts Both text status output → Both text bytes status output
       second (inl h) = h.1 bytes
-      second (inr h) = of_told s other (Both text) status output bytes is_other unfailed_other h.1
+      second (inr h) = of_given s other (Both text) status output bytes is_other unfailed_other h.1
 
 -- ---- the reply to one file
 
@@ -71,10 +71,10 @@ module _ (s : ShelfUse) (file other : List ℕ) (Accepts : List ℕ → Type 0) 
     first_refused R so r = RepliesWith-weaker R (OfTwoFiles s file other Accepts Both) (λ status output h. of_text status output (inl (so status output h))) result r
 
     -- the text is accepted, and the second file is read from a shelf that has not failed and whose content is unchanged
-    module _ (accepts : Accepts text) (content : List ℕ → KnownContent) (before : ℕ) (holds : content other ≡ s.content other) (stands : before ≡ s.before) where
+    module _ (accepts : Accepts text) (content : List ℕ → KnownContent) (before : ℕ) (holds : content other ≡ s.content other) (represents : before ≡ s.before) where
       second_so : (limit : Option ℕ) (line : List ℕ) → ((bytes : List ℕ) → IsPast (length bytes) limit → Both text bytes 2 line) → (status : ℕ) (output : List ℕ)
           → OfFile (shelf_use content before s.now s.last) other (IsTooLong limit line) status output → OfFile s other (Both text) status output
-      second_so limit line long status output (inl f) = inl (record { fails = (subst (λ n. FaultCounted n s.now) stands f.fails.0, f.fails.1); has_status = f.has_status; printed = f.printed })
+      second_so limit line long status output (inl f) = inl (record { fails = (subst (λ n. FaultCounted n s.now) represents f.fails.0, f.fails.1); has_status = f.has_status; printed = f.printed })
       second_so limit line long status output (inr (bytes, might, h)) = inr (bytes, subst (λ t. MayContain t bytes) holds might, with_line (Both text bytes) line status output h.1 h.2 (long bytes h.0))
 
       pub second_unread : (limit : Option ℕ) (line : List ℕ) → ((bytes : List ℕ) → IsPast (length bytes) limit → Both text bytes 2 line)
@@ -93,7 +93,7 @@ module _ (s : ShelfUse) (file other : List ℕ) (Accepts : List ℕ → Type 0) 
           r
 
 -- the reply to a text and any bytes, by what the text poses
-module _ {X : Type 0} (Declines : List ℕ → Type 0) (Poses : X → Type 0) (GoesOn : List ℕ → X → ReplySpec) (Both : List ℕ → ReplySpec) (is_reply : (bytes : List ℕ) (status : ℕ) (output : List ℕ) → AsksFor Declines Poses (GoesOn bytes) status output → Both bytes status output) where
+module _ {X : Type 0} (Declines : List ℕ → Type 0) (Poses : X → Type 0) (GoesOn : List ℕ → X → ReplySpec) (Both : List ℕ → ReplySpec) (is_reply : (bytes : List ℕ) (status : ℕ) (output : List ℕ) → PosesFor Declines Poses (GoesOn bytes) status output → Both bytes status output) where
   -- a text that poses no question
   pub unposed : (Accepts : Type 0) → ((line : List ℕ) → Declines line → Accepts → ⊥) → (status : ℕ) (output : List ℕ) → IsRefusal Declines status output → (Accepts → ⊥) × ((bytes : List ℕ) → Both bytes status output)
   unposed Accepts excludes status output r = (excludes output r.1, (λ bytes. is_reply bytes status output (inl r)))
@@ -123,12 +123,12 @@ pub record HasOneFileReply (s : ShelfUse) (files : List (List ℕ)) (R : ReplySp
   pub once : (FaultCounted s.before s.now → ⊥) → ((file : List ℕ) → s.content file ≡ Unknown → ⊥) → OneStatus R
 
 of_file_once : (s : ShelfUse) (file : List ℕ) (R : List ℕ → ReplySpec) → (FaultCounted s.before s.now → ⊥) → (s.content file ≡ Unknown → ⊥) → ((bytes : List ℕ) → OneStatus (R bytes)) → OneStatus (OfFile s file R)
-of_file_once s file R unfailed told once a b o p (inl f) y = absurd (unfailed f.fails.0)
-of_file_once s file R unfailed told once a b o p (inr (bytes, may, r)) y =
-    once bytes a b o p r (of_told s file R b p bytes (told_bytes (s.content file) bytes told may) (λ f. unfailed f.0) y)
+of_file_once s file R unfailed given once a b o p (inl f) y = absurd (unfailed f.fails.0)
+of_file_once s file R unfailed given once a b o p (inr (bytes, may, r)) y =
+    once bytes a b o p r (of_given s file R b p bytes (given_bytes (s.content file) bytes given may) (λ f. unfailed f.0) y)
 
 pub of_file : (s : ShelfUse) (file : List ℕ) (R : List ℕ → ReplySpec) (Unfit : List ℕ → Type 0) → ((bytes : List ℕ) → HasOneReply (R bytes) (Unfit bytes)) → HasOneFileReply s (file ∷ []) (OfFile s file R) ((bytes : List ℕ) × MayContain (s.content file) bytes × Unfit bytes)
-of_file s file R Unfit one = record { small = small; once = λ unfailed told. of_file_once s file R unfailed (told file) (λ bytes. (one bytes).once) }
+of_file s file R Unfit one = record { small = small; once = λ unfailed given. of_file_once s file R unfailed (given file) (λ bytes. (one bytes).once) }
   where
     Small : ℕ → List ℕ → Type 0
     Small status output =
@@ -158,13 +158,13 @@ module _ (s : ShelfUse) (file other : List ℕ) (Accepts : List ℕ → Type 0) 
   both_small status output (inr (text, may, inr (accepts, inr (bytes, might, r)))) = of_bytes status output ((one text bytes).small status output r)
 
   second_once : (FaultCounted s.before s.now → ⊥) → (s.content other ≡ Unknown → ⊥) → (text : List ℕ) → OneStatus (WithSecond s other Accepts Both text)
-  second_once unfailed told text a b o p (inl x) (inl y) = (one text []).once a b o p (x.1 []) (y.1 [])
-  second_once unfailed told text a b o p (inl x) (inr y) = absurd (x.0 y.0)
-  second_once unfailed told text a b o p (inr x) (inl y) = absurd (y.0 x.0)
-  second_once unfailed told text a b o p (inr x) (inr y) = of_file_once s other (Both text) unfailed told (λ bytes. (one text bytes).once) a b o p x.1 y.1
+  second_once unfailed given text a b o p (inl x) (inl y) = (one text []).once a b o p (x.1 []) (y.1 [])
+  second_once unfailed given text a b o p (inl x) (inr y) = absurd (x.0 y.0)
+  second_once unfailed given text a b o p (inr x) (inl y) = absurd (y.0 x.0)
+  second_once unfailed given text a b o p (inr x) (inr y) = of_file_once s other (Both text) unfailed given (λ bytes. (one text bytes).once) a b o p x.1 y.1
 
   pub of_two_files : HasOneFileReply s (file ∷ other ∷ []) (OfTwoFiles s file other Accepts Both) ⊥
   of_two_files = record {
     small = both_small;
-    once = λ unfailed told. of_file_once s file (WithSecond s other Accepts Both) unfailed (told file) (second_once unfailed (told other));
+    once = λ unfailed given. of_file_once s file (WithSecond s other Accepts Both) unfailed (given file) (second_once unfailed (given other));
   }

@@ -16,11 +16,11 @@ use Rattle.problem_file.specs.Laws.{HaveOneAnswer}
 use Rattle.problem_file.proofs.OneAnswer.{have_one_answer}
 use Rattle.abstraction.specs.Abstracts.{AbstractParts, abstract_of}
 use Rattle.kat_report.specs.AbstractRefusals.{abstract_fault_line}
-use Rattle.tool_inputs.specs.FileProblem.{Asks}
+use Rattle.tool_inputs.specs.FileProblem.{Poses}
 use Rattle.kat_report.specs.InputLines.{too_long_line}
 use Rattle.tool_inputs.specs.TextProblem.{IsFaultOf, IsFaulty, HasNoAbstraction, HasNoProblem}
 use Rattle.tool_inputs.specs.EvidenceBytes.{Spells}
-use Rattle.tool_inputs.specs.Steps.{ReplySpec, ReadsAs, ReadsText, AbstractsFile, AsksQuestion, AsksText, ReadsEvidence}
+use Rattle.tool_inputs.specs.Steps.{ReplySpec, ReadsAs, ReadsText, AbstractsFile, PosesQuestion, PosesText, ReadsEvidence}
 use Rattle.tool_inputs.specs.Working.Questions.{not_both}
 
 -- any two such replies have the same status
@@ -30,14 +30,14 @@ OneStatus IsSo = (a b : ℕ) (o p : List ℕ) → IsSo a o → IsSo b p → a �
 -- ---- a text is read
 
 -- for every kind of reading in which a text has one value or one first fault
-module _ {X : Type 0} (Says : List ℕ → X → Type 0) (Fails : List ℕ → TextFault → Type 0) (one : HaveOneAnswer Says Fails) (text : List ℕ) (GoesOn : X → ReplySpec) where
+module _ {X : Type 0} (Denotes : List ℕ → X → Type 0) (Fails : List ℕ → TextFault → Type 0) (one : HaveOneAnswer Denotes Fails) (text : List ℕ) (GoesOn : X → ReplySpec) where
   abbrev ReadsOne : ReplySpec
-  ReadsOne = ReadsAs (Fails text) (Says text) GoesOn
+  ReadsOne = ReadsAs (Fails text) (Denotes text) GoesOn
 
   module _ (status : ℕ) (output : List ℕ) where
-    pub said_one : (x : X) → Says text x → ReadsOne status output → GoesOn x status output
-    said_one x says (inl r) = absurd (one.either text x r.1.fault says r.1.first)
-    said_one x says (inr g) = subst (λ y. GoesOn y status output) (one.values text g.0 x g.1 says) g.2
+    pub denoted_one : (x : X) → Denotes text x → ReadsOne status output → GoesOn x status output
+    denoted_one x denotes (inl r) = absurd (one.either text x r.1.fault denotes r.1.first)
+    denoted_one x denotes (inr g) = subst (λ y. GoesOn y status output) (one.values text g.0 x g.1 denotes) g.2
 
     pub faulty_one : (line : List ℕ) → IsFaultOf (Fails text) line → ReadsOne status output → (status ≡ 2) × (output ≡ line)
     faulty_one line f (inl r) = (r.0, r.1.printed ∙ ap text_fault_line (one.faults text r.1.fault f.fault r.1.first f.first) ∙ sym f.printed)
@@ -45,12 +45,12 @@ module _ {X : Type 0} (Says : List ℕ → X → Type 0) (Fails : List ℕ → T
 
   pub read_once : ((x : X) → OneStatus (GoesOn x)) → OneStatus ReadsOne
   read_once once a b o p (inl r) y = r.0 ∙ sym (faulty_one b p o r.1 y).0
-  read_once once a b o p (inr g) y = once g.0 a b o p g.2 (said_one b p g.0 g.1 y)
+  read_once once a b o p (inr g) y = once g.0 a b o p g.2 (denoted_one b p g.0 g.1 y)
 
 -- a text of a file with one goal
 module _ (text : List ℕ) (GoesOn : FileParts → ReplySpec) (status : ℕ) (output : List ℕ) where
-  pub reads_said : (f : FileParts) → Reads text f → ReadsText text GoesOn status output → GoesOn f status output
-  reads_said = said_one Reads FirstFault have_one_answer text GoesOn status output
+  pub reads_denoted : (f : FileParts) → Reads text f → ReadsText text GoesOn status output → GoesOn f status output
+  reads_denoted = denoted_one Reads FirstFault have_one_answer text GoesOn status output
 
   pub reads_faulty : (line : List ℕ) → IsFaulty text line → ReadsText text GoesOn status output → (status ≡ 2) × (output ≡ line)
   reads_faulty = faulty_one Reads FirstFault have_one_answer text GoesOn status output
@@ -88,42 +88,42 @@ abstracts_once f GoesOn once a b o p (inr g) y = once g.0 a b o p g.2 (abstracts
 -- ---- a text and its question
 
 -- the question of a text is the question of its one file
-pub text_asks : (text : List ℕ) (GoesOn : ProblemParts → ReplySpec) (status : ℕ) (output : List ℕ) (q : ProblemParts) → Asks text q → AsksText text GoesOn status output → GoesOn q status output
-text_asks text GoesOn status output q x r =
+pub text_poses : (text : List ℕ) (GoesOn : ProblemParts → ReplySpec) (status : ℕ) (output : List ℕ) (q : ProblemParts) → Poses text q → PosesText text GoesOn status output → GoesOn q status output
+text_poses text GoesOn status output q x r =
     subst (λ p. GoesOn p status output) (sym x.question)
-    (abstracts_as x.file (λ a. GoesOn a.problem) status output x.abstract x.is_abstract (reads_said text (λ f. AsksQuestion f GoesOn) status output x.file x.reads r))
+    (abstracts_as x.file (λ a. GoesOn a.problem) status output x.abstract x.is_abstract (reads_denoted text (λ f. PosesQuestion f GoesOn) status output x.file x.reads r))
 
 -- a step that abstracts a text that poses no problem
 pub abstracted_none : (text : List ℕ) (GoesOn : FileParts → AbstractParts → ReplySpec) (status : ℕ) (output line : List ℕ) → HasNoProblem text line → ReadsText text (λ f. AbstractsFile f (GoesOn f)) status output → (status ≡ 2) × (output ≡ line)
 abstracted_none text GoesOn status output line (inl fault) r = reads_faulty text (λ f. AbstractsFile f (GoesOn f)) status output line fault r
 abstracted_none text GoesOn status output line (inr h) r =
-    abstracts_none h.0 (GoesOn h.0) status output line h.2 (reads_said text (λ f. AbstractsFile f (GoesOn f)) status output h.0 h.1 r)
+    abstracts_none h.0 (GoesOn h.0) status output line h.2 (reads_denoted text (λ f. AbstractsFile f (GoesOn f)) status output h.0 h.1 r)
 
-pub text_once : (text : List ℕ) (GoesOn : ProblemParts → ReplySpec) → ((q : ProblemParts) → OneStatus (GoesOn q)) → OneStatus (AsksText text GoesOn)
-text_once text GoesOn once = reads_once text (λ f. AsksQuestion f GoesOn) (λ f. abstracts_once f (λ a. GoesOn a.problem) (λ a. once a.problem))
+pub text_once : (text : List ℕ) (GoesOn : ProblemParts → ReplySpec) → ((q : ProblemParts) → OneStatus (GoesOn q)) → OneStatus (PosesText text GoesOn)
+text_once text GoesOn once = reads_once text (λ f. PosesQuestion f GoesOn) (λ f. abstracts_once f (λ a. GoesOn a.problem) (λ a. once a.problem))
 
 -- the status of a step is below 4
 pub small_status : (status : ℕ) → (status ≡ 0) ⊎ ((status ≡ 1) ⊎ ((status ≡ 2) ⊎ (status ≡ 3))) → status < 4
 small_status status h = grind (arith, h)
 
-pub reads_small : {X : Type 0} (Says : X → Type 0) (Fails : TextFault → Type 0) (GoesOn : X → ReplySpec) → ((x : X) (status : ℕ) (output : List ℕ) → Says x → GoesOn x status output → status < 4) → (status : ℕ) (output : List ℕ) → ReadsAs Fails Says GoesOn status output → status < 4
-reads_small Says Fails GoesOn small status output (inl r) = small_status status (inr (inr (inl r.0)))
-reads_small Says Fails GoesOn small status output (inr (x, says, g)) = small x status output says g
+pub reads_small : {X : Type 0} (Denotes : X → Type 0) (Fails : TextFault → Type 0) (GoesOn : X → ReplySpec) → ((x : X) (status : ℕ) (output : List ℕ) → Denotes x → GoesOn x status output → status < 4) → (status : ℕ) (output : List ℕ) → ReadsAs Fails Denotes GoesOn status output → status < 4
+reads_small Denotes Fails GoesOn small status output (inl r) = small_status status (inr (inr (inl r.0)))
+reads_small Denotes Fails GoesOn small status output (inr (x, denotes, g)) = small x status output denotes g
 
 pub abstracts_small : (f : FileParts) (GoesOn : AbstractParts → ReplySpec) → ((a : AbstractParts) (status : ℕ) (output : List ℕ) → GoesOn a status output → status < 4) → (status : ℕ) (output : List ℕ) → AbstractsFile f GoesOn status output → status < 4
 abstracts_small f GoesOn small status output (inl r) = small_status status (inr (inr (inl r.0)))
 abstracts_small f GoesOn small status output (inr (a, is, g)) = small a status output g
 
-pub text_small : (text : List ℕ) (GoesOn : ProblemParts → ReplySpec) → ((q : ProblemParts) (status : ℕ) (output : List ℕ) → GoesOn q status output → status < 4) → (status : ℕ) (output : List ℕ) → AsksText text GoesOn status output → status < 4
+pub text_small : (text : List ℕ) (GoesOn : ProblemParts → ReplySpec) → ((q : ProblemParts) (status : ℕ) (output : List ℕ) → GoesOn q status output → status < 4) → (status : ℕ) (output : List ℕ) → PosesText text GoesOn status output → status < 4
 text_small text GoesOn small =
-    reads_small (Reads text) (FirstFault text) (λ f. AsksQuestion f GoesOn) (λ f status output reads r. abstracts_small f (λ a. GoesOn a.problem) (λ a. small a.problem) status output r)
+    reads_small (Reads text) (FirstFault text) (λ f. PosesQuestion f GoesOn) (λ f status output reads r. abstracts_small f (λ a. GoesOn a.problem) (λ a. small a.problem) status output r)
 
 -- a text that is too long is refused with its line
 abbrev pub IsLongFault : (List ℕ → TextFault → Type 0) → Type 0
 IsLongFault Fails = (text : List ℕ) → MAX_TEXT_BYTES < length text → Fails text TooLong
 
-pub reads_long : {X : Type 0} (Says : List ℕ → X → Type 0) (Fails : List ℕ → TextFault → Type 0) → IsLongFault Fails → (text : List ℕ) (GoesOn : X → ReplySpec) → MAX_TEXT_BYTES < length text → ReadsAs (Fails text) (Says text) GoesOn 2 too_long_line
-reads_long Says Fails long text GoesOn past = inl (refl, record { fault = TooLong; first = long text past; printed = refl })
+pub reads_long : {X : Type 0} (Denotes : List ℕ → X → Type 0) (Fails : List ℕ → TextFault → Type 0) → IsLongFault Fails → (text : List ℕ) (GoesOn : X → ReplySpec) → MAX_TEXT_BYTES < length text → ReadsAs (Fails text) (Denotes text) GoesOn 2 too_long_line
+reads_long Denotes Fails long text GoesOn past = inl (refl, record { fault = TooLong; first = long text past; printed = refl })
 
 pub text_long : (text : List ℕ) (GoesOn : FileParts → ReplySpec) → MAX_TEXT_BYTES < length text → ReadsText text GoesOn 2 too_long_line
 text_long text GoesOn past = reads_long Reads FirstFault (λ t longer. no_text (too_long refl longer)) text GoesOn past

@@ -4,9 +4,9 @@ use Rattle.kat_model.specs.Problems.{ProblemParts}
 use Rattle.while_lang.specs.Files.{FileParts}
 use Rattle.problem_file.specs.Reads.{Reads}
 use Rattle.tool_inputs.specs.declared.reply.EarlyEnd.{EarlyEnd}
-use Rattle.tool_inputs.specs.FileProblem.{Asks}
+use Rattle.tool_inputs.specs.FileProblem.{Poses}
 use Rattle.tool_inputs.specs.TextProblem.{HasNoAbstraction, HasNoProblem}
-use Rattle.tool_inputs.specs.Steps.{ReplySpec, IsRefusal, AsksText, AsksFor}
+use Rattle.tool_inputs.specs.Steps.{ReplySpec, IsRefusal, PosesText, PosesFor}
 use Rattle.tool_inputs.specs.ReplySpecs.{Yields, IsQuestionOf, IsPosedBy}
 use Rattle.tool_inputs.proofs.ReplySpecs.{EndsWith-weaker}
 
@@ -17,13 +17,13 @@ file_poses text f reads (Err stop) h = EndsWith-weaker (IsRefusal (HasNoAbstract
 
 -- a text that poses no problem is refused; for any other text, the reply is that to its problem
 module _ (text : List ℕ) (GoesOn : ProblemParts → ReplySpec) where
-  pub text_refused : (status : ℕ) (output : List ℕ) → IsRefusal (HasNoProblem text) status output → AsksText text GoesOn status output
+  pub text_refused : (status : ℕ) (output : List ℕ) → IsRefusal (HasNoProblem text) status output → PosesText text GoesOn status output
   text_refused status output (two, inl f) = inl (two, f)
-  text_refused status output (two, inr (a, says, n)) = inr (a, says, inl (two, n))
+  text_refused status output (two, inr (a, denotes, n)) = inr (a, denotes, inl (two, n))
 
-  pub text_posed : (status : ℕ) (output : List ℕ) (q : ProblemParts) → Asks text q → GoesOn q status output → AsksText text GoesOn status output
-  text_posed status output q asks r = inr (asks.file, asks.reads, inr (asks.abstract, asks.is_abstract, subst (λ p. GoesOn p status output) asks.question r))
+  pub text_posed : (status : ℕ) (output : List ℕ) (q : ProblemParts) → Poses text q → GoesOn q status output → PosesText text GoesOn status output
+  text_posed status output q poses r = inr (poses.file, poses.reads, inr (poses.abstract, poses.is_abstract, subst (λ p. GoesOn p status output) poses.question r))
 
-  pub asked_text : (status : ℕ) (output : List ℕ) → AsksFor (HasNoProblem text) (Asks text) GoesOn status output → AsksText text GoesOn status output
-  asked_text status output (inl r) = text_refused status output r
-  asked_text status output (inr (q, asks, g)) = text_posed status output q asks g
+  pub posed_text : (status : ℕ) (output : List ℕ) → PosesFor (HasNoProblem text) (Poses text) GoesOn status output → PosesText text GoesOn status output
+  posed_text status output (inl r) = text_refused status output r
+  posed_text status output (inr (q, poses, g)) = text_posed status output q poses g

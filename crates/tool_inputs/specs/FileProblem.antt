@@ -6,7 +6,7 @@ use Rattle.problem_file.specs.Reads.{Reads}
 use Rattle.abstraction.specs.Abstracts.{AbstractParts, abstract_of}
 
 -- the question of the text is the problem of the abstraction of its file
-pub record Asks (text : List ℕ) (q : ProblemParts) : Type 0 where
+pub record Poses (text : List ℕ) (q : ProblemParts) : Type 0 where
   pub file : FileParts
   pub reads : Reads text file
   pub abstract : AbstractParts
@@ -15,4 +15,4 @@ pub record Asks (text : List ℕ) (q : ProblemParts) : Type 0 where
 
 -- the text has a question
 abbrev pub HasProblem : List ℕ → Type 0
-HasProblem text = (q : ProblemParts) × Asks text q
+HasProblem text = (q : ProblemParts) × Poses text q

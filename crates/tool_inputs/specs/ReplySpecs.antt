@@ -7,7 +7,7 @@ use Rattle.abstraction.specs.Abstracts.{AbstractParts, abstract_of}
 use Rattle.tool_inputs.specs.declared.reply.Reply.{Reply}
 use Rattle.tool_inputs.specs.declared.reply.EarlyEnd.{EarlyEnd}
 use Rattle.tool_inputs.specs.declared.reply.EarlyEnd.TheVariants.{NoMemory, Replied}
-use Rattle.tool_inputs.specs.FileProblem.{Asks}
+use Rattle.tool_inputs.specs.FileProblem.{Poses}
 use Rattle.tool_inputs.specs.TextProblem.{HasNoProblem}
 use Rattle.tool_inputs.specs.Steps.{ReplySpec, IsRefusal}
 
@@ -40,4 +40,4 @@ abbrev pub IsQuestionOf : FileParts → ProblemParts → Type 0
 IsQuestionOf f q = (a : AbstractParts) × (abstract_of f ≡ Ok a) × (q ≡ a.problem)
 
 abbrev pub IsPosedBy : List ℕ → Result ProblemParts EarlyEnd → Type 0
-IsPosedBy text result = Yields (Asks text) (IsRefusal (HasNoProblem text)) result
+IsPosedBy text result = Yields (Poses text) (IsRefusal (HasNoProblem text)) result

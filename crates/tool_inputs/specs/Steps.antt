@@ -49,7 +49,7 @@ pub record HasFailedOn (s : ShelfUse) (file : List ℕ) (status : ℕ) (output :
 
 -- a text is read: it has a first fault, or the command continues with its value
 abbrev pub ReadsAs : {X : Type 0} → (TextFault → Type 0) → (X → Type 0) → (X → ReplySpec) → ReplySpec
-ReadsAs {X} Fails Says GoesOn status output = IsRefusal (IsFaultOf Fails) status output ⊎ ((x : X) × Says x × GoesOn x status output)
+ReadsAs {X} Fails Denotes GoesOn status output = IsRefusal (IsFaultOf Fails) status output ⊎ ((x : X) × Denotes x × GoesOn x status output)
 
 abbrev pub ReadsText : List ℕ → (FileParts → ReplySpec) → ReplySpec
 ReadsText text GoesOn = ReadsAs (FirstFault text) (Reads text) GoesOn
@@ -60,17 +60,17 @@ AbstractsFile f GoesOn status output =
     IsRefusal (HasNoAbstraction f) status output ⊎ ((a : AbstractParts) × (abstract_of f ≡ Ok a) × GoesOn a status output)
 
 -- the command continues with the question of a file, the problem of its abstraction
-abbrev pub AsksQuestion : FileParts → (ProblemParts → ReplySpec) → ReplySpec
-AsksQuestion f GoesOn = AbstractsFile f (λ a. GoesOn a.problem)
+abbrev pub PosesQuestion : FileParts → (ProblemParts → ReplySpec) → ReplySpec
+PosesQuestion f GoesOn = AbstractsFile f (λ a. GoesOn a.problem)
 
 -- a text is read, and the command continues with its question
-abbrev pub AsksText : List ℕ → (ProblemParts → ReplySpec) → ReplySpec
-AsksText text GoesOn = ReadsText text (λ f. AsksQuestion f GoesOn)
+abbrev pub PosesText : List ℕ → (ProblemParts → ReplySpec) → ReplySpec
+PosesText text GoesOn = ReadsText text (λ f. PosesQuestion f GoesOn)
 
 -- a text is asked for its question: it poses none, and the printed line gives the reason, or the command continues with
 -- the question
-abbrev pub AsksFor : {X : Type 0} → (List ℕ → Type 0) → (X → Type 0) → (X → ReplySpec) → ReplySpec
-AsksFor {X} Declines Poses GoesOn status output = IsRefusal Declines status output ⊎ ((q : X) × Poses q × GoesOn q status output)
+abbrev pub PosesFor : {X : Type 0} → (List ℕ → Type 0) → (X → Type 0) → (X → ReplySpec) → ReplySpec
+PosesFor {X} Declines Poses GoesOn status output = IsRefusal Declines status output ⊎ ((q : X) × Poses q × GoesOn q status output)
 
 -- evidence is read: the bytes are not the text of evidence, or the command continues with the evidence
 abbrev pub ReadsEvidence : List ℕ → (Evidence → ReplySpec) → ReplySpec

@@ -16,7 +16,7 @@ use std::alloc::Global;
 use while_lang::{File, Goal};
 
 // Returns the reply to a file that has no abstraction for this reason: a refusal, unless memory ran out.
-fn fault_stop(alloc: Global, fault: AbstractFault) -> EarlyEnd
+fn fault_end(alloc: Global, fault: AbstractFault) -> EarlyEnd
     ensures { EndsWith (λ status output. (status ≡ 2) × ((fault ≢ NoRoom) × (output ≡ abstract_fault_line fault))) result }
 {
     match fault {
@@ -35,7 +35,7 @@ pub fn abstract_in(alloc: Global, file: &File) -> Result<Abstract, EarlyEnd>
 {
     match abstracted(alloc, file) {
         Ok(shown) => Ok(shown),
-        Err(fault) => Err(fault_stop(alloc, fault)),
+        Err(fault) => Err(fault_end(alloc, fault)),
     }
 }
 
@@ -47,7 +47,7 @@ pub fn abstract_for(alloc: Global, file: &File, goal: &Goal) -> Result<Abstract,
 {
     match abstracted_for(alloc, file, goal) {
         Ok(shown) => Ok(shown),
-        Err(fault) => Err(fault_stop(alloc, fault)),
+        Err(fault) => Err(fault_end(alloc, fault)),
     }
 }
 

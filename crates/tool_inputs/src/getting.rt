@@ -14,7 +14,7 @@ use kat_model::{MAX_TEXT_BYTES, NoMemory};
 use kat_report::{too_long_line, unread_line};
 use std::alloc::Global;
 
-fn unread_stop(alloc: Global, file: &str) -> EarlyEnd
+fn unread_end(alloc: Global, file: &str) -> EarlyEnd
     ensures { EndsWith (λ status output. (status ≡ 4) × (output ≡ unread_line file.now)) result }
 {
     match unread_line(alloc, file) {
@@ -41,7 +41,7 @@ pub fn file_bytes<S: Shelf>(
     match shelf.get(alloc, file, limit) {
         Ok(bytes) => Ok(bytes),
         Err(GetFault::TooLong) => Err(refusal(alloc, too_long)),
-        Err(GetFault::Failed) => Err(unread_stop(alloc, file)),
+        Err(GetFault::Failed) => Err(unread_end(alloc, file)),
         Err(GetFault::NoMemory) => Err(EarlyEnd::NoMemory),
     }
 }

@@ -1,6 +1,7 @@
-//! The common steps of the replies of commands: reading a file, reading its text, abstracting it, and reading evidence. A
-//! step that cannot continue stops with a reply. The traits `TextCommand`, `FileCommand` and `PairCommand` give the replies to
-//! bytes and to files from one method of a command.
+//! The common steps of replies: from files to problems and evidence.
+//!
+//! A step that cannot continue stops with a reply. The traits `TextCommand`, `FileCommand` and `PairCommand` give the
+//! replies to bytes and to files from one method of a command.
 #![tactic(auto)]
 
 mod evidence;
@@ -18,7 +19,7 @@ pub use file_command::{FileCommand, reply_to_bytes, reply_to_file};
 pub use file_problem::{abstract_for, abstract_in};
 pub use getting::{file_bytes, file_text};
 pub use pair_command::{PairCommand, reply_to_files, reply_to_pair};
-pub use reply::{EarlyEnd, Reply, into_reply, line, refusal, unfit_stop};
+pub use reply::{EarlyEnd, Reply, into_reply, line, refusal, unfit_end};
 pub use text_command::{TextCommand, reply_to_text, reply_to_text_file};
-pub use text_problem::{file_of, problem_in, text_fault_stop};
+pub use text_problem::{file_of, problem_in, text_fault_end};
 pub use text_question::TextQuestion;

@@ -2,7 +2,7 @@
 //! shelf follow from the reply to a question and bytes.
 ghost use Rattle.std.specs.Prelude.{◌≡◌, ℕ, List, length, Option, IfOk};
 ghost use Rattle.kat_io.specs.Gets.{IsPast};
-ghost use Rattle.tool_inputs.specs.Steps.{shelf_use, AsksFor};
+ghost use Rattle.tool_inputs.specs.Steps.{shelf_use, PosesFor};
 ghost use Rattle.tool_inputs.specs.FileReplies.{OfTwoFiles};
 ghost use Rattle.tool_inputs.specs.ReplySpecs.{RepliesWith, KeepsFaultCount};
 
@@ -48,7 +48,7 @@ pub trait PairCommand {
     ghost refuses_long: { (command : Self) (q : Self.Question) (bytes : List ℕ) → IsPast (length bytes) (limit command) → steps command q bytes 2 (long_line command) };
 
     /// A text that poses no question is refused, and any other text is replied to as its question.
-    ghost is_reply: { (command : Self) (text bytes : List ℕ) (status : ℕ) (output : List ℕ) → AsksFor (Self.Question.declines text) (Self.Question.poses text) (λ q. steps command q bytes) status output → replies command text bytes status output };
+    ghost is_reply: { (command : Self) (text bytes : List ℕ) (status : ℕ) (output : List ℕ) → PosesFor (Self.Question.declines text) (Self.Question.poses text) (λ q. steps command q bytes) status output → replies command text bytes status output };
 }
 
 // Finds the question of a text, and returns the reply.

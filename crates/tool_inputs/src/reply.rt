@@ -75,7 +75,7 @@ pub fn refusal(alloc: Global, text: &[u8]) -> EarlyEnd
 }
 
 /// Returns the refusal of words that do not fit a file, whose status is 7.
-pub fn unfit_stop(alloc: Global) -> EarlyEnd
+pub fn unfit_end(alloc: Global) -> EarlyEnd
     ensures { EndsWith (λ status output. (status ≡ 7) × (output ≡ words_line)) result }
 {
     match line(alloc, 7, words_line()) {

@@ -16,7 +16,7 @@ use std::alloc::Global;
 use text_parser::TextFault;
 
 /// Returns the reply to a text with this fault: a refusal, unless memory ran out.
-pub fn text_fault_stop(alloc: Global, fault: TextFault) -> EarlyEnd
+pub fn text_fault_end(alloc: Global, fault: TextFault) -> EarlyEnd
     ensures { EndsWith (λ status output. (status ≡ 2) × ((fault ≢ NoRoom) × (output ≡ text_fault_line fault))) result }
 {
     match fault {
@@ -34,7 +34,7 @@ pub fn file_of(alloc: Global, text: &[u8]) -> Result<File, EarlyEnd>
 {
     match read(alloc, text) {
         Ok(file) => Ok(file),
-        Err(fault) => Err(text_fault_stop(alloc, fault)),
+        Err(fault) => Err(text_fault_end(alloc, fault)),
     }
 }
 

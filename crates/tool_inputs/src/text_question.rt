@@ -32,11 +32,11 @@ pub trait TextQuestion: Sized + Drop {
 }
 
 impl TextQuestion for Problem {
-    ghost use Rattle.tool_inputs.specs.FileProblem.{Asks, HasProblem};
+    ghost use Rattle.tool_inputs.specs.FileProblem.{Poses, HasProblem};
     ghost use Rattle.tool_inputs.specs.TextProblem.{HasNoProblem};
     ghost use Rattle.tool_inputs.specs.Working.Questions.{has_problem, problem_or_none, long_problem};
 
-    ghost poses = { Asks };
+    ghost poses = { Poses };
 
     ghost accepts = { HasProblem };
 

@@ -10,7 +10,7 @@ use Rattle.problem_file.specs.NamedTexts.{names_line}
 use Rattle.gkat_front.specs.Expressions.{kat_of}
 use Rattle.gkat_front.specs.Files.{GkatFileParts}
 use Rattle.gkat_front.specs.Reads.{Reads, FirstFault}
-use Rattle.tool_inputs.specs.FileProblem.{Asks}
+use Rattle.tool_inputs.specs.FileProblem.{Poses}
 use Rattle.tool_inputs.specs.TextProblem.{IsFaultOf}
 use Rattle.tool_inputs.specs.Steps.{ReplySpec, ReadsAs}
 use Rattle.tool_programs.specs.Show.{IsReadable}
@@ -42,7 +42,7 @@ pub record GkatHeadline (text : List ℕ) (status : ℕ) (output : List ℕ) : T
   pub answers : (status ≡ 0) ⊎ (status ≡ 2)
   pub translated : (status ≡ 0) ↔ ((f : GkatFileParts) × Reads text f)
   pub translated_text : (f : GkatFileParts) → Reads text f → output ≡ gkat_text f
-  pub asks : (f : GkatFileParts) → Reads text f → problem_size (gkat_question f) ≤ MAX_TERM_NODES → IsReadable (gkat_question f) output → Asks output (gkat_question f)
+  pub poses : (f : GkatFileParts) → Reads text f → problem_size (gkat_question f) ≤ MAX_TERM_NODES → IsReadable (gkat_question f) output → Poses output (gkat_question f)
   pub refused : (status ≡ 2) ↔ ((line : List ℕ) × IsFaultOf (FirstFault text) line)
   pub refused_line : (line : List ℕ) → IsFaultOf (FirstFault text) line → output ≡ line
 

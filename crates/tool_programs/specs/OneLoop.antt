@@ -20,7 +20,7 @@ use Rattle.while_lang.specs.Files.{FileParts}
 use Rattle.problem_file.specs.Reads.{Reads}
 use Rattle.problem_file.specs.ProgramNumbers.{ProgIsNarrow}
 use Rattle.problem_file.specs.ProgramTexts.{one_program_text}
-use Rattle.problem_file.specs.TextLaws.{SaysProgram}
+use Rattle.problem_file.specs.TextLaws.{DenotesProgram}
 use Rattle.tool_inputs.specs.TextProblem.{IsFaulty}
 use Rattle.tool_commands.specs.ProgramWords.{program_of}
 use Rattle.tool_inputs.specs.Steps.{ReplySpec, IsRefusal, ReadsText, HasUnfitWords}
@@ -115,11 +115,11 @@ pub record IsSmallProgram (f : FileParts) (p : ProgTree) : Type 0 where
 
 -- a form of the program is printed, and is within the limits if the program is small; within the limits, the output is
 -- read as a file of the same width that has exactly this form under the program's name
-pub record TellsForm (f : FileParts) (name : List ℕ) (p : ProgTree) (output : List ℕ) : Type 0 where
+pub record ShowsForm (f : FileParts) (name : List ℕ) (p : ProgTree) (output : List ℕ) : Type 0 where
   pub prints : PrintsForm f name p output
   pub within : IsSmallProgram f p → IsWithinText f.width prints.form output
   pub reads_back : IsWithinText f.width prints.form output →
-      (says : SaysProgram output (names_with f prints.counter) f.width (f.vars + 1) name prints.form) × (program_of says.asks.file name ≡ Some prints.form)
+      (denotes : DenotesProgram output (names_with f prints.counter) f.width (f.vars + 1) name prints.form) × (program_of denotes.poses.file name ≡ Some prints.form)
 
 -- The status is 0 exactly when the name is that of a concrete program of the file that has a form; then a form is
 -- printed. It is 2 exactly when the program has no form, with the line that gives the reason, and 7 exactly when there
@@ -127,7 +127,7 @@ pub record TellsForm (f : FileParts) (name : List ℕ) (p : ProgTree) (output : 
 pub record OneLoopHeadline (f : FileParts) (name : List ℕ) (status : ℕ) (output : List ℕ) : Type 0 where
   pub answers : (status ≡ 0) ⊎ ((status ≡ 2) ⊎ (status ≡ 7))
   pub formed : (status ≡ 0) ↔ ((p : ProgTree) × (program_of f name ≡ Some p) × HasForm f p)
-  pub form : (p : ProgTree) → program_of f name ≡ Some p → HasForm f p → TellsForm f name p output
+  pub form : (p : ProgTree) → program_of f name ≡ Some p → HasForm f p → ShowsForm f name p output
   pub refused : (status ≡ 2) ↔ ((p : ProgTree) × (line : List ℕ) × (program_of f name ≡ Some p) × HasNoForm f p line)
   pub refused_line : (p : ProgTree) (line : List ℕ) → program_of f name ≡ Some p → HasNoForm f p line → output ≡ line
   pub unfit : (status ≡ 7) ↔ (program_of f name ≡ None)

@@ -8,7 +8,7 @@ use Rattle.while_lang.specs.Files.{FileParts}
 use Rattle.problem_file.specs.Reads.{Reads}
 use Rattle.abstraction.specs.Abstracts.{AbstractParts, abstract_of}
 use Rattle.kat_report.specs.Shows.{show_text}
-use Rattle.tool_inputs.specs.FileProblem.{Asks}
+use Rattle.tool_inputs.specs.FileProblem.{Poses}
 use Rattle.tool_inputs.specs.TextProblem.{HasNoProblem}
 use Rattle.tool_inputs.specs.Steps.{ReplySpec, ReadsText, AbstractsFile}
 
@@ -46,7 +46,7 @@ pub record ShowHeadline (text : List ℕ) (status : ℕ) (output : List ℕ) : T
   pub answers : (status ≡ 0) ⊎ (status ≡ 2)
   pub shown : (status ≡ 0) ↔ ((f : FileParts) × (a : AbstractParts) × HasAbstract text f a)
   pub shown_text : (f : FileParts) (a : AbstractParts) → HasAbstract text f a → output ≡ show_text f.scope a
-  pub asks : (q : ProblemParts) → Asks text q → IsReadable q output → Asks output q
+  pub poses : (q : ProblemParts) → Poses text q → IsReadable q output → Poses output q
   pub refused : (status ≡ 2) ↔ ((line : List ℕ) × HasNoProblem text line)
   pub refused_line : (line : List ℕ) → HasNoProblem text line → output ≡ line
 

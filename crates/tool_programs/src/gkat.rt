@@ -17,7 +17,7 @@ use problem_file::put_goal;
 use std::alloc::Global;
 use text_parser::{Meaning, Scope};
 use text_print::{put, put_name};
-use tool_inputs::{EarlyEnd, Reply, TextCommand, reply_to_text, text_fault_stop};
+use tool_inputs::{EarlyEnd, Reply, TextCommand, reply_to_text, text_fault_end};
 
 // The kinds of names that a text of GKAT declares.
 #[derive(Clone, Copy)]
@@ -89,7 +89,7 @@ fn file_of(alloc: Global, text: &[u8]) -> Result<GkatFile, EarlyEnd>
 {
     match read_gkat(alloc, text) {
         Ok(file) => Ok(file),
-        Err(fault) => Err(text_fault_stop(alloc, fault)),
+        Err(fault) => Err(text_fault_end(alloc, fault)),
     }
 }
 

@@ -1,5 +1,6 @@
-//! The replies of the commands about programs and files: `run`, `oneloop`, `gkat` and `show`. No dependency of this crate is a
-//! prover.
+//! The replies of `run`, `oneloop`, `gkat` and `show`.
+//!
+//! No dependency of this crate is a prover.
 #![tactic(auto)]
 
 mod counter;

@@ -27,11 +27,11 @@ use problem_file::{declare, one_program_text};
 use std::alloc::Global;
 use text_parser::{Meaning, Scope};
 use tool_commands::program_of;
-use tool_inputs::{EarlyEnd, FileCommand, Reply, reply_to_bytes, unfit_stop};
+use tool_inputs::{EarlyEnd, FileCommand, Reply, reply_to_bytes, unfit_end};
 use while_lang::{File, Prog};
 
 // The reply to a program with this fault, which is a refusal unless memory ran out.
-fn fault_stop(alloc: Global, fault: OneLoopFault) -> EarlyEnd
+fn fault_end(alloc: Global, fault: OneLoopFault) -> EarlyEnd
     ensures { EndsWith (λ status output. (status ≡ 2) × ((fault ≢ NoRoom) × (output ≡ form_fault_line fault))) result }
 {
     match fault {
@@ -52,7 +52,7 @@ fn form_of(alloc: Global, file: &File, prog: &Prog) -> Result<Prog, EarlyEnd>
 {
     match one_loop(alloc, prog, file.vars, file.width) {
         Ok(form) => Ok(form),
-        Err(fault) => Err(fault_stop(alloc, fault)),
+        Err(fault) => Err(fault_end(alloc, fault)),
     }
 }
 
@@ -82,7 +82,7 @@ fn program_reply(alloc: Global, file: &mut File, name: &str) -> Result<Reply, Ea
     ensures { RepliesWith (FormsFile file.old name.now) result }
 {
     let Some(prog) = program_of(file, name) else {
-        return Err(unfit_stop(alloc));
+        return Err(unfit_end(alloc));
     };
     let form = form_of(alloc, file, prog)?;
     let vars = file.vars;

@@ -10,7 +10,7 @@ use kat_model::NoMemory;
 use kat_report::outcome_line;
 use std::alloc::Global;
 use tool_commands::{program_of, store_of};
-use tool_inputs::{EarlyEnd, FileCommand, Reply, reply_to_bytes, unfit_stop};
+use tool_inputs::{EarlyEnd, FileCommand, Reply, reply_to_bytes, unfit_end};
 use while_lang::{File, Outcome, Prog, Store, run};
 
 fn outcome_status(outcome: Outcome) -> u8
@@ -58,10 +58,10 @@ impl FileCommand for RunCommand<'_> {
 
     fn file_reply(&self, alloc: Global, file: &mut File) -> Result<Reply, EarlyEnd> {
         let Some(prog) = program_of(file, self.prog) else {
-            return Err(unfit_stop(alloc));
+            return Err(unfit_end(alloc));
         };
         let Some(store) = store_of(alloc, file, self.store)? else {
-            return Err(unfit_stop(alloc));
+            return Err(unfit_end(alloc));
         };
         Ok(outcome_reply(alloc, file, prog, store, self.turns)?)
     }

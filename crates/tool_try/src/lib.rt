@@ -1,4 +1,6 @@
-//! The replies of `try`: the goal of a concrete file, tried on stores. No dependency of this crate is a prover.
+//! The replies of `try`: a goal of programs, tried on stores.
+//!
+//! No dependency of this crate is a prover.
 #![tactic(auto)]
 
 mod concrete;

@@ -49,10 +49,10 @@ pub record IsRest (d : DiagramsParts) (id : ℕ) (e : DiagramsParts) (rest : ℕ
   pub is_id : IsDiagramId e rest
   pub somewhere : IsSomewhereTrue e rest
   pub count : length atom ≡ k
-  pub told : (b : Atom) → IsAtomOf e b → value_of e rest b ≡ value_of d id (atom ++ drop k b)
+  pub given : (b : Atom) → IsAtomOf e b → value_of e rest b ≡ value_of d id (atom ++ drop k b)
 
 pub rest_first : (d : DiagramsParts) (id : ℕ) → IsDiagramId d id → KeepsFunctions d d → IsSomewhereTrue d id → IsRest d id d id [] 0
-rest_first d id is kept s = record { kept = kept; is_id = is; somewhere = s; count = refl; told = λ b fits. refl }
+rest_first d id is kept s = record { kept = kept; is_id = is; somewhere = s; count = refl; given = λ b fits. refl }
 
 pub rest_next : (d : DiagramsParts) (id : ℕ) (e f g : DiagramsParts) (rest next : ℕ) (atom : Atom) (k : ℕ) (value : Bool) → KeepsFunctions d g → IsRest d id e rest atom k → k < e.tests → KeepsFunctions e f → KeepsFunctions f g
     → IsFirstValue e rest k value → IsDiagramOf g next (λ b. value_of f rest (set b k value)) → IsRest d id g next (atom ++ value ∷ []) (k + 1)
@@ -65,10 +65,10 @@ rest_next d id e f g rest next atom k value all r lt kept more first is = record
     holds = is.value first.atom (first.fits ∙ sym (more.tests ∙ kept.tests)) ∙ kept.values rest r.is_id (set first.atom k value) ∙ first.holds;
   };
   count = grown atom ∙ ap (λ n. n + 1) r.count;
-  told = λ b fits.
+  given = λ b fits.
       let wide : IsAtomOf e b = fits ∙ more.tests ∙ kept.tests in
       let within : k < length b = omega (arith, lt, wide) in
-      is.value b fits ∙ kept.values rest r.is_id (set b k value) ∙ r.told (set b k value) (length-set b k value ∙ wide)
+      is.value b fits ∙ kept.values rest r.is_id (set b k value) ∙ r.given (set b k value) (length-set b k value ∙ wide)
       ∙ ap (λ l. value_of d id (atom ++ l)) (drop-set b k value within) ∙ ap (value_of d id) (sym (append_assoc atom (value ∷ []) (drop (k + 1) b)));
 }
   where
@@ -80,7 +80,7 @@ pub rest_last : (d : DiagramsParts) (id : ℕ) (e : DiagramsParts) (rest : ℕ) 
 rest_last d id e rest atom k r n =
     let s = r.somewhere in
     let gone : drop k s.atom ≡ [] = drop_all k s.atom (omega (arith, s.fits, n)) in
-    ap (value_of d id) (sym (append-nil atom) ∙ ap (λ l. atom ++ l) (sym gone)) ∙ sym (r.told s.atom s.fits) ∙ s.holds
+    ap (value_of d id) (sym (append-nil atom) ∙ ap (λ l. atom ++ l) (sym gone)) ∙ sym (r.given s.atom s.fits) ∙ s.holds
 
 -- ---- two diagrams
 

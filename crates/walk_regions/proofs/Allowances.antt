@@ -13,11 +13,11 @@ use Rattle.partial_derivs.proofs.Kept.{IsStepsBy-kept}
 use Rattle.walk_regions.specs.declared.allowed.AllowedMoves.{AllowedMoves}
 use Rattle.walk_regions.specs.declared.bars.Bars.{Bars}
 use Rattle.walk_regions.specs.Bars.{AreSoundBars}
-use Rattle.walk_regions.specs.Working.Asking.{AreBarsOf}
-use Rattle.walk_regions.specs.Allowance.{TellMoves, IsAllowance}
+use Rattle.walk_regions.specs.Working.Querying.{AreBarsOf}
+use Rattle.walk_regions.specs.Allowance.{ShowMoves, IsAllowance}
 use Rattle.walk_regions.proofs.ImageTables.{sound_bars_kept}
 use Rattle.walk_regions.proofs.BarLists.{bars_of_kept}
-use Rattle.walk_regions.proofs.ToldMoves.{told_moves}
+use Rattle.walk_regions.proofs.GivenMoves.{given_moves}
 
 -- the bars at each place are those of the moves by the action with that number
 abbrev pub AreActionBars : NodeParts → DiagramsParts → List Guarded → List Bars → Type 0
@@ -47,7 +47,7 @@ module _ (s : NodeParts) (c : DiagramsParts) (shorts : List Term) (steps : Steps
           ∙ ap not (is.accepts.value a (fits ∙ kept.functions.tests));
     });
     count = count;
-    moves = λ a x at. let o = bars a x at in record { sound = o.0; told = λ p q of_p of_q. told_moves t d shorts steps steps_there a x.bars.items o.1 p q of_p of_q };
+    moves = λ a x at. let o = bars a x at in record { sound = o.0; given = λ p q of_p of_q. given_moves t d shorts steps steps_there a x.bars.items o.1 p q of_p of_q };
   }
 
 -- ---- when diagrams are added
@@ -56,14 +56,14 @@ pub allowance_kept : (c d : DiagramsParts) → KeepsFunctions c d → (shorts : 
 allowance_kept c d kept shorts actions m all = record {
   allowed = IsDiagramOf-kept c d kept m.allowed (λ a. not (set_out shorts a)) all.allowed;
   count = all.count;
-  moves = λ a b at. tell_kept c d kept shorts a b (all.moves a b at);
+  moves = λ a b at. show_kept c d kept shorts a b (all.moves a b at);
 }
   where
-    tell_kept : (c d : DiagramsParts) → KeepsFunctions c d → (shorts : List Term) (act : ℕ) (b : Bars) → TellMoves c shorts act b → TellMoves d shorts act b
-    tell_kept c d kept shorts act b t = record {
+    show_kept : (c d : DiagramsParts) → KeepsFunctions c d → (shorts : List Term) (act : ℕ) (b : Bars) → ShowMoves c shorts act b → ShowMoves d shorts act b
+    show_kept c d kept shorts act b t = record {
       sound = sound_bars_kept c d kept b t.sound;
-      told = λ x y of_x of_y.
-          let own = t.told x y (of_x ∙ kept.tests) (of_y ∙ kept.tests) in (
+      given = λ x y of_x of_y.
+          let own = t.given x y (of_x ∙ kept.tests) (of_y ∙ kept.tests) in (
             (λ h. let k = own.0 h in (k.0, k.1, kept.values k.0.from (t.sound.bars.froms k.0 k.1) x ∙ k.2, kept.values k.0.to (t.sound.bars.tos k.0 k.1) y ∙ k.3)),
             (λ k. own.1 (k.0, k.1, sym (kept.values k.0.from (t.sound.bars.froms k.0 k.1) x) ∙ k.2, sym (kept.values k.0.to (t.sound.bars.tos k.0 k.1) y) ∙ k.3)),
           );

@@ -15,7 +15,7 @@ use Rattle.walk_pairs.specs.Outputs.{IsSomewhereTrue}
 use Rattle.walk_regions.specs.declared.allowed.AllowedMoves.{AllowedMoves}
 use Rattle.walk_regions.specs.declared.bars.Bars.{Bars}
 use Rattle.walk_regions.specs.Bars.{IsBarred, IsImageOf, AreSources, AreSoundBars}
-use Rattle.walk_regions.specs.Allowance.{TellMoves, IsAllowance, IsWithin, IsAllowedSource, HasAllowedSource, IsAllowedImage}
+use Rattle.walk_regions.specs.Allowance.{ShowMoves, IsAllowance, IsWithin, IsAllowedSource, HasAllowedSource, IsAllowedImage}
 
 module _ (d : DiagramsParts) (shorts : List Term) (actions : ℕ) (m : AllowedMoves) (all : IsAllowance d shorts actions m) where
   -- the diagram of allowed atoms is true exactly at the allowed atoms
@@ -30,11 +30,11 @@ module _ (d : DiagramsParts) (shorts : List Term) (actions : ℕ) (m : AllowedMo
     move_allowed x y of_x of_y from to free = record {
       from = from;
       to = to;
-      move = false_from_ne_true _ (λ h. free (((all.moves act b at).told x y of_x of_y).0 h));
+      move = false_from_ne_true _ (λ h. free (((all.moves act b at).given x y of_x of_y).0 h));
     }
 
     pub move_free : (x y : Atom) → IsAtomOf d x → IsAtomOf d y → IsAllowedMove shorts x (record { act = act; atom = y }) → IsBarred d b.bars.items x y → ⊥
-    move_free x y of_x of_y allowed k = both_ways _ allowed.move (((all.moves act b at).told x y of_x of_y).1 k)
+    move_free x y of_x of_y allowed k = both_ways _ allowed.move (((all.moves act b at).given x y of_x of_y).1 k)
 
     -- if an allowed move leads from the region to the atom, the diagram of sources has an atom
     pub sources_somewhere : (region : ℕ) (y : Atom) → IsAtomOf d y → (id : ℕ) → AreSources d b.bars.items region y (length b.bars.items) id → HasAllowedSource d shorts region act y → IsSomewhereTrue d id
@@ -90,10 +90,10 @@ module _ (d : DiagramsParts) (shorts : List Term) (actions : ℕ) (m : AllowedMo
           ⊎_elim
           (λ e.
           let own : new ≡ x = same_Some new x (sym (slice_get-set_same m.actions.items act new (slice_get_within m.actions.items act b at)) ∙ ap (slice_get (set m.actions.items act new)) (sym e) ∙ here) in
-          subst (TellMoves d shorts j) own
+          subst (ShowMoves d shorts j) own
           (record {
             sound = sound;
-            told = λ p q of_p of_q. subst (λ l. IsTrue (set_accepts shorts p (record { act = j; atom = q } ∷ [])) ↔ IsBarred d l.items p q) (sym same) (subst (λ k. IsTrue (set_accepts shorts p (record { act = k; atom = q } ∷ [])) ↔ IsBarred d b.bars.items p q) (sym e) ((all.moves act b at).told p q of_p of_q));
+            given = λ p q of_p of_q. subst (λ l. IsTrue (set_accepts shorts p (record { act = j; atom = q } ∷ [])) ↔ IsBarred d l.items p q) (sym same) (subst (λ k. IsTrue (set_accepts shorts p (record { act = k; atom = q } ∷ [])) ↔ IsBarred d b.bars.items p q) (sym e) ((all.moves act b at).given p q of_p of_q));
           }))
           (λ old. all.moves j x old)
           (slice_get-set_cases m.actions.items act j new x here);

@@ -22,7 +22,7 @@ use Rattle.partial_derivs.proofs.Items.{take_item, has_item, has_take}
 use Rattle.walk_regions.specs.declared.bars.Bar.{Bar}
 use Rattle.walk_regions.specs.declared.bars.Bars.{Bars}
 use Rattle.walk_regions.specs.Bars.{AreUnasked, AreBars, AreSoundBars}
-use Rattle.walk_regions.specs.Working.Asking.{IsUnaskedTest, AreFreshTests, IsBarOf, AreBarsOf, AreBarsSoFar}
+use Rattle.walk_regions.specs.Working.Querying.{IsUnaskedTest, AreFreshTests, IsBarOf, AreBarsOf, AreBarsSoFar}
 use Rattle.walk_regions.proofs.ImageTables.{independent_kept, bars_kept}
 
 bar_of_kept : (s t : NodeParts) (c d : DiagramsParts) → Keeps s t c d → (m : Guarded) (r : Bar) (n : ℕ) → IsTermOf s n m.to → IsBarOf s c m r → IsBarOf t d m r
@@ -32,11 +32,11 @@ bar_of_kept s t c d kept m r n term b = record {
 }
 
 -- an unasked test is in range
-unasked_within : (asked : List Bool) (t : ℕ) → IsUnaskedTest asked t → t < length asked
-unasked_within asked t u = ⊎_elim (λ l. l) (λ l. absurd (false≢true (sym u ∙ get_or_past asked t true l))) (cases_lt t (length asked))
+unasked_within : (queried : List Bool) (t : ℕ) → IsUnaskedTest queried t → t < length queried
+unasked_within queried t u = ⊎_elim (λ l. l) (λ l. absurd (false≢true (sym u ∙ get_or_past queried t true l))) (cases_lt t (length queried))
 
-pub so_far_none : (store : NodeParts) (d : DiagramsParts) (moves : List Guarded) (asked : List Bool) → length asked ≡ d.tests → AreBarsSoFar store d moves 0 [] asked
-so_far_none store d moves asked tests = record {
+pub so_far_none : (store : NodeParts) (d : DiagramsParts) (moves : List Guarded) (queried : List Bool) → length queried ≡ d.tests → AreBarsSoFar store d moves 0 [] queried
+so_far_none store d moves queried tests = record {
   there = λ m h. absurd h;
   back = λ r h. absurd h;
   sound = record { froms = λ r h. absurd h; tos = λ r h. absurd h; fresh = λ i r at. absurd cc };
@@ -44,19 +44,19 @@ so_far_none store d moves asked tests = record {
   unasked = λ t u r h. absurd h;
 }
 
-module _ (s t : NodeParts) (c d : DiagramsParts) (kept : Keeps s t c d) (moves : List Guarded) (n : ℕ) (targets : AreTargets s n moves) (i : ℕ) (bars : List Bar) (asked : List Bool) (so_far : AreBarsSoFar s c moves i bars asked) (m : Guarded) (lt : i < length moves) (is : m ≡ get_or moves i m) where
+module _ (s t : NodeParts) (c d : DiagramsParts) (kept : Keeps s t c d) (moves : List Guarded) (n : ℕ) (targets : AreTargets s n moves) (i : ℕ) (bars : List Bar) (queried : List Bool) (so_far : AreBarsSoFar s c moves i bars queried) (m : Guarded) (lt : i < length moves) (is : m ≡ get_or moves i m) where
   there_before : (g : Guarded) → Has (take i moves) g → (r : Bar) × Has bars r × IsBarOf t d g r
   there_before g h = let r = so_far.there g h in (r.0, r.1, bar_of_kept s t c d kept g r.0 n (targets g (has_take moves i g h)) r.2)
 
   back_before : (r : Bar) → Has bars r → (g : Guarded) × Has moves g × IsBarOf t d g r
   back_before r h = let g = so_far.back r h in (g.0, g.1, bar_of_kept s t c d kept g.0 r n (targets g.0 g.1) g.2)
 
-  module _ (new : List Bool) (wide : length new ≡ length asked) (r : Bar) (guard : IsDiagramId d r.from) (own : IsBarOf t d m r) (asks : AreFreshTests d r.from asked new (length asked) r.fresh.items) where
-    free_before : (k : ℕ) → IsUnaskedTest asked k → (q : Bar) → Has bars q → IsIndependent d q.from k
+  module _ (new : List Bool) (wide : length new ≡ length queried) (r : Bar) (guard : IsDiagramId d r.from) (own : IsBarOf t d m r) (queries : AreFreshTests d r.from queried new (length queried) r.fresh.items) where
+    free_before : (k : ℕ) → IsUnaskedTest queried k → (q : Bar) → Has bars q → IsIndependent d q.from k
     free_before k u q h = independent_kept c d kept.functions q.from k (so_far.sound.froms q h) (so_far.unasked k u q h)
 
-    within : (k : ℕ) → IsUnaskedTest asked k → k < d.tests
-    within k u = subst (λ x. k < x) (so_far.tests ∙ sym kept.functions.tests) (unasked_within asked k u)
+    within : (k : ℕ) → IsUnaskedTest queried k → k < d.tests
+    within k u = subst (λ x. k < x) (so_far.tests ∙ sym kept.functions.tests) (unasked_within queried k u)
 
     -- what holds for all bars and for the new one holds for the extended list
     each_of : (P : Bar → Type 0) → ((q : Bar) → Has bars q → P q) → P r → (q : Bar) → Has (bars ++ r ∷ []) q → P q
@@ -75,7 +75,7 @@ module _ (s t : NodeParts) (c d : DiagramsParts) (kept : Keeps s t c d) (moves :
         (λ last.
         let same : take j (bars ++ r ∷ []) ≡ bars = ap (λ x. take x (bars ++ r ∷ [])) last.0 ∙ take-append-le (length bars) bars (r ∷ []) (omega arith) ∙ take_all (length bars) bars (omega arith) in
         subst (λ (p : Bar). AreUnasked d (bars ++ r ∷ []) j p.fresh.items) last.1
-        (subst (Unasked r) (sym same) (λ k h. (within k (asks.first k h), free_before k (asks.first k h)))))
+        (subst (Unasked r) (sym same) (λ k h. (within k (queries.first k h), free_before k (queries.first k h)))))
         (slice_get_last bars r j q at)
 
     pub so_far_more : AreBarsSoFar t d moves (i + 1) (bars ++ r ∷ []) new
@@ -93,12 +93,12 @@ module _ (s t : NodeParts) (c d : DiagramsParts) (kept : Keeps s t c d) (moves :
       };
       tests = wide ∙ so_far.tests ∙ sym kept.functions.tests;
       unasked = λ k u.
-          each_of (λ q. IsIndependent d q.from k) (free_before k (asks.still k u))
-          (asks.free k (unasked_within asked k (asks.still k u)) u);
+          each_of (λ q. IsIndependent d q.from k) (free_before k (queries.still k u))
+          (queries.free k (unasked_within queried k (queries.still k u)) u);
     }
 
 -- after all moves
-module _ (store : NodeParts) (d : DiagramsParts) (moves : List Guarded) (i : ℕ) (bars : List Bar) (asked : List Bool) (so_far : AreBarsSoFar store d moves i bars asked) where
+module _ (store : NodeParts) (d : DiagramsParts) (moves : List Guarded) (i : ℕ) (bars : List Bar) (queried : List Bool) (so_far : AreBarsSoFar store d moves i bars queried) where
   pub so_far_all : (all : List Guarded) (act : ℕ) → SameMembers moves (filter (λ (m : Guarded). eqb m.act act) all) → length moves ≤ i → AreBarsOf store d all act bars
   so_far_all all act are past = record {
     there = λ m h a. so_far.there m (subst (λ l. Has l m) (sym (take_all i moves past)) ((are m).1 (filter_has (λ (x : Guarded). eqb x.act act) all m h (eq-eqb m.act act a))));
@@ -108,11 +108,11 @@ module _ (store : NodeParts) (d : DiagramsParts) (moves : List Guarded) (i : ℕ
         (m.0, own.0, eqb-true m.0.act act own.1, m.2);
   }
 
-  pub so_far_sound : (b : Bars) → b.bars.items ≡ bars → b.images.entries ≡ [] → ((t : ℕ) → Has b.unasked.items t → IsUnaskedTest asked t) → AreSoundBars d b
+  pub so_far_sound : (b : Bars) → b.bars.items ≡ bars → b.images.entries ≡ [] → ((t : ℕ) → Has b.unasked.items t → IsUnaskedTest queried t) → AreSoundBars d b
   so_far_sound b same none unasked = record {
     bars = subst (AreBars d) (sym same) so_far.sound;
     unasked = λ t h. (
-      subst (λ x. t < x) so_far.tests (unasked_within asked t (unasked t h)),
+      subst (λ x. t < x) so_far.tests (unasked_within queried t (unasked t h)),
       (λ r k. so_far.unasked t (unasked t h) r (subst (λ l. Has l r) (ap (λ l. take (length l) l) same ∙ take_all (length bars) bars (omega arith)) k)),
     );
     images = λ e h. absurd (subst (λ l. Has l e) none h);

@@ -4,9 +4,9 @@ pub mod KeptValues
 pub mod ImageTables
 pub mod ImageSteps
 pub mod BarSources
-pub mod AskedTests
+pub mod QueriedTests
 pub mod BarLists
-pub mod ToldMoves
+pub mod GivenMoves
 pub mod Allowances
 pub mod AllowedImages
 pub mod Marking

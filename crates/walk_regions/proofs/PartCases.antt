@@ -19,7 +19,7 @@ use Rattle.walk_pairs.specs.declared.items.Item.{Item}
 use Rattle.walk_pairs.specs.declared.items.Side.{Side}
 use Rattle.walk_pairs.specs.declared.items.Side.TheVariants.{Left, Right}
 use Rattle.walk_regions.specs.declared.parts.Part.{Part}
-use Rattle.walk_regions.specs.Parts.{with_if, IsRegionWhere, IsPart, AreParts, HavePartIds, HasPartAt, IsCase, TellsApart}
+use Rattle.walk_regions.specs.Parts.{with_if, IsRegionWhere, IsPart, AreParts, HavePartIds, HasPartAt, IsCase, Distinguishes}
 use Rattle.walk_regions.specs.Reaching.{IsPartOf}
 use Rattle.walk_regions.proofs.AllowedImages.{within_kept}
 
@@ -28,7 +28,7 @@ use Rattle.walk_regions.proofs.AllowedImages.{within_kept}
 pub region_true : (c d : DiagramsParts) (region guard id : ℕ) → IsDiagramOf d id (λ a. value_of c region a && value_of c guard a) → IsRegionWhere c d region guard true id
 region_true c d region guard id is = record {
   is_id = is.in_range;
-  told = λ atom fits. (
+  given = λ atom fits. (
     (λ h. and_parts (value_of c region atom) (value_of c guard atom) (sym (is.value atom fits) ∙ h)),
     (λ p. is.value atom fits ∙ and_from (value_of c region atom) (value_of c guard atom) p.0 p.1),
   );
@@ -37,7 +37,7 @@ region_true c d region guard id is = record {
 pub region_false : (c d : DiagramsParts) (region guard id : ℕ) → IsDiagramOf d id (λ a. value_of c region a && not (value_of c guard a)) → IsRegionWhere c d region guard false id
 region_false c d region guard id is = record {
   is_id = is.in_range;
-  told = λ atom fits. (
+  given = λ atom fits. (
     (λ h. let p = and_parts (value_of c region atom) (not (value_of c guard atom)) (sym (is.value atom fits) ∙ h) in (p.0, not-true (value_of c guard atom) p.1)),
     (λ p. is.value atom fits ∙ and_from (value_of c region atom) (not (value_of c guard atom)) p.0 (ap not p.1)),
   );
@@ -95,12 +95,12 @@ module _ (c d : DiagramsParts) (kept : KeepsFunctions c d) where
 
 module _ (c₀ c₁ c₂ : DiagramsParts) (first : KeepsFunctions c₀ c₁) (second : KeepsFunctions c₁ c₂) (p : Part) (i : Item) (left right : Bool) (beside region : ℕ) (p_is : IsDiagramId c₀ p.region) (l_is : IsDiagramId c₀ i.left) (r_is : IsDiagramId c₀ i.right) (on_left : IsRegionWhere c₀ c₁ p.region i.left left beside) (on_right : IsRegionWhere c₁ c₂ beside i.right right region) where
   pub case_there : (atom : Atom) → IsAtomOf c₂ atom → IsCase c₀ p i left right atom → IsTrue (value_of c₂ region atom)
-  case_there atom fits h = (on_right.told atom fits).1 ((on_left.told atom (fits ∙ second.tests)).1 (h.there, h.on_left), first.values i.right r_is atom ∙ h.on_right)
+  case_there atom fits h = (on_right.given atom fits).1 ((on_left.given atom (fits ∙ second.tests)).1 (h.there, h.on_left), first.values i.right r_is atom ∙ h.on_right)
 
   there_case : (atom : Atom) → IsAtomOf c₂ atom → IsTrue (value_of c₂ region atom) → IsCase c₀ p i left right atom
   there_case atom fits h =
-      let r = (on_right.told atom fits).0 h in
-      let l = (on_left.told atom (fits ∙ second.tests)).0 r.0 in
+      let r = (on_right.given atom fits).0 h in
+      let l = (on_left.given atom (fits ∙ second.tests)).0 r.0 in
       record { there = l.0; on_left = l.1; on_right = sym (first.values i.right r_is atom) ∙ r.1 }
 
   module _ (items : List Item) (whole : ℕ) (part : IsPart c₀ items whole p) (new : Part) (same : new.region ≡ region) (lefts : new.left.items ≡ with_if left p.left.items i.target) (rights : new.right.items ≡ with_if right p.right.items i.target) where
@@ -205,7 +205,7 @@ never_true d never guard atom is e fits = ap (λ i. value_of d i atom) e ∙ is.
 pub region_never : (d : DiagramsParts) (region never guard : ℕ) → IsDiagramId d region → IsDiagramOf d never (λ a. false) → guard ≡ never → IsRegionWhere d d region guard false region
 region_never d region never guard own is e = record {
   is_id = own;
-  told = λ atom fits. ((λ h. (h, never_true d never guard atom is e fits)), (λ p. p.0));
+  given = λ atom fits. ((λ h. (h, never_true d never guard atom is e fits)), (λ p. p.0));
 }
 
 both_false : (a b : Bool) → (a || b) ≡ false → (a ≡ false) × (b ≡ false)
@@ -213,28 +213,28 @@ both_false true b e = absurd (true≢false e)
 both_false false b e = (refl, e)
 
 -- the guards differ where the guard of the other side is true
-tells_side : (c d : DiagramsParts) (kept : KeepsFunctions c d) (old side never other id : ℕ) → IsDiagramOf c never (λ a. false) → other ≡ never → IsDiagramOf d id (λ a. value_of c old a || value_of c side a) → (atom : Atom) → IsAtomOf d atom → IsFalse (value_of d id atom) → (value_of c old atom ≡ false) × (value_of c side atom ≡ value_of c other atom)
-tells_side c d kept old side never other id none e is atom fits h =
+shows_side : (c d : DiagramsParts) (kept : KeepsFunctions c d) (old side never other id : ℕ) → IsDiagramOf c never (λ a. false) → other ≡ never → IsDiagramOf d id (λ a. value_of c old a || value_of c side a) → (atom : Atom) → IsAtomOf d atom → IsFalse (value_of d id atom) → (value_of c old atom ≡ false) × (value_of c side atom ≡ value_of c other atom)
+shows_side c d kept old side never other id none e is atom fits h =
     let f = both_false (value_of c old atom) (value_of c side atom) (sym (is.value atom fits) ∙ h) in
     (f.0, f.1 ∙ sym (never_true c never other atom none e (fits ∙ kept.tests)))
 
-pub tells_left : (c d : DiagramsParts) → KeepsFunctions c d → (old never id : ℕ) (i : Item) → IsDiagramOf c never (λ a. false) → i.right ≡ never → IsDiagramOf d id (λ a. value_of c old a || value_of c i.left a) → TellsApart c d old i id
-tells_left c d kept old never id i none e is = record {
+pub shows_left : (c d : DiagramsParts) → KeepsFunctions c d → (old never id : ℕ) (i : Item) → IsDiagramOf c never (λ a. false) → i.right ≡ never → IsDiagramOf d id (λ a. value_of c old a || value_of c i.left a) → Distinguishes c d old i id
+shows_left c d kept old never id i none e is = record {
   is_id = is.in_range;
-  was = λ atom fits h. (tells_side c d kept old i.left never i.right id none e is atom fits h).0;
-  alike = λ atom fits h. (tells_side c d kept old i.left never i.right id none e is atom fits h).1;
+  was = λ atom fits h. (shows_side c d kept old i.left never i.right id none e is atom fits h).0;
+  alike = λ atom fits h. (shows_side c d kept old i.left never i.right id none e is atom fits h).1;
 }
 
-pub tells_right : (c d : DiagramsParts) → KeepsFunctions c d → (old never id : ℕ) (i : Item) → IsDiagramOf c never (λ a. false) → i.left ≡ never → IsDiagramOf d id (λ a. value_of c old a || value_of c i.right a) → TellsApart c d old i id
-tells_right c d kept old never id i none e is = record {
+pub shows_right : (c d : DiagramsParts) → KeepsFunctions c d → (old never id : ℕ) (i : Item) → IsDiagramOf c never (λ a. false) → i.left ≡ never → IsDiagramOf d id (λ a. value_of c old a || value_of c i.right a) → Distinguishes c d old i id
+shows_right c d kept old never id i none e is = record {
   is_id = is.in_range;
-  was = λ atom fits h. (tells_side c d kept old i.right never i.left id none e is atom fits h).0;
-  alike = λ atom fits h. sym (tells_side c d kept old i.right never i.left id none e is atom fits h).1;
+  was = λ atom fits h. (shows_side c d kept old i.right never i.left id none e is atom fits h).0;
+  alike = λ atom fits h. sym (shows_side c d kept old i.right never i.left id none e is atom fits h).1;
 }
 
 -- ---- items whose guards differ
 
-pub tells_apart : (c d e : DiagramsParts) → KeepsFunctions c d → KeepsFunctions d e → (old apart id : ℕ) (i : Item) → IsDiagramId c old → IsDiagramOf d apart (λ a. one_of (value_of c i.left a) (value_of c i.right a)) → IsDiagramOf e id (λ a. value_of d old a || value_of d apart a) → TellsApart c e old i id
+pub tells_apart : (c d e : DiagramsParts) → KeepsFunctions c d → KeepsFunctions d e → (old apart id : ℕ) (i : Item) → IsDiagramId c old → IsDiagramOf d apart (λ a. one_of (value_of c i.left a) (value_of c i.right a)) → IsDiagramOf e id (λ a. value_of d old a || value_of d apart a) → Distinguishes c e old i id
 tells_apart c d e k l old apart id i old_is one all = record {
   is_id = all.in_range;
   was = λ atom fits h. false_from_ne_true (value_of c old atom) (λ t. both_ways (value_of e id atom) h (all.value atom fits ∙ or_left (value_of d old atom) (value_of d apart atom) (k.values old old_is atom ∙ t)));
@@ -291,11 +291,11 @@ first_parts d region p ps none pushed empty same lefts rights is some = (
 abbrev pub AreAlike : DiagramsParts → DiagramsParts → ℕ → List Item → Type 0
 AreAlike c d id items = (atom : Atom) → IsAtomOf d atom → IsFalse (value_of d id atom) → (i : Item) → Has items i → value_of c i.left atom ≡ value_of c i.right atom
 
-pub alike_more : (c d e : DiagramsParts) → KeepsFunctions c d → KeepsFunctions d e → (items : List Item) (i : Item) (old id : ℕ) → IsDiagramId c i.left → IsDiagramId c i.right → TellsApart d e old i id → AreAlike c d old items → AreAlike c e id (items ++ i ∷ [])
-alike_more c d e first second items i old id l_is r_is told alike atom fits none j h =
+pub alike_more : (c d e : DiagramsParts) → KeepsFunctions c d → KeepsFunctions d e → (items : List Item) (i : Item) (old id : ℕ) → IsDiagramId c i.left → IsDiagramId c i.right → Distinguishes d e old i id → AreAlike c d old items → AreAlike c e id (items ++ i ∷ [])
+alike_more c d e first second items i old id l_is r_is given alike atom fits none j h =
     ⊎_elim
-    (alike atom (fits ∙ second.tests) (told.was atom fits none) j)
-    (λ l. ⊎_elim (λ s. subst (λ (x : Item). value_of c x.left atom ≡ value_of c x.right atom) s (sym (first.values i.left l_is atom) ∙ told.alike atom fits none ∙ first.values i.right r_is atom)) (λ a. absurd a) l)
+    (alike atom (fits ∙ second.tests) (given.was atom fits none) j)
+    (λ l. ⊎_elim (λ s. subst (λ (x : Item). value_of c x.left atom ≡ value_of c x.right atom) s (sym (first.values i.left l_is atom) ∙ given.alike atom fits none ∙ first.values i.right r_is atom)) (λ a. absurd a) l)
     (has_append items (i ∷ []) j h)
 
 second_false : (a b : Bool) → a ≡ true → (a && b) ≡ false → b ≡ false

@@ -10,9 +10,9 @@ use Rattle.walk_regions.specs.declared.bars.Bars.{Bars}
 use Rattle.walk_regions.specs.Bars.{IsBarred, AreSoundBars}
 
 -- some short hypothesis accepts a move if and only if a bar blocks it
-pub record TellMoves (d : DiagramsParts) (shorts : List Term) (act : ℕ) (b : Bars) : Type 0 where
+pub record ShowMoves (d : DiagramsParts) (shorts : List Term) (act : ℕ) (b : Bars) : Type 0 where
   pub sound : AreSoundBars d b
-  pub told : (x y : Atom) → IsAtomOf d x → IsAtomOf d y → IsTrue (set_accepts shorts x (record { act = act; atom = y } ∷ [])) ↔ IsBarred d b.bars.items x y
+  pub given : (x y : Atom) → IsAtomOf d x → IsAtomOf d y → IsTrue (set_accepts shorts x (record { act = act; atom = y } ∷ [])) ↔ IsBarred d b.bars.items x y
 
 -- the number of actions whose moves it determines
 abbrev pub action_count : AllowedMoves → ℕ
@@ -22,7 +22,7 @@ action_count m = length m.actions.items
 pub record IsAllowance (d : DiagramsParts) (shorts : List Term) (actions : ℕ) (m : AllowedMoves) : Type 0 where
   pub allowed : IsDiagramOf d m.allowed (λ a. not (set_out shorts a))
   pub count : length m.actions.items ≡ actions
-  pub moves : (act : ℕ) (b : Bars) → slice_get m.actions.items act ≡ Some b → TellMoves d shorts act b
+  pub moves : (act : ℕ) (b : Bars) → slice_get m.actions.items act ≡ Some b → ShowMoves d shorts act b
 
 -- the second diagram is true at each atom of the first
 abbrev pub IsWithin : DiagramsParts → ℕ → ℕ → Type 0

@@ -17,7 +17,7 @@ with_if value terms target = if value then terms ++ target ∷ [] else terms
 -- the diagram is true exactly at the atoms of the region at which the guard has the value
 pub record IsRegionWhere (c d : DiagramsParts) (region guard : ℕ) (value : Bool) (id : ℕ) : Type 0 where
   pub is_id : IsDiagramId d id
-  pub told : (atom : Atom) → IsAtomOf d atom → IsTrue (value_of d id atom) ↔ (IsTrue (value_of c region atom) × (value_of c guard atom ≡ value))
+  pub given : (atom : Atom) → IsAtomOf d atom → IsTrue (value_of d id atom) ↔ (IsTrue (value_of c region atom) × (value_of c guard atom ≡ value))
 
 -- The part lies within the whole, and from each of its atoms the items lead to exactly the part's terms.
 pub record IsPart (d : DiagramsParts) (items : List Item) (whole : ℕ) (p : Part) : Type 0 where
@@ -48,7 +48,7 @@ pub record IsCase (d : DiagramsParts) (p : Part) (i : Item) (left right : Bool) 
   pub on_right : value_of d i.right atom ≡ right
 
 -- at each atom at which the new diagram is false, the old one is false and the guards of the item are equal
-pub record TellsApart (c d : DiagramsParts) (old : ℕ) (i : Item) (id : ℕ) : Type 0 where
+pub record Distinguishes (c d : DiagramsParts) (old : ℕ) (i : Item) (id : ℕ) : Type 0 where
   pub is_id : IsDiagramId d id
   pub was : (atom : Atom) → IsAtomOf d atom → IsFalse (value_of d id atom) → IsFalse (value_of c old atom)
   pub alike : (atom : Atom) → IsAtomOf d atom → IsFalse (value_of d id atom) → value_of c i.left atom ≡ value_of c i.right atom

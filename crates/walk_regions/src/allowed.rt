@@ -8,8 +8,8 @@ ghost use Rattle.partial_derivs.specs.Moves.{IsTermOf, Keeps};
 ghost use Rattle.partial_derivs.specs.Tables.{AreRight};
 ghost use Rattle.walk_regions.specs.Allowance.{action_count, IsAllowance, IsWithin, IsAllowedImage, HasAllowedSource, IsAllowedSource};
 
-use crate::asking::bars_of;
 use crate::bars::Bars;
+use crate::querying::bars_of;
 use kat_model::{NoMemory, append};
 use partial_derivs::Derivatives;
 use std::alloc::Global;

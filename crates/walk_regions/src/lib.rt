@@ -6,13 +6,13 @@
 #![tactic(auto)]
 
 mod allowed;
-mod asking;
 mod bars;
 mod entry;
 mod entry_list;
 mod listing;
 mod merging;
 mod parts;
+mod querying;
 mod reaching;
 mod test_table;
 

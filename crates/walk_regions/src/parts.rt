@@ -9,7 +9,7 @@ ghost use Rattle.walk_pairs.specs.Outputs.{IsSomewhereTrue};
 ghost use Rattle.walk_pairs.specs.declared.items.Item.{Item as Item'};
 ghost use Rattle.walk_pairs.specs.declared.items.Side.TheVariants.{Left as OnLeft, Right as OnRight};
 ghost use Rattle.walk_regions.specs.Reaching.{IsPartOf};
-ghost use Rattle.walk_regions.specs.Parts.{with_if, IsRegionWhere, IsPart, AreParts, HavePartIds, HasPartAt, IsCase, TellsApart};
+ghost use Rattle.walk_regions.specs.Parts.{with_if, IsRegionWhere, IsPart, AreParts, HavePartIds, HasPartAt, IsCase, Distinguishes};
 
 use kat_model::{NoMemory, append};
 use std::alloc::Global;
@@ -45,7 +45,7 @@ fn region_where(
 ) -> Result<DiagramId, NoMemory>
     requires region { IsDiagramId diagrams.old region }
     requires guard { IsDiagramId diagrams.old guard }
-    ensures told { IfOk result (IsRegionWhere diagrams.old diagrams.new region guard value) }
+    ensures given { IfOk result (IsRegionWhere diagrams.old diagrams.new region guard value) }
     ensures kept { OnOk result (KeepsFunctions diagrams.old diagrams.new) }
 {
     if value {
@@ -279,7 +279,7 @@ fn with_difference(
     requires id { IsDiagramId diagrams.old id }
     requires left { IsDiagramId diagrams.old item.now.left }
     requires right { IsDiagramId diagrams.old item.now.right }
-    ensures told { IfOk result (TellsApart diagrams.old diagrams.new id item.now) }
+    ensures given { IfOk result (Distinguishes diagrams.old diagrams.new id item.now) }
     ensures kept { OnOk result (KeepsFunctions diagrams.old diagrams.new) }
 {
     if item.right == diagrams.constant(false) {

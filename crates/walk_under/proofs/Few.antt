@@ -13,14 +13,14 @@ use Rattle.kat_model.proofs.Places.{place_of_member}
 use Rattle.kat_model.proofs.Reach.{length-reach}
 use Rattle.kat_model.proofs.ReachedPairs.{next_within}
 use Rattle.kat_model.proofs.SameTrees.{holds-true, has-holds}
-use Rattle.kat_model.proofs.Counting.{AreToldApart, told_apart_within, all_bits, length-all_bits, all_bits_has, all_pairs, length-all_pairs, all_pairs_has}
+use Rattle.kat_model.proofs.Counting.{AreDistinguished, distinguished_within, all_bits, length-all_bits, all_bits_has, all_pairs, length-all_pairs, all_pairs_has}
 use Rattle.walk_under.specs.TestedWalks.{TestedEntry, AreApart, IsTestedWalk}
 use Rattle.walk_under.proofs.WalkSteps.{first_entry}
 
 -- a set is determined by the terms of `us` that it contains
 module _ (us : List Term) where
-  abbrev IsToldBy : List Bool → List Term → Type 0
-  IsToldBy bits es = IsSubset es us × (map (has_term es) us ≡ bits)
+  abbrev IsGivenBy : List Bool → List Term → Type 0
+  IsGivenBy bits es = IsSubset es us × (map (has_term es) us ≡ bits)
 
   holds-at : (vs es fs : List Term) (x : Term) → map (has_term es) vs ≡ map (has_term fs) vs → Has vs x → has_term es x ≡ has_term fs x
   holds-at [] es fs x e h = absurd h
@@ -29,15 +29,15 @@ module _ (us : List Term) where
       let rest : map (has_term es) vs ≡ map (has_term fs) vs = cc in
       ⊎_elim (λ s. subst (λ z. has_term es z ≡ has_term fs z) s first) (λ k. holds-at vs es fs x rest k) h
 
-  told_same : (bits : List Bool) (es fs : List Term) → IsToldBy bits es → IsToldBy bits fs → SameMembers es fs
-  told_same bits es fs h k x =
+  given_same : (bits : List Bool) (es fs : List Term) → IsGivenBy bits es → IsGivenBy bits fs → SameMembers es fs
+  given_same bits es fs h k x =
       let e = h.1 ∙ sym k.1 in (
         (λ m. holds-true fs x (sym (holds-at us es fs x e (h.0 x m)) ∙ has-holds es x m)),
         (λ m. holds-true es x (holds-at us es fs x e (k.0 x m) ∙ has-holds fs x m)),
       )
 
-  told : (es : List Term) → IsSubset es us → (bits : List Bool) × Has (all_bits (length us)) bits × IsToldBy bits es
-  told es within = (map (has_term es) us, subst (λ n. Has (all_bits n) (map (has_term es) us)) (length-map us (has_term es)) (all_bits_has (map (has_term es) us)), (within, refl))
+  given : (es : List Term) → IsSubset es us → (bits : List Bool) × Has (all_bits (length us)) bits × IsGivenBy bits es
+  given es within = (map (has_term es) us, subst (λ n. Has (all_bits n) (map (has_term es) us)) (length-map us (has_term es)) (all_bits_has (map (has_term es) us)), (within, refl))
 
 -- the key of an entry: two sets and an atom
 abbrev Key : Type 0
@@ -50,14 +50,14 @@ module _ (q : ProblemParts) where
   abbrev rights : List Term
   rights = (closed q).right ∷ reach (closed q).right
 
-  abbrev Tells : Key → TestedEntry → Type 0
-  Tells k e = IsToldBy lefts k.0.0 e.pair.left × IsToldBy rights k.0.1 e.pair.right × (length k.1 ≡ q.tests) × IsTrue (e.test k.1)
+  abbrev Represents : Key → TestedEntry → Type 0
+  Represents k e = IsGivenBy lefts k.0.0 e.pair.left × IsGivenBy rights k.0.1 e.pair.right × (length k.1 ≡ q.tests) × IsTrue (e.test k.1)
 
-  told_apart : (es : List TestedEntry) → AreApart q.tests es → AreToldApart Tells es
-  told_apart [] all = tt
-  told_apart (e ∷ es) all = (
-    (λ k f h s t. all.0 f h (told_same lefts k.0.0 e.pair.left f.pair.left s.0 t.0) (told_same rights k.0.1 e.pair.right f.pair.right s.1 t.1) k.1 s.2 s.3 t.3),
-    told_apart es all.1,
+  distinguished : (es : List TestedEntry) → AreApart q.tests es → AreDistinguished Represents es
+  distinguished [] all = tt
+  distinguished (e ∷ es) all = (
+    (λ k f h s t. all.0 f h (given_same lefts k.0.0 e.pair.left f.pair.left s.0 t.0) (given_same rights k.0.1 e.pair.right f.pair.right s.1 t.1) k.1 s.2 s.3 t.3),
+    distinguished es all.1,
   )
 
   -- the members of the sets are among the closed sides and the terms that steps reach
@@ -68,10 +68,10 @@ module _ (q : ProblemParts) where
   abbrev keys : List Key
   keys = all_pairs (all_pairs (all_bits (length lefts)) (all_bits (length rights))) (all_bits q.tests)
 
-  key_of : (e : TestedEntry) → IsReachedEntry e → (atom : Atom) → length atom ≡ q.tests → IsTrue (e.test atom) → (k : Key) × Has keys k × Tells k e
+  key_of : (e : TestedEntry) → IsReachedEntry e → (atom : Atom) → length atom ≡ q.tests → IsTrue (e.test atom) → (k : Key) × Has keys k × Represents k e
   key_of e r atom wide there =
-      let l = told lefts e.pair.left r.left in
-      let s = told rights e.pair.right r.right in
+      let l = given lefts e.pair.left r.left in
+      let s = given rights e.pair.right r.right in
       let sets = all_pairs_has (all_bits (length lefts)) (all_bits (length rights)) l.0 s.0 l.1 s.1 in
       let all = subst (λ n. Has (all_bits n) atom) wide (all_bits_has atom) in
       (((l.0, s.0), atom), all_pairs_has (all_pairs (all_bits (length lefts)) (all_bits (length rights))) (all_bits q.tests) (l.0, s.0) atom sets all, (l.2, s.2, wide, there))
@@ -110,10 +110,10 @@ module _ (shorts : List Term) (q : ProblemParts) (es : List TestedEntry) (done :
 pub walk_few : (shorts : List Term) (q : ProblemParts) (es : List TestedEntry) (done : ℕ) → IsTestedWalk shorts q es done → length es ≤ 1 + entry_limit q
 walk_few shorts q [] done walk = omega arith
 walk_few shorts q (first ∷ es) done walk =
-    let bound = told_apart_within (Tells q) es (keys q) (told_apart q es walk.apart.1) each in
+    let bound = distinguished_within (Represents q) es (keys q) (distinguished q es walk.apart.1) each in
     omega (arith, bound, length-keys q)
   where
-    each : (e : TestedEntry) → Has es e → (k : Key) × Has (keys q) k × Tells q k e
+    each : (e : TestedEntry) → Has es e → (k : Key) × Has (keys q) k × Represents q k e
     each e h =
         let k = place_of_member es e h in
         let c = walk.origins k.0 e k.1 in

@@ -29,7 +29,7 @@ use Rattle.walk_regions.specs.Allowance.{IsAllowance}
 use Rattle.walk_regions.specs.declared.allowed.AllowedMoves.{AllowedMoves}
 use Rattle.walk_under.specs.Working.IdEntries.{pair_of, entry_of, entries_of, IsIdEntry}
 use Rattle.walk_pairs.specs.IdSets.{IsIdSet}
-use Rattle.walk_under.specs.Working.Walking.{WalkContext, walk_context, IsUnderWay, IsAtSource, IsVisited, AreNextItems, IsTaking, IsTakenPair, HasStepped, IsDifference, TellApart, AcceptAlike}
+use Rattle.walk_under.specs.Working.Walking.{WalkContext, walk_context, IsUnderWay, IsAtSource, IsVisited, AreNextItems, IsTaking, IsTakenPair, HasStepped, IsDifference, Distinguish, AcceptAlike}
 use Rattle.walk_regions.specs.declared.listing.Listing.{Listing}
 use Rattle.walk_under.specs.declared.walk.TestedWorklist.{TestedWorklist}
 use Rattle.walk_under.specs.declared.walk.StepSource.{StepSource}
@@ -145,13 +145,13 @@ module _ (c₀ c₁ c₂ : DiagramsParts) (k₀ : KeepsFunctions c₀ c₁) (k�
       drop_first true a b e f = f
       drop_first false a b e f = absurd cc
 
-  pub outputs_apart : (atom : Atom) → IsAtomOf c₂ atom → value_of c₂ left atom ≢ value_of c₂ right atom → TellApart c₀ test steps atom
+  pub outputs_apart : (atom : Atom) → IsAtomOf c₂ atom → value_of c₂ left atom ≢ value_of c₂ right atom → Distinguish c₀ test steps atom
   outputs_apart atom wide ne =
       let fits = wide ∙ k₁.tests ∙ k₀.tests in
       let both = both_parts (value_of c₀ test atom) (value_of c₀ steps.left.accepts atom) (value_of c₀ steps.right.accepts atom) (λ e. ne (left_value atom fits ∙ e ∙ sym (right_value atom fits))) in
       record { fits = fits; there = both.0; differ = both.1 }
 
-pub is_difference : (s : WalkContext) (w x : TestedWorklist) (place : ℕ) (e : EntryParts) (steps : BothSteps) (test : ℕ) (atom : Atom) → KeepsFunctions w.diagrams x.diagrams → x.listing ≡ w.listing → IsTaking s w place e steps → test ≡ e.test → TellApart w.diagrams test steps atom → IsDifference s x place atom
+pub is_difference : (s : WalkContext) (w x : TestedWorklist) (place : ℕ) (e : EntryParts) (steps : BothSteps) (test : ℕ) (atom : Atom) → KeepsFunctions w.diagrams x.diagrams → x.listing ≡ w.listing → IsTaking s w place e steps → test ≡ e.test → Distinguish w.diagrams test steps atom → IsDifference s x place atom
 is_difference s w x place e steps test atom kept listing taking same apart = record {
   from = e;
   at = ap (λ (l : Listing). slice_get l.entries.items place) listing ∙ taking.at;
@@ -178,19 +178,19 @@ module _ (s : WalkContext) (old mid : TestedWorklist) (taken_pair : TakenPair) (
   abbrev pub own_source : StepSource
   own_source = record { place = taken_pair.place; level = taken_pair.level; test = taken_pair.test; act = act }
 
-  pub stepped_stands : IsAtSource s mid own_source from
-  stepped_stands = record { under_way = m.under_way; at = m.at; level = m.taken_pair.level; atoms = m.taken_pair.atoms; of_actions = of_actions }
+  pub stepped_represents : IsAtSource s mid own_source from
+  stepped_represents = record { under_way = m.under_way; at = m.at; level = m.taken_pair.level; atoms = m.taken_pair.atoms; of_actions = of_actions }
 
   pub stepped_more : (new : TestedWorklist) → IsDiagramId old.diagrams taken_pair.test → IsVisited s mid new own_source from (λ atom. IsTrue (value_of mid.diagrams taken_pair.test atom)) → HasStepped s old new taken_pair from (acts ++ act ∷ [])
   stepped_more new test_is v = record {
-    under_way = v.stands.under_way;
-    at = v.stands.at;
-    taken_pair = record { level = v.stands.level; atoms = v.stands.atoms };
+    under_way = v.represents.under_way;
+    at = v.represents.at;
+    taken_pair = record { level = v.represents.level; atoms = v.represents.atoms };
     kept = KeepsFunctions-trans old.diagrams mid.diagrams new.diagrams m.kept v.kept;
     joined = λ a h.
         ⊎_elim
         (λ o atom wide there after wide' allowed.
-        joined_grown s own_source from mid new _ stepped_stands v after (set_next (terms_of s.store from.left) atom a) (set_next (terms_of s.store from.right) atom a) (m.joined a o atom wide there after wide' allowed))
+        joined_grown s own_source from mid new _ stepped_represents v after (set_next (terms_of s.store from.left) atom a) (set_next (terms_of s.store from.right) atom a) (m.joined a o atom wide there after wide' allowed))
         (λ l. ⊎_elim (λ e. subst (JoinedBy) e own) (λ x. absurd x) l)
         (has_append acts (act ∷ []) a h);
   }

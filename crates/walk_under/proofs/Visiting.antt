@@ -55,12 +55,12 @@ allowed_image_kept c d kept shorts region act id is image = record {
 
 -- the part lies within the allowed atoms
 pub region_within : (s : WalkContext) (w : TestedWorklist) (source : StepSource) (from : EntryParts) (p : Part) → IsAtSource s w source from → IsNextPart s.store w.diagrams from source.test source.act p → IsWithin w.diagrams p.region w.moves.allowed
-region_within s w source from p stands next a fits h =
-    level_atoms_within w.diagrams w.listing.entries.items from source.test w.moves.allowed (λ e m. (stands.under_way.entries e m).within) stands.atoms a fits (next.within a fits h)
+region_within s w source from p represents next a fits h =
+    level_atoms_within w.diagrams w.listing.entries.items from source.test w.moves.allowed (λ e m. (represents.under_way.entries e m).within) represents.atoms a fits (next.within a fits h)
 
 -- ---- the open atoms of a part
 
-module _ (s : WalkContext) (w x : TestedWorklist) (source : StepSource) (from : EntryParts) (p : Part) (stands : IsAtSource s w source from) (next : IsNextPart s.store w.diagrams from source.test source.act p) (c₁ c₂ : DiagramsParts) (k₁ : KeepsFunctions w.diagrams c₁) (k₂ : KeepsFunctions c₁ c₂) (k₃ : KeepsFunctions c₂ x.diagrams) where
+module _ (s : WalkContext) (w x : TestedWorklist) (source : StepSource) (from : EntryParts) (p : Part) (represents : IsAtSource s w source from) (next : IsNextPart s.store w.diagrams from source.test source.act p) (c₁ c₂ : DiagramsParts) (k₁ : KeepsFunctions w.diagrams c₁) (k₂ : KeepsFunctions c₁ c₂) (k₃ : KeepsFunctions c₂ x.diagrams) where
   module _ (listing : x.listing ≡ w.listing) (derivatives : x.derivatives ≡ w.derivatives) (allowed : x.moves.allowed ≡ w.moves.allowed) (moves : IsAllowance c₁ s.shorts s.problem.actions x.moves) (image fresh id : ℕ) (is_image : IsAllowedImage c₁ s.shorts p.region source.act image) (is_fresh : IsFreshPart c₂ w.listing.entries.items p.left.items p.right.items image fresh) (is_open : IsOpenPart x.diagrams w.listing.entries.items w.listing.universal p.left.items p.right.items p.left.items p.right.items fresh id) where
     kept₁₃ : KeepsFunctions c₁ x.diagrams
     kept₁₃ = KeepsFunctions-trans c₁ c₂ x.diagrams k₂ k₃
@@ -72,7 +72,7 @@ module _ (s : WalkContext) (w x : TestedWorklist) (source : StepSource) (from : 
     allowance = allowance_kept c₁ x.diagrams kept₁₃ s.shorts s.problem.actions x.moves moves
 
     later : IsAtSource s x source from
-    later = at_source_kept s source from w x kept listing derivatives allowed allowance stands
+    later = at_source_kept s source from w x kept listing derivatives allowed allowance represents
 
     -- the entries of the new walk
     abbrev es : List EntryParts
@@ -82,7 +82,7 @@ module _ (s : WalkContext) (w x : TestedWorklist) (source : StepSource) (from : 
     img = allowed_image_kept c₁ x.diagrams kept₁₃ s.shorts p.region source.act image (k₁.ids p.region next.region) is_image
 
     tests₂ : (e : EntryParts) → Has w.listing.entries.items e → IsDiagramId c₂ e.test
-    tests₂ e h = k₂.ids e.test (k₁.ids e.test (stands.under_way.entries e h).test)
+    tests₂ e h = k₂.ids e.test (k₁.ids e.test (represents.under_way.entries e h).test)
 
     fr : IsFreshPart x.diagrams es p.left.items p.right.items image fresh
     fr =
@@ -118,8 +118,8 @@ module _ (s : WalkContext) (w x : TestedWorklist) (source : StepSource) (from : 
 
     pub open_at : IsOpenAt s w x source from p id
     open_at = record {
-      stands = later;
-      next = next_part_kept s.store w.diagrams x.diagrams kept from source.test source.act p stands.atoms.is_id next;
+      represents = later;
+      next = next_part_kept s.store w.diagrams x.diagrams kept from source.test source.act p represents.atoms.is_id next;
       kept = kept;
       listing = listing;
       is_id = opened.part.is_id;
@@ -143,13 +143,13 @@ module _ (s : WalkContext) (w x : TestedWorklist) (source : StepSource) (from : 
 
   -- an atom from which an allowed move leads to the atom after it
   start : (atom : Atom) → length atom ≡ s.problem.tests → IsTrue (value_of w.diagrams p.region atom) → (after : Atom) → IsAllowedMove s.shorts atom (record { act = source.act; atom = after }) → HasAllowedSource d s.shorts p.region source.act after
-  start atom wide there after allowed = (atom, record { fits = wide ∙ sym o.stands.under_way.tests; there = o.kept.values p.region before.region atom ∙ there; allowed = allowed })
+  start atom wide there after allowed = (atom, record { fits = wide ∙ sym o.represents.under_way.tests; there = o.kept.values p.region before.region atom ∙ there; allowed = allowed })
 
   module _ (es : List TestedEntry) where
     to_next : (atom : Atom) → length atom ≡ s.problem.tests → IsTrue (value_of w.diagrams p.region atom) → (after : Atom) → AreJoined s.problem es (suc from.level) after left_terms right_terms
         → AreJoined s.problem es (suc from.level) after (set_next (terms_of s.store from.left) atom source.act) (set_next (terms_of s.store from.right) atom source.act)
     to_next atom wide there after j =
-        let fits : IsAtomOf d atom = wide ∙ sym o.stands.under_way.tests in
+        let fits : IsAtomOf d atom = wide ∙ sym o.represents.under_way.tests in
         let now = o.kept.values p.region before.region atom ∙ there in
         joined_same s.problem es (suc from.level) after left_terms right_terms (set_next (terms_of s.store from.left) atom source.act) (set_next (terms_of s.store from.right) atom source.act)
         (same_members_sym (set_next (terms_of s.store from.left) atom source.act) left_terms (o.next.lefts atom fits now))
@@ -158,12 +158,12 @@ module _ (s : WalkContext) (w x : TestedWorklist) (source : StepSource) (from : 
   -- without an open atom, nothing is listed
   pub visited_none : (never : ℕ) → id ≡ never → IsDiagramOf d never (λ a. false) → IsVisited s w x source from (λ atom. IsTrue (value_of w.diagrams p.region atom))
   visited_none never same is = record {
-    stands = o.stands;
+    represents = o.represents;
     kept = o.kept;
     more = [];
     grows = ap (λ (l : Listing). l.entries.items) o.listing ∙ sym (append-nil w.listing.entries.items);
     joined = λ atom wide there after wide' allowed.
-        let fits : IsAtomOf d after = wide' ∙ sym o.stands.under_way.tests in
+        let fits : IsAtomOf d after = wide' ∙ sym o.represents.under_way.tests in
         to_next (entries_of s.store d x.listing.entries.items) atom wide there after (o.joined after fits (start atom wide there after allowed) (ap (λ i. value_of d i after) same ∙ is.value after fits));
   }
 
@@ -185,42 +185,42 @@ module _ (s : WalkContext) (w x : TestedWorklist) (source : StepSource) (from : 
     step = record { place = source.place; act = source.act; region = value_of d p.region }
 
     here : slice_get olds source.place ≡ Some from_entry
-    here = entry_at s.store d x.listing.entries.items source.place from o.stands.at
+    here = entry_at s.store d x.listing.entries.items source.place from o.represents.at
 
     is_region : IsRegion s.problem.tests olds from_entry step sets
     is_region = record {
       within = λ atom wide h.
-          let fits : IsAtomOf d atom = wide ∙ sym o.stands.under_way.tests in
-          listed_at s.store d x.listing.entries.items from atom (o.stands.atoms.there atom fits (o.next.within atom fits h));
-      lefts = λ atom wide h. o.next.lefts atom (wide ∙ sym o.stands.under_way.tests) h;
-      rights = λ atom wide h. o.next.rights atom (wide ∙ sym o.stands.under_way.tests) h;
+          let fits : IsAtomOf d atom = wide ∙ sym o.represents.under_way.tests in
+          listed_at s.store d x.listing.entries.items from atom (o.represents.atoms.there atom fits (o.next.within atom fits h));
+      lefts = λ atom wide h. o.next.lefts atom (wide ∙ sym o.represents.under_way.tests) h;
+      rights = λ atom wide h. o.next.rights atom (wide ∙ sym o.represents.under_way.tests) h;
     }
 
     have_sources : (atom : Atom) → length atom ≡ s.problem.tests → IsTrue (value_of d id atom) → HasSource s.shorts s.problem.tests step atom
     have_sources atom wide h =
-        let r = o.sources atom (wide ∙ sym o.stands.under_way.tests) h in
-        record { before = r.0; of_tests = r.1.fits ∙ o.stands.under_way.tests; there = r.1.there; allowed = r.1.allowed }
+        let r = o.sources atom (wide ∙ sym o.represents.under_way.tests) h in
+        record { before = r.0; of_tests = r.1.fits ∙ o.represents.under_way.tests; there = r.1.there; allowed = r.1.allowed }
 
     somewhere : (atom : Atom) × (length atom ≡ s.problem.tests) × IsTrue (value_of d id atom)
     somewhere =
         let a = different_apart d reduced id never o.is_id is_never.in_range differs in
-        (a.atom, a.fits ∙ o.stands.under_way.tests, true_from_ne_false (value_of d id a.atom) (λ f. a.apart (f ∙ sym (is_never.value a.atom a.fits))))
+        (a.atom, a.fits ∙ o.represents.under_way.tests, true_from_ne_false (value_of d id a.atom) (λ f. a.apart (f ∙ sym (is_never.value a.atom a.fits))))
 
     is_fresh : (e : TestedEntry) → Has olds e → IsApart s.problem.tests e (record { pair = sets; test = value_of d id; level = suc from.level; origin = Some step })
     is_fresh e h lefts rights atom wide t u =
         let f = has_map (entry_of s.store d) x.listing.entries.items e h in
-        let own = o.stands.under_way.entries f.0 f.1 in
+        let own = o.represents.under_way.entries f.0 f.1 in
         let is : entry_of s.store d f.0 ≡ e = f.2 in
         o.apart f.0 f.1
-        (one_id_set s.store o.stands.under_way.sound d.tests f.0.left p.left.items own.left o.next.left_set (subst (λ (z : TestedEntry). SameMembers z.pair.left left_terms) (sym is) lefts))
-        (one_id_set s.store o.stands.under_way.sound d.tests f.0.right p.right.items own.right o.next.right_set (subst (λ (z : TestedEntry). SameMembers z.pair.right right_terms) (sym is) rights))
-        atom (wide ∙ sym o.stands.under_way.tests) u (subst (λ (z : TestedEntry). IsTrue (z.test atom)) (sym is) t)
+        (one_id_set s.store o.represents.under_way.sound d.tests f.0.left p.left.items own.left o.next.left_set (subst (λ (z : TestedEntry). SameMembers z.pair.left left_terms) (sym is) lefts))
+        (one_id_set s.store o.represents.under_way.sound d.tests f.0.right p.right.items own.right o.next.right_set (subst (λ (z : TestedEntry). SameMembers z.pair.right right_terms) (sym is) rights))
+        atom (wide ∙ sym o.represents.under_way.tests) u (subst (λ (z : TestedEntry). IsTrue (z.test atom)) (sym is) t)
 
     listed_walk : IsTestedWalk s.shorts s.problem (olds ++ record { pair = sets; test = value_of d id; level = suc from.level; origin = Some step } ∷ []) source.place
-    listed_walk = walk_lists s.shorts s.problem olds source.place o.stands.under_way.walk from_entry here sets (value_of d id) step refl o.stands.of_actions is_region have_sources somewhere is_fresh
+    listed_walk = walk_lists s.shorts s.problem olds source.place o.represents.under_way.walk from_entry here sets (value_of d id) step refl o.represents.of_actions is_region have_sources somewhere is_fresh
 
     level_is : source.level + 1 ≡ suc from.level
-    level_is = let e = o.stands.level in omega arith
+    level_is = let e = o.represents.level in omega arith
 
     new_entries : entries_of s.store d l.entries.items ≡ olds ++ record { pair = sets; test = value_of d id; level = suc from.level; origin = Some step } ∷ []
     new_entries =
@@ -243,32 +243,32 @@ module _ (s : WalkContext) (w x : TestedWorklist) (source : StepSource) (from : 
     new_is : IsIdEntry s.store d x.moves.allowed (new_ids source p id)
     new_is = record { left = o.next.left_set; right = o.next.right_set; test = o.is_id; within = o.within; region = region_id }
 
-    new_stands : IsAtSource s y source from
-    new_stands = record {
+    new_represents : IsAtSource s y source from
+    new_represents = record {
       under_way = record {
-        sound = o.stands.under_way.sound;
-        tests = o.stands.under_way.tests;
-        allowance = o.stands.under_way.allowance;
-        right = o.stands.under_way.right;
+        sound = o.represents.under_way.sound;
+        tests = o.represents.under_way.tests;
+        allowance = o.represents.under_way.allowance;
+        right = o.represents.under_way.right;
         entries = λ e h.
             ⊎_elim
-            (o.stands.under_way.entries e)
+            (o.represents.under_way.entries e)
             (λ m. ⊎_elim (λ q. subst (IsIdEntry s.store d x.moves.allowed) q new_is) (λ a. absurd a) m)
             (has_append x.listing.entries.items (new_ids source p id ∷ []) e (subst (λ (xs : List EntryParts). Has xs e) items h));
-        universal = ap (option_map (tree_at s.store)) universal ∙ o.stands.under_way.universal;
-        universal_id = λ u e. o.stands.under_way.universal_id u (sym universal ∙ e);
+        universal = ap (option_map (tree_at s.store)) universal ∙ o.represents.under_way.universal;
+        universal_id = λ u e. o.represents.under_way.universal_id u (sym universal ∙ e);
         walk = subst (λ es. IsTestedWalk s.shorts s.problem es source.place) (sym new_entries) listed_walk;
       };
-      at = subst (λ (xs : List EntryParts). slice_get xs source.place ≡ Some from) (sym items) (slice_get-append_some x.listing.entries.items (new_ids source p id ∷ []) source.place from o.stands.at);
-      level = o.stands.level;
+      at = subst (λ (xs : List EntryParts). slice_get xs source.place ≡ Some from) (sym items) (slice_get-append_some x.listing.entries.items (new_ids source p id ∷ []) source.place from o.represents.at);
+      level = o.represents.level;
       atoms =
           subst (λ (xs : List EntryParts). AreLevelAtoms d xs from source.test) (sym items)
-          (level_past d x.listing.entries.items (new_ids source p id) from source.test (let e = level_is in omega arith) o.stands.atoms);
-      of_actions = o.stands.of_actions;
+          (level_past d x.listing.entries.items (new_ids source p id) from source.test (let e = level_is in omega arith) o.represents.atoms);
+      of_actions = o.represents.of_actions;
     }
 
     new_low : (e : TestedEntry) → Has (entries_of s.store d l.entries.items) e → e.level ≤ suc from.level
-    new_low e h = new_stands.under_way.walk.so_far e from_entry h (entry_at s.store d l.entries.items source.place from new_stands.at)
+    new_low e h = new_represents.under_way.walk.so_far e from_entry h (entry_at s.store d l.entries.items source.place from new_represents.at)
 
     joined_there : (after : Atom) → IsAtomOf d after → HasAllowedSource d s.shorts p.region source.act after → AreJoined s.problem (entries_of s.store d l.entries.items) (suc from.level) after left_terms right_terms
     joined_there after fits has_source = go (value_of d id after) refl
@@ -276,19 +276,19 @@ module _ (s : WalkContext) (w x : TestedWorklist) (source : StepSource) (from : 
         go : (b : Bool) → value_of d id after ≡ b → AreJoined s.problem (entries_of s.store d l.entries.items) (suc from.level) after left_terms right_terms
         go true t =
             joined_by s.problem (entries_of s.store d l.entries.items) (suc from.level) after left_terms right_terms new_low
-            (entry_congruent s.problem s.store d l.entries.items l.universal new_stands.under_way.universal after (new_ids source p id) new_listed t)
+            (entry_congruent s.problem s.store d l.entries.items l.universal new_represents.under_way.universal after (new_ids source p id) new_listed t)
         go false f =
             subst (λ es. AreJoined s.problem es (suc from.level) after left_terms right_terms) (sym new_entries)
             (joined_more s.problem olds (record { pair = sets; test = value_of d id; level = suc from.level; origin = Some step } ∷ []) (suc from.level) after left_terms right_terms (o.joined after fits has_source f))
 
     pub visited_listed : IsVisited s w y source from (λ atom. IsTrue (value_of w.diagrams p.region atom))
     visited_listed = record {
-      stands = new_stands;
+      represents = new_represents;
       kept = o.kept;
       more = new_ids source p id ∷ [];
       grows = items ∙ ap (λ (k : Listing). k.entries.items ++ new_ids source p id ∷ []) o.listing;
       joined = λ atom wide there after wide' allowed.
-          to_next (entries_of s.store d l.entries.items) atom wide there after (joined_there after (wide' ∙ sym o.stands.under_way.tests) (start atom wide there after allowed));
+          to_next (entries_of s.store d l.entries.items) atom wide there after (joined_there after (wide' ∙ sym o.represents.under_way.tests) (start atom wide there after allowed));
     }
 
 -- ---- one visit after another
@@ -297,33 +297,33 @@ module _ (s : WalkContext) (source : StepSource) (from : EntryParts) where
   -- joined sets remain joined
   pub joined_grown : (v w : TestedWorklist) (P : Atom → Type 0) → IsAtSource s v source from → IsVisited s v w source from P → (after : Atom) (lefts rights : List Term)
       → AreJoined s.problem (entries_of s.store v.diagrams v.listing.entries.items) (suc from.level) after lefts rights → AreJoined s.problem (entries_of s.store w.diagrams w.listing.entries.items) (suc from.level) after lefts rights
-  joined_grown v w P stands visited after lefts rights j =
+  joined_grown v w P represents visited after lefts rights j =
       subst (λ es. AreJoined s.problem es (suc from.level) after lefts rights)
       (sym (ap (entries_of s.store w.diagrams) visited.grows
       ∙ entries-append s.store w.diagrams v.listing.entries.items visited.more
-      ∙ ap (λ es. es ++ entries_of s.store w.diagrams visited.more) (entries_same s.store v.diagrams w.diagrams visited.kept v.moves.allowed v.listing.entries.items stands.under_way.entries)))
+      ∙ ap (λ es. es ++ entries_of s.store w.diagrams visited.more) (entries_same s.store v.diagrams w.diagrams visited.kept v.moves.allowed v.listing.entries.items represents.under_way.entries)))
       (joined_more s.problem (entries_of s.store v.diagrams v.listing.entries.items) (entries_of s.store w.diagrams visited.more) (suc from.level) after lefts rights j)
 
   pub visited_then : (u v w : TestedWorklist) (P Q : Atom → Type 0) → IsVisited s u v source from P → IsVisited s v w source from Q → IsVisited s u w source from (λ atom. P atom ⊎ Q atom)
   visited_then u v w P Q first second = record {
-    stands = second.stands;
+    represents = second.represents;
     kept = KeepsFunctions-trans u.diagrams v.diagrams w.diagrams first.kept second.kept;
     more = first.more ++ second.more;
     grows = second.grows ∙ ap (λ es. es ++ second.more) first.grows ∙ append_assoc u.listing.entries.items first.more second.more;
     joined = λ atom wide there after wide' allowed.
         ⊎_elim
-        (λ h. joined_grown v w Q first.stands second after (set_next (terms_of s.store from.left) atom source.act) (set_next (terms_of s.store from.right) atom source.act) (first.joined atom wide h after wide' allowed))
+        (λ h. joined_grown v w Q first.represents second after (set_next (terms_of s.store from.left) atom source.act) (set_next (terms_of s.store from.right) atom source.act) (first.joined atom wide h after wide' allowed))
         (λ h. second.joined atom wide h after wide' allowed)
         there;
   }
 
   -- fewer atoms, and other walks that differ only in diagrams
   pub visited_part : (u w : TestedWorklist) (P Q : Atom → Type 0) → ((atom : Atom) → length atom ≡ s.problem.tests → Q atom → P atom) → IsVisited s u w source from P → IsVisited s u w source from Q
-  visited_part u w P Q part v = record { stands = v.stands; kept = v.kept; more = v.more; grows = v.grows; joined = λ atom wide h. v.joined atom wide (part atom wide h) }
+  visited_part u w P Q part v = record { represents = v.represents; kept = v.kept; more = v.more; grows = v.grows; joined = λ atom wide h. v.joined atom wide (part atom wide h) }
 
   pub visited_nowhere : (u w : TestedWorklist) (P : Atom → Type 0) → IsAtSource s w source from → KeepsFunctions u.diagrams w.diagrams → w.listing ≡ u.listing → ((atom : Atom) → length atom ≡ s.problem.tests → P atom → SameMembers (set_next (terms_of s.store from.left) atom source.act) (set_next (terms_of s.store from.right) atom source.act)) → IsVisited s u w source from P
-  visited_nowhere u w P stands kept listing same = record {
-    stands = stands;
+  visited_nowhere u w P represents kept listing same = record {
+    represents = represents;
     kept = kept;
     more = [];
     grows = ap (λ (l : Listing). l.entries.items) listing ∙ sym (append-nil u.listing.entries.items);
@@ -333,7 +333,7 @@ module _ (s : WalkContext) (source : StepSource) (from : EntryParts) where
         let lefts = set_next (terms_of s.store from.left) atom source.act in
         let rights = set_next (terms_of s.store from.right) atom source.act in
         joined_by s.problem es (suc from.level) after lefts rights
-        (λ e m. stands.under_way.walk.so_far e (entry_of s.store w.diagrams from) m (entry_at s.store w.diagrams w.listing.entries.items source.place from stands.at))
+        (λ e m. represents.under_way.walk.so_far e (entry_of s.store w.diagrams from) m (entry_at s.store w.diagrams w.listing.entries.items source.place from represents.at))
         (inl (sat_same pairs lefts rights (same atom wide h)));
   }
 
@@ -342,7 +342,7 @@ module _ (s : WalkContext) (source : StepSource) (from : EntryParts) where
       → ((atom : Atom) → length atom ≡ s.problem.tests → Q atom → P atom ⊎ SameMembers (set_next (terms_of s.store from.left) atom source.act) (set_next (terms_of s.store from.right) atom source.act))
       → IsVisited s u w source from Q
   visited_from u v w kept listing P Q visited split = record {
-    stands = visited.stands;
+    represents = visited.represents;
     kept = KeepsFunctions-trans u.diagrams v.diagrams w.diagrams kept visited.kept;
     more = visited.more;
     grows = visited.grows ∙ ap (λ (l : Listing). l.entries.items ++ visited.more) listing;
@@ -354,7 +354,7 @@ module _ (s : WalkContext) (source : StepSource) (from : EntryParts) where
         (λ there. visited.joined atom wide there after wide' allowed)
         (λ same.
         joined_by s.problem es (suc from.level) after lefts rights
-        (λ e m. visited.stands.under_way.walk.so_far e (entry_of s.store w.diagrams from) m (entry_at s.store w.diagrams w.listing.entries.items source.place from visited.stands.at))
+        (λ e m. visited.represents.under_way.walk.so_far e (entry_of s.store w.diagrams from) m (entry_at s.store w.diagrams w.listing.entries.items source.place from visited.represents.at))
         (inl (sat_same (pairs_true es after) lefts rights same)))
         (split atom wide h);
   }

@@ -99,8 +99,8 @@ fn has_as_many(string: &GString, other: &GString) -> bool
     ensures { IsTrue result → length string.now.rest ≡ length other.now.rest }
 {
     let count = string.rest.as_slice().len();
-    let wanted = other.rest.as_slice().len();
-    count == wanted
+    let expected = other.rest.as_slice().len();
+    count == expected
 }
 
 // Whether the string refutes the problem and has as many moves as the other.

@@ -1,4 +1,4 @@
-//! The walk over pairs under tests, and which of the short hypotheses of a problem count in it.
+//! The walk over pairs under tests, and which short hypotheses it counts.
 #![tactic(auto)]
 
 mod counting;

@@ -15,7 +15,7 @@ ghost use Rattle.walk_regions.specs.Entries.{EntryParts};
 ghost use Rattle.walk_regions.specs.Listings.{IsLevelAtom, IsPlaceWith};
 ghost use Rattle.walk_under.specs.Working.IdEntries.{IsNextPart};
 ghost use Rattle.walk_regions.specs.Merging.{AreMergedIds};
-ghost use Rattle.walk_under.specs.Working.Walking.{WalkContext, walk_context, first_ids, new_ids, AreClosedIds, IsUnderWay, IsAtSource, IsOpenAt, IsVisited, AreNextItems, IsTaking, IsTakenPair, HasStepped, IsDifference, TellApart, AcceptAlike, IsRunEnd};
+ghost use Rattle.walk_under.specs.Working.Walking.{WalkContext, walk_context, first_ids, new_ids, AreClosedIds, IsUnderWay, IsAtSource, IsOpenAt, IsVisited, AreNextItems, IsTaking, IsTakenPair, HasStepped, IsDifference, Distinguish, AcceptAlike, IsRunEnd};
 ghost use Rattle.walk_under.specs.declared.walk.RunEnd.TheVariants.{Full};
 
 use kat_model::{Items, NoMemory, append};
@@ -199,7 +199,7 @@ fn distinction_at(
     requires test { IsDiagramId diagrams.old test }
     requires left { IsDiagramId diagrams.old steps.now.left.accepts }
     requires right { IsDiagramId diagrams.old steps.now.right.accepts }
-    ensures found { IfOk result (λ found. MatchOption found (AcceptAlike diagrams.old test steps.now) (λ f. TellApart diagrams.old test steps.now f.atom.items)) }
+    ensures found { IfOk result (λ found. MatchOption found (AcceptAlike diagrams.old test steps.now) (λ f. Distinguish diagrams.old test steps.now f.atom.items)) }
     ensures region { IfOk result (λ found. IfSome found (λ f. IsDiagramId diagrams.new f.region)) }
     ensures kept { OnOk result (KeepsFunctions diagrams.old diagrams.new) }
 {
@@ -312,7 +312,7 @@ impl TestedWorklist {
         part: &Part,
     ) -> Result<(), NoMemory>
         requires level { source.now.level + 1 < 2 ^ 64 }
-        requires stands { (s : WalkContext) × (from : EntryParts) × IsAtSource s self.old source.now from × IsNextPart s.store self.old.diagrams from source.now.test source.now.act part.now }
+        requires represents { (s : WalkContext) × (from : EntryParts) × IsAtSource s self.old source.now from × IsNextPart s.store self.old.diagrams from source.now.test source.now.act part.now }
         ensures { OnOk result ((s : WalkContext) (from : EntryParts) → IsAtSource s self.old source.now from
             → IsNextPart s.store self.old.diagrams from source.now.test source.now.act part.now → IsVisited s self.old self.new source.now from (λ atom. IsTrue (value_of self.old.diagrams part.now.region atom))) }
     {
@@ -328,7 +328,7 @@ impl TestedWorklist {
     // Lists pairs until, after the allowed moves of the step, the next sets are joined.
     fn visit(&mut self, alloc: Global, source: &StepSource, items: &[Item]) -> Result<(), NoMemory>
         requires level { source.now.level + 1 < 2 ^ 64 }
-        requires stands { (s : WalkContext) × (from : EntryParts) × IsAtSource s self.old source.now from × AreNextItems s self.old source.now from items.now }
+        requires represents { (s : WalkContext) × (from : EntryParts) × IsAtSource s self.old source.now from × AreNextItems s self.old source.now from items.now }
         ensures { OnOk result ((s : WalkContext) (from : EntryParts) → IsAtSource s self.old source.now from
             → AreNextItems s self.old source.now from items.now → IsVisited s self.old self.new source.now from (λ atom. IsTrue (value_of self.old.diagrams source.now.test atom))) }
     {

@@ -12,7 +12,7 @@ use Rattle.walk_pairs.specs.declared.items.Side.{Side}
 use Rattle.walk_pairs.specs.declared.items.Side.TheVariants.{Left, Right}
 use Rattle.walk_up_to.specs.declared.pair.PairSide.{PairSide}
 use Rattle.walk_up_to.specs.Listings.{IdEntry, set_on, set_across}
-use Rattle.walk_up_to.specs.Indices.{IndexParts, IsWitness, StandsUnder, AreIndexed, pair_side_at}
+use Rattle.walk_up_to.specs.Indices.{IndexParts, IsWitness, IsListedUnder, AreIndexed, pair_side_at}
 use Rattle.walk_up_to.specs.Marks.{are_marked, with_marks, with_side_marked, with_pair_marked, round_marked, rounds_marked, are_reached, Stays, AreClosed, IsClosedAt, IsMade, MarkSetParts, AreAmong, IsMore, unmarked, ListedPairsParts}
 use Rattle.walk_up_to.proofs.MarkSteps.{pair_stays, side_stays, all_stay, reached_stays}
 use Rattle.walk_up_to.proofs.MarkEnds.{marked_held, held_same, all_rounds_closed}
@@ -207,13 +207,13 @@ index_closed x ps m ids indexed among apart under p h = go (are_marked m p.left)
         let parts = and_parts (get_or m k false) (are_marked m ks) e in
         ⊎_elim (λ s. subst (λ j. get_or m j false ≡ true) s parts.0) (λ r. one_marked ks t r parts.1) h
 
-    taken : (side : Side) → StandsUnder x (set_on side p) place.0 side → are_marked m (set_on side p) ≡ true → with_marks m (set_across side p) ≡ m
-    taken side stands e =
+    taken : (side : Side) → IsListedUnder x (set_on side p) place.0 side → are_marked m (set_on side p) ≡ true → with_marks m (set_across side p) ≡ m
+    taken side represents e =
         sym (ap (λ (b : Bool). cond b (with_marks m (set_across side p)) m) e)
         ∙ ⊎_elim
         (λ none. apart (pair_side_at place.0 side None) none.1 p place.1 tt)
         (λ some. under some.0 (pair_side_at place.0 side (Some some.1)) (among some.0 (one_marked (set_on side p) some.0 some.2 e)) some.4 p place.1 some.3)
-        stands
+        represents
 
     go : (b c : Bool) → are_marked m p.left ≡ b → are_marked m p.right ≡ c → with_pair_marked m p ≡ m
     go true c e f = ap (λ (b : Bool). cond b (with_marks m p.right) (cond (are_marked m p.right) (with_marks m p.left) m)) e ∙ taken Left (indexed place.0 p place.1).0 e

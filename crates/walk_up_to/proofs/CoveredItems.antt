@@ -57,36 +57,36 @@ module _ (q : ProblemParts) (store : NodeParts) (r : ListedPairsParts) (done : �
     marked : MarksAre store marks made
     marked = subst (λ n. MarksAre store (saturated_marks n r.pairs ids) made) (sym listed.count) (saturated_set store listed.sound r.pairs ids pair_ids own)
 
-    universal_told : (u : Option ℕ) → ((k : ℕ) → u ≡ Some k → IsTerm store k) → (option_map_or (λ k. get_or marks k false) u false ≡ true) ↔ HasUniversal (option_map (tree_at store) u) made
-    universal_told None there = ((λ e. absurd cc), (λ h. absurd h))
-    universal_told (Some k) there = marked_id store listed.sound marks made wide marked k (there k refl)
+    universal_given : (u : Option ℕ) → ((k : ℕ) → u ≡ Some k → IsTerm store k) → (option_map_or (λ k. get_or marks k false) u false ≡ true) ↔ HasUniversal (option_map (tree_at store) u) made
+    universal_given None there = ((λ e. absurd cc), (λ h. absurd h))
+    universal_given (Some k) there = marked_id store listed.sound marks made wide marked k (there k refl)
 
     -- targets are reached by ids if and only if their terms are reached
-    pub reached_told : (targets : List ℕ) → AreIds store targets → (reaches_targets r ids targets ≡ true) ↔ IsReached (closed q).universal listed_pairs (terms_of store ids) (terms_of store targets)
-    reached_told targets there = (
-      (λ e. ⊎_elim (λ u. inr (subst (λ o. HasUniversal o made) listed.universal (told.0 u))) (λ m. inl (all.0 m)) (or_cases any (are_marked marks targets) e)),
-      (λ h. ⊎_elim (λ m. or_right any (are_marked marks targets) (all.1 m)) (λ u. or_left any (are_marked marks targets) (told.1 (subst (λ o. HasUniversal o made) (sym listed.universal) u))) h),
+    pub reached_given : (targets : List ℕ) → AreIds store targets → (reaches_targets r ids targets ≡ true) ↔ IsReached (closed q).universal listed_pairs (terms_of store ids) (terms_of store targets)
+    reached_given targets there = (
+      (λ e. ⊎_elim (λ u. inr (subst (λ o. HasUniversal o made) listed.universal (given.0 u))) (λ m. inl (all.0 m)) (or_cases any (are_marked marks targets) e)),
+      (λ h. ⊎_elim (λ m. or_right any (are_marked marks targets) (all.1 m)) (λ u. or_left any (are_marked marks targets) (given.1 (subst (λ o. HasUniversal o made) (sym listed.universal) u))) h),
     )
       where
         any : Bool
         any = option_map_or (λ k. get_or marks k false) r.universal false
 
-        told : (any ≡ true) ↔ HasUniversal (option_map (tree_at store) r.universal) made
-        told = universal_told r.universal (λ k e. (listed.universal_id k e).is_id)
+        given : (any ≡ true) ↔ HasUniversal (option_map (tree_at store) r.universal) made
+        given = universal_given r.universal (λ k e. (listed.universal_id k e).is_id)
 
         all : (are_marked marks targets ≡ true) ↔ IsSubset (terms_of store targets) made
         all = all_marked store listed.sound marks made wide marked targets there
 
   module _ (ends : Ends) (items : List Item) (own : AreTargetIds store items) where
-    pub side_told : (side other : Side) → (covers_on r ends items side other ≡ true) ↔ IsReached (closed q).universal listed_pairs (terms_of store (targets_under ends.always other items)) (terms_of store (open_targets ends.never ends.always side items))
-    side_told side other = reached_told (targets_under ends.always other items) (under_ids store ends.always other items own) (open_targets ends.never ends.always side items) (open_ids store ends.never ends.always side items own)
+    pub side_given : (side other : Side) → (covers_on r ends items side other ≡ true) ↔ IsReached (closed q).universal listed_pairs (terms_of store (targets_under ends.always other items)) (terms_of store (open_targets ends.never ends.always side items))
+    side_given side other = reached_given (targets_under ends.always other items) (under_ids store ends.always other items own) (open_targets ends.never ends.always side items) (open_ids store ends.never ends.always side items own)
 
     abbrev pub CoversTerms : Type 0
     CoversTerms = IsCovered (closed q).universal listed_pairs (terms_of store (targets_under ends.always Left items)) (terms_of store (targets_under ends.always Right items)) (terms_of store (open_targets ends.never ends.always Left items)) (terms_of store (open_targets ends.never ends.always Right items))
 
     -- items are covered by ids if and only if their terms are covered
-    pub covers_told : (covers r ends items ≡ true) ↔ CoversTerms
-    covers_told = (
-      (λ e. let parts = and_parts (covers_on r ends items Left Right) (covers_on r ends items Right Left) e in record { lefts = (side_told Left Right).0 parts.0; rights = (side_told Right Left).0 parts.1 }),
-      (λ c. and_from (covers_on r ends items Left Right) (covers_on r ends items Right Left) ((side_told Left Right).1 c.lefts) ((side_told Right Left).1 c.rights)),
+    pub covers_given : (covers r ends items ≡ true) ↔ CoversTerms
+    covers_given = (
+      (λ e. let parts = and_parts (covers_on r ends items Left Right) (covers_on r ends items Right Left) e in record { lefts = (side_given Left Right).0 parts.0; rights = (side_given Right Left).0 parts.1 }),
+      (λ c. and_from (covers_on r ends items Left Right) (covers_on r ends items Right Left) ((side_given Left Right).1 c.lefts) ((side_given Right Left).1 c.rights)),
     )

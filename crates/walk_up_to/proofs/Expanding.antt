@@ -24,7 +24,7 @@ use Rattle.walk_pairs.specs.IdSets.{IsIdSet}
 use Rattle.walk_up_to.specs.Marks.{ListedPairsParts}
 use Rattle.walk_pairs.specs.Items.{AreItemsOf, AreLedTo}
 use Rattle.walk_up_to.specs.Cases.{Extends}
-use Rattle.walk_up_to.specs.Working.IdWalks.{AreListedOf, StandFor, AreVisited, Visits, IsPastLimit, PassesLimit}
+use Rattle.walk_up_to.specs.Working.IdWalks.{AreListedOf, Represent, AreVisited, Visits, IsPastLimit, PassesLimit}
 use Rattle.walk_up_to.specs.Working.Walking.{IsUnderWay, AreStepsAt, IsExpanded}
 use Rattle.walk_pairs.specs.declared.items.Item.{Item}
 use Rattle.walk_up_to.specs.declared.branching.StepSource.{StepSource}
@@ -36,10 +36,10 @@ use Rattle.walk_up_to.proofs.Visiting.{grows_then, grown_at, grown_after}
 
 -- ---- the items of an action
 
-items_stand : (q : ProblemParts) (store : NodeParts) (d : DiagramsParts) (p : SetPair) (left right : Steps) (act : ℕ) (items : List Item) (decided : List (Option Bool)) → d.tests ≡ q.tests
+items_represent : (q : ProblemParts) (store : NodeParts) (d : DiagramsParts) (p : SetPair) (left right : Steps) (act : ℕ) (items : List Item) (decided : List (Option Bool)) → d.tests ≡ q.tests
     → IsStepsOf store d p.left left → IsStepsOf store d p.right right → AreItemsOf d left.moves.items right.moves.items act items → AreLedTo left.moves.items right.moves.items items
-    → StandFor q store d items p act decided
-items_stand q store d p left right act items decided tests on_left on_right are led_items = record {
+    → Represent q store d items p act decided
+items_represent q store d p left right act items decided tests on_left on_right are led_items = record {
   targets = λ i h.
       subst (λ n. IsTermOf store n i.target) tests
       (⊎_elim (target_term store d.tests left.moves.items on_left.targets i.target) (target_term store d.tests right.moves.items on_right.targets i.target) (led_items i h));
@@ -117,9 +117,9 @@ module _ (actions : ℕ) (old : Worklist) (place : ℕ) (steps : BothSteps) (act
       tests : d.tests ≡ q.tests
       tests = kept.tests ∙ under.tests
 
-      stands : StandFor q store d items (pair_of store e) source.act (replicate d.tests None)
-      stands =
-          items_stand q store d (pair_of store e) steps.left steps.right source.act items (replicate d.tests None) tests
+      represents : Represent q store d items (pair_of store e) source.act (replicate d.tests None)
+      represents =
+          items_represent q store d (pair_of store e) steps.left steps.right source.act items (replicate d.tests None) tests
           (IsStepsBy-kept store store old.diagrams d (Keeps-functions store old.diagrams d kept) _ _ steps.left steps_at.left)
           (IsStepsBy-kept store store old.diagrams d (Keeps-functions store old.diagrams d kept) _ _ steps.right steps_at.right)
           are led_items
@@ -146,7 +146,7 @@ module _ (actions : ℕ) (old : Worklist) (place : ℕ) (steps : BothSteps) (act
         u : AreVisited q store source (pair_of store e) (replicate d.tests None) mid new
         u =
             visits q store (entry_of store e) (tests q store count e under at steps_at) (acts_below q store count e under at steps_at) (listed_there q store count e under at steps_at)
-            (there q store count e under at steps_at) (stands q store count e under at steps_at)
+            (there q store count e under at steps_at) (represents q store count e under at steps_at)
 
         all : (a : ℕ) → Has (acts ++ source.act ∷ []) a → AreCongruentAfter q (pairs_of (entries_of store new.pairs)) (pair_of store e) a
         all a h =
@@ -165,7 +165,7 @@ module _ (actions : ℕ) (old : Worklist) (place : ℕ) (steps : BothSteps) (act
     steps_pass limit passes q store e count under at steps_at =
         subst (IsPastLimit q) limit
         (passes q store (entry_of store e) (tests q store count e under at steps_at) (acts_below q store count e under at steps_at) (listed_there q store count e under at steps_at)
-        (there q store count e under at steps_at) (stands q store count e under at steps_at))
+        (there q store count e under at steps_at) (represents q store count e under at steps_at))
 
   -- all actions
   pub steps_all : (new : Worklist) → KeepsFunctions old.diagrams new.diagrams → new.derivatives ≡ old.derivatives → ((a : ℕ) → a < actions → Has acts a) → StepsBy actions old new.listed place steps acts

@@ -59,7 +59,7 @@ module _ (c d e : DiagramsParts) (more : KeepsFunctions d e) (test : ℕ) (value
       ascending = gathered.are.ascending;
     };
     targets = gathered.targets;
-    told = λ side atom fits. chosen-kept d e more side new atom (λ i h. guard_id d side i (gathered.are.lefts i h) (gathered.are.rights i h)) ∙ gathered.told side atom (fits ∙ more.tests);
+    given = λ side atom fits. chosen-kept d e more side new atom (λ i h. guard_id d side i (gathered.are.lefts i h) (gathered.are.rights i h)) ∙ gathered.given side atom (fits ∙ more.tests);
     independent = λ k free i h.
         let before = gathered.independent k free i h in (
           independent-kept i.left k (gathered.are.lefts i h) before.0,
@@ -115,9 +115,9 @@ module _ (c e : DiagramsParts) (tests : e.tests ≡ c.tests) (test : ℕ) (value
         (λ r. target_in_front t (gathered.targets t r))
         (λ r. ⊎_elim (λ s. subst (Has (targets_of (take (i + 1) items))) (sym same ∙ s) (map_has (λ (x : Item). x.target) (take (i + 1) items) item own)) absurd r)
         (has_append (targets_of new) (j.target ∷ []) t (subst (λ ts. Has ts t) new_targets h));
-    told = λ side atom fits.
+    given = λ side atom fits.
         chosen-append e side new (j ∷ []) atom
-        ∙ ap (λ l. l ++ chosen e side (j ∷ []) atom) (gathered.told side atom fits)
+        ∙ ap (λ l. l ++ chosen e side (j ∷ []) atom) (gathered.given side atom fits)
         ∙ ap (λ l. chosen c side (take i items) (set atom test value) ++ l) (last side atom fits)
         ∙ sym (chosen_front side (set atom test value));
     independent = λ k free x h. ⊎_elim
@@ -149,9 +149,9 @@ module _ (c e : DiagramsParts) (tests : e.tests ≡ c.tests) (test : ℕ) (value
   with_none nowhere = record {
     are = gathered.are;
     targets = λ t h. target_in_front t (gathered.targets t h);
-    told = λ side atom fits.
+    given = λ side atom fits.
         let none : chosen c side (item ∷ []) (set atom test value) ≡ [] = ap (λ b. cond b (item.target ∷ []) []) (nowhere side atom fits) in
-        gathered.told side atom fits
+        gathered.given side atom fits
         ∙ sym (append-nil (chosen c side (take i items) (set atom test value)))
         ∙ ap (λ l. chosen c side (take i items) (set atom test value) ++ l) (sym none)
         ∙ sym (chosen_front side (set atom test value));

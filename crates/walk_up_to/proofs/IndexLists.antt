@@ -7,7 +7,7 @@ use Rattle.walk_pairs.specs.declared.items.Side.{Side}
 use Rattle.walk_pairs.specs.declared.items.Side.TheVariants.{Left, Right}
 use Rattle.walk_up_to.specs.declared.pair.PairSide.{PairSide}
 use Rattle.walk_up_to.specs.Listings.{IdEntry}
-use Rattle.walk_up_to.specs.Indices.{IndexParts, StandsUnder, KeepsPlaces, AreIndexed, pair_side_at}
+use Rattle.walk_up_to.specs.Indices.{IndexParts, IsListedUnder, KeepsPlaces, AreIndexed, pair_side_at}
 
 -- ---- an additional set
 
@@ -18,13 +18,13 @@ pub pushed_keeps : (xs ys : List PairSide) (p : PairSide) → ys ≡ xs ++ p ∷
 pushed_keeps xs ys p is k h = subst (λ zs. Has zs k) (sym is) (has_left xs (p ∷ []) k h)
 
 -- a set indexed under one of its members
-pub stands_member : (x : IndexParts) (ids : List ℕ) (t w n k : ℕ) (side : Side) → Has ids t → Has ids w → n ≡ t → Has (get_or x.under n []) (pair_side_at k side (Some w)) → StandsUnder x ids k side
-stands_member x ids t w n k side member witness same h = inr (t, w, member, witness, subst (λ i. Has (get_or x.under i []) (pair_side_at k side (Some w))) same h)
+pub represents_member : (x : IndexParts) (ids : List ℕ) (t w n k : ℕ) (side : Side) → Has ids t → Has ids w → n ≡ t → Has (get_or x.under n []) (pair_side_at k side (Some w)) → IsListedUnder x ids k side
+represents_member x ids t w n k side member witness same h = inr (t, w, member, witness, subst (λ i. Has (get_or x.under i []) (pair_side_at k side (Some w))) same h)
 
 -- ---- indices
 
-stands_kept : (x y : IndexParts) (ids : List ℕ) (k : ℕ) (side : Side) → KeepsPlaces x y → StandsUnder x ids k side → StandsUnder y ids k side
-stands_kept x y ids k side keeps s =
+represents_kept : (x y : IndexParts) (ids : List ℕ) (k : ℕ) (side : Side) → KeepsPlaces x y → IsListedUnder x ids k side → IsListedUnder y ids k side
+represents_kept x y ids k side keeps s =
     ⊎_elim
     (λ none. inl (none.0, keeps.apart (pair_side_at k side None) none.1))
     (λ some. inr (some.0, some.1, some.2, some.3, keeps.under some.0 (pair_side_at k side (Some some.1)) some.4))
@@ -33,14 +33,14 @@ stands_kept x y ids k side keeps s =
 pub indexed_kept : (x y : IndexParts) (ps : List IdEntry) → KeepsPlaces x y → AreIndexed x ps → AreIndexed y ps
 indexed_kept x y ps keeps indexed k e at =
     let both = indexed k e at in
-    (stands_kept x y e.left k Left keeps both.0, stands_kept x y e.right k Right keeps both.1)
+    (represents_kept x y e.left k Left keeps both.0, represents_kept x y e.right k Right keeps both.1)
 
 -- an additional pair
-pub indexed_more : (x y : IndexParts) (ps : List IdEntry) (p : IdEntry) → AreIndexed x ps → KeepsPlaces x y → StandsUnder y p.left (length ps) Left → StandsUnder y p.right (length ps) Right → AreIndexed y (ps ++ p ∷ [])
+pub indexed_more : (x y : IndexParts) (ps : List IdEntry) (p : IdEntry) → AreIndexed x ps → KeepsPlaces x y → IsListedUnder y p.left (length ps) Left → IsListedUnder y p.right (length ps) Right → AreIndexed y (ps ++ p ∷ [])
 indexed_more x y ps p indexed keeps left right k e at =
     ⊎_elim
     (λ old. indexed_kept x y ps keeps indexed k e old)
     (λ new.
-    subst (λ q. StandsUnder y q.left k Left × StandsUnder y q.right k Right) new.1
-    (subst (λ i. StandsUnder y p.left i Left × StandsUnder y p.right i Right) (sym new.0) (left, right)))
+    subst (λ q. IsListedUnder y q.left k Left × IsListedUnder y q.right k Right) new.1
+    (subst (λ i. IsListedUnder y p.left i Left × IsListedUnder y p.right i Right) (sym new.0) (left, right)))
     (slice_get_last ps p k e at)

@@ -23,14 +23,14 @@ use Rattle.walk_pairs.specs.Items.{guard_of, targets_under, open_targets}
 use Rattle.walk_up_to.specs.Covers.{covers}
 use Rattle.walk_pairs.specs.Items.{AreEnds}
 use Rattle.walk_up_to.specs.Cases.{Extends, least_of, AreConstant, IsCase}
-use Rattle.walk_up_to.specs.Working.IdWalks.{AreListedOf, StandFor, AreVisited, Visits, PassesLimit}
+use Rattle.walk_up_to.specs.Working.IdWalks.{AreListedOf, Represent, AreVisited, Visits, PassesLimit}
 use Rattle.walk_pairs.specs.declared.items.Item.{Item}
 use Rattle.walk_pairs.specs.declared.items.Ends.{Ends}
 use Rattle.walk_pairs.specs.declared.items.Side.{Side}
 use Rattle.walk_pairs.specs.declared.items.Side.TheVariants.{Left, Right}
 use Rattle.walk_up_to.specs.declared.branching.StepSource.{StepSource}
 use Rattle.walk_pairs.proofs.ItemTargets.{under_where, has_where, where_ascending}
-use Rattle.walk_up_to.proofs.CoveredItems.{AreTargetIds, covers_told}
+use Rattle.walk_up_to.proofs.CoveredItems.{AreTargetIds, covers_given}
 use Rattle.walk_up_to.proofs.CaseItems.{terms_within, are_between, open_sure, same_sure}
 use Rattle.walk_up_to.proofs.Visiting.{visited_covered, visited_listed}
 use Rattle.walk_up_to.proofs.PairLimits.{room_for_one, full_limit}
@@ -50,20 +50,20 @@ least_extends (None ∷ ds) = least_extends ds
 least_extends (Some b ∷ ds) = (refl, least_extends ds)
 
 module _ (d : DiagramsParts) (source : StepSource) (decided : List (Option Bool)) (items : List Item) (ends : Ends) (are_ends : AreEnds d ends) where
-  target_ids : (q : ProblemParts) (store : NodeParts) (from : Entry) → StandFor q store d items from.pair source.act decided → AreTargetIds store items
-  target_ids q store from stands i h = (stands.targets i h).is_id
+  target_ids : (q : ProblemParts) (store : NodeParts) (from : Entry) → Represent q store d items from.pair source.act decided → AreTargetIds store items
+  target_ids q store from represents i h = (represents.targets i h).is_id
 
   -- a covered case lists nothing
   pub visits_covered : (r : ListedPairsParts) → covers r ends items ≡ true → Visits d source decided items r r
-  visits_covered r e q store from tests acts listed at stands = record {
+  visits_covered r e q store from tests acts listed at represents = record {
     listed = listed;
     visited =
         visited_covered q source.place from.pair source.act (entries_of store r.pairs) (Extends decided) (terms_of store (targets_under ends.always Left items)) (terms_of store (targets_under ends.always Right items)) (terms_of store (open_targets ends.never ends.always Left items)) (terms_of store (open_targets ends.never ends.always Right items)) listed.walk
         (λ atom wide c. (
-          are_between d ends are_ends items atom (wide ∙ sym tests) Left Right (λ i. refl) (λ i s. s) store (set_next from.pair.left atom source.act) (set_next from.pair.right atom source.act) (stands.lefts atom wide c) (stands.rights atom wide c),
-          are_between d ends are_ends items atom (wide ∙ sym tests) Right Left (λ i. refl) (λ i s. sym s) store (set_next from.pair.right atom source.act) (set_next from.pair.left atom source.act) (stands.rights atom wide c) (stands.lefts atom wide c),
+          are_between d ends are_ends items atom (wide ∙ sym tests) Left Right (λ i. refl) (λ i s. s) store (set_next from.pair.left atom source.act) (set_next from.pair.right atom source.act) (represents.lefts atom wide c) (represents.rights atom wide c),
+          are_between d ends are_ends items atom (wide ∙ sym tests) Right Left (λ i. refl) (λ i s. sym s) store (set_next from.pair.right atom source.act) (set_next from.pair.left atom source.act) (represents.rights atom wide c) (represents.lefts atom wide c),
         ))
-        ((covers_told q store r source.place listed ends items (target_ids q store from stands)).0 e);
+        ((covers_given q store r source.place listed ends items (target_ids q store from represents)).0 e);
   }
 
   abbrev pub leaf_origin : StepOrigin
@@ -74,12 +74,12 @@ module _ (d : DiagramsParts) (source : StepSource) (decided : List (Option Bool)
 
   -- a case that is not covered lists its pair
   module _ (r : ListedPairsParts) (is_case : IsCase d decided items) (constant : AreConstant d items) (reduced : IsReduced d) (uncovered : covers r ends items ≡ false) where
-    module _ (q : ProblemParts) (store : NodeParts) (from : Entry) (tests : d.tests ≡ q.tests) (acts : source.act < q.actions) (listed : AreListedOf q store r source.place) (at : slice_get (entries_of store r.pairs) source.place ≡ Some from) (stands : StandFor q store d items from.pair source.act decided) where
+    module _ (q : ProblemParts) (store : NodeParts) (from : Entry) (tests : d.tests ≡ q.tests) (acts : source.act < q.actions) (listed : AreListedOf q store r source.place) (at : slice_get (entries_of store r.pairs) source.place ≡ Some from) (represents : Represent q store d items from.pair source.act decided) where
       side_set : (side : Side) → IsIdSet store q.tests (targets_under ends.always side items)
       side_set side = record {
         there = λ k h.
             let f = has_where (λ j. nat_eq (guard_of side j) ends.always) items k (subst (λ ts. Has ts k) (under_where ends.always side items) h) in
-            subst (IsTermOf store q.tests) f.3 (stands.targets f.0 f.1);
+            subst (IsTermOf store q.tests) f.3 (represents.targets f.0 f.1);
         ascending = subst (λ ts. are_ascending ts ≡ true) (sym (under_where ends.always side items)) (where_ascending (λ j. nat_eq (guard_of side j) ends.always) items is_case.are.ascending);
       }
 
@@ -108,15 +108,15 @@ module _ (d : DiagramsParts) (source : StepSource) (decided : List (Option Bool)
       with_pair =
           visited_listed q (entries_of store r.pairs) source.place from (pair_of store leaf_entry) leaf_origin (Extends decided) (terms_of store (open_targets ends.never ends.always Left items)) (terms_of store (open_targets ends.never ends.always Right items)) listed.walk at refl least_wide acts (least_extends decided)
           (λ atom wide c. (
-            same_sure d ends are_ends items atom (wide ∙ sym tests) reduced Left (ids Left) (constants Left) store (set_next from.pair.left atom source.act) (stands.lefts atom wide c),
-            same_sure d ends are_ends items atom (wide ∙ sym tests) reduced Right (ids Right) (constants Right) store (set_next from.pair.right atom source.act) (stands.rights atom wide c),
+            same_sure d ends are_ends items atom (wide ∙ sym tests) reduced Left (ids Left) (constants Left) store (set_next from.pair.left atom source.act) (represents.lefts atom wide c),
+            same_sure d ends are_ends items atom (wide ∙ sym tests) reduced Right (ids Right) (constants Right) store (set_next from.pair.right atom source.act) (represents.rights atom wide c),
           ))
           (opens Left)
           (opens Right)
-          (λ c. true≢false (sym ((covers_told q store r source.place listed ends items (target_ids q store from stands)).1 c) ∙ uncovered))
+          (λ c. true≢false (sym ((covers_given q store r source.place listed ends items (target_ids q store from represents)).1 c) ∙ uncovered))
 
   module _ (r new : ListedPairsParts) (is_case : IsCase d decided items) (constant : AreConstant d items) (reduced : IsReduced d) (uncovered : covers r ends items ≡ false) (pairs : new.pairs ≡ r.pairs ++ leaf_entry ∷ []) (universal : new.universal ≡ r.universal) (count : new.count ≡ r.count) (limit : new.limit ≡ r.limit) (room : is_full r ≡ false) where
-    module _ (q : ProblemParts) (store : NodeParts) (from : Entry) (tests : d.tests ≡ q.tests) (acts : source.act < q.actions) (listed : AreListedOf q store r source.place) (at : slice_get (entries_of store r.pairs) source.place ≡ Some from) (stands : StandFor q store d items from.pair source.act decided) where
+    module _ (q : ProblemParts) (store : NodeParts) (from : Entry) (tests : d.tests ≡ q.tests) (acts : source.act < q.actions) (listed : AreListedOf q store r source.place) (at : slice_get (entries_of store r.pairs) source.place ≡ Some from) (represents : Represent q store d items from.pair source.act decided) where
       more : entries_of store r.pairs ++ entry_of store leaf_entry ∷ [] ≡ entries_of store new.pairs
       more = sym (entries_append store r.pairs (leaf_entry ∷ [])) ∙ sym (ap (entries_of store) pairs)
 
@@ -128,13 +128,13 @@ module _ (d : DiagramsParts) (source : StepSource) (decided : List (Option Bool)
         listed = record {
           sound = listed.sound;
           count = count ∙ listed.count;
-          sets = subst (AreIdSets store q.tests) (sym pairs) (sets r is_case constant reduced uncovered q store from tests acts listed at stands);
+          sets = subst (AreIdSets store q.tests) (sym pairs) (sets r is_case constant reduced uncovered q store from tests acts listed at represents);
           universal = ap (option_map (tree_at store)) universal ∙ listed.universal;
           universal_id = λ u e. listed.universal_id u (sym universal ∙ e);
           few = subst (λ o. IsWithinLimit o (length new.pairs)) (sym limit) (subst (IsWithinLimit r.limit) (sym longer) (room_for_one r.limit (length r.pairs) room));
-          walk = subst (λ es. IsWalk q es source.place) more (with_pair r is_case constant reduced uncovered q store from tests acts listed at stands).walk;
+          walk = subst (λ es. IsWalk q es source.place) more (with_pair r is_case constant reduced uncovered q store from tests acts listed at represents).walk;
         };
-        visited = subst (λ es. IsVisited q (entries_of store r.pairs) es source.place from.pair source.act (Extends decided)) more (with_pair r is_case constant reduced uncovered q store from tests acts listed at stands);
+        visited = subst (λ es. IsVisited q (entries_of store r.pairs) es source.place from.pair source.act (Extends decided)) more (with_pair r is_case constant reduced uncovered q store from tests acts listed at represents);
       }
 
     pub visits_listed : Visits d source decided items r new
@@ -142,7 +142,7 @@ module _ (d : DiagramsParts) (source : StepSource) (decided : List (Option Bool)
 
   -- if the list is full, a case that is not covered needs more pairs than may be listed
   pub leaf_passes : (r : ListedPairsParts) → IsCase d decided items → AreConstant d items → IsReduced d → covers r ends items ≡ false → is_full r ≡ true → PassesLimit d source decided items r
-  leaf_passes r is_case constant reduced uncovered full q store from tests acts listed at stands =
+  leaf_passes r is_case constant reduced uncovered full q store from tests acts listed at represents =
       let f = full_limit r.limit (length r.pairs) full in
       let es = entries_of store r.pairs ++ entry_of store leaf_entry ∷ [] in
       let more : length es ≡ length r.pairs + 1 = length-append (entries_of store r.pairs) (entry_of store leaf_entry ∷ []) ∙ ap (λ n. n + 1) (length-map r.pairs (entry_of store)) in
@@ -151,6 +151,6 @@ module _ (d : DiagramsParts) (source : StepSource) (decided : List (Option Bool)
         limited = f.1;
         entries = es;
         done = source.place;
-        walk = (with_pair r is_case constant reduced uncovered q store from tests acts listed at stands).walk;
+        walk = (with_pair r is_case constant reduced uncovered q store from tests acts listed at represents).walk;
         many = omega (arith, more, f.2);
       }

@@ -18,7 +18,7 @@ use Rattle.walk_up_to.specs.Marks.{ListedPairsParts}
 use Rattle.walk_pairs.specs.Items.{guard_of, chosen, AreItems}
 use Rattle.walk_pairs.specs.Items.{AreEnds}
 use Rattle.walk_up_to.specs.Cases.{Extends, IsOpen, open_count, IsNextTest, IsCase, AreItemsWith}
-use Rattle.walk_up_to.specs.Working.IdWalks.{StandFor, Visits, VisitsInTurn, IsPastLimit, PassesLimit, PassesInTurn}
+use Rattle.walk_up_to.specs.Working.IdWalks.{Represent, Visits, VisitsInTurn, IsPastLimit, PassesLimit, PassesInTurn}
 use Rattle.walk_pairs.specs.declared.items.Item.{Item}
 use Rattle.walk_pairs.specs.declared.items.Ends.{Ends}
 use Rattle.walk_pairs.specs.declared.items.Side.{Side}
@@ -98,44 +98,44 @@ module _ (d e : DiagramsParts) (kept : KeepsFunctions d e) where
   chosen_kept side [] atom own = refl
   chosen_kept side (i ∷ is) atom own = ap₂ (λ (b : Bool) (ts : List ℕ). cond b (i.target ∷ ts) ts) (kept.values (guard_of side i) (own i (inl refl)) atom) (chosen_kept side is atom (λ j h. own j (inr h)))
 
-  stands_kept : (q : ProblemParts) (store : NodeParts) (items : List Item) (p : SetPair) (a : ℕ) (decided : List (Option Bool)) → AreItems d items → StandFor q store d items p a decided → StandFor q store e items p a decided
-  stands_kept q store items p a decided are stands = record {
-    targets = stands.targets;
-    lefts = λ atom wide c. subst (λ ts. SameMembers (set_next p.left atom a) (terms_of store ts)) (sym (chosen_kept Left items atom are.lefts)) (stands.lefts atom wide c);
-    rights = λ atom wide c. subst (λ ts. SameMembers (set_next p.right atom a) (terms_of store ts)) (sym (chosen_kept Right items atom are.rights)) (stands.rights atom wide c);
+  represents_kept : (q : ProblemParts) (store : NodeParts) (items : List Item) (p : SetPair) (a : ℕ) (decided : List (Option Bool)) → AreItems d items → Represent q store d items p a decided → Represent q store e items p a decided
+  represents_kept q store items p a decided are represents = record {
+    targets = represents.targets;
+    lefts = λ atom wide c. subst (λ ts. SameMembers (set_next p.left atom a) (terms_of store ts)) (sym (chosen_kept Left items atom are.lefts)) (represents.lefts atom wide c);
+    rights = λ atom wide c. subst (λ ts. SameMembers (set_next p.right atom a) (terms_of store ts)) (sym (chosen_kept Right items atom are.rights)) (represents.rights atom wide c);
   }
 
 -- ---- the parts of a case
 
 -- if the items represent the next sets at the atoms of one case, the other items do at those of another case
 abbrev pub Carries : (c : DiagramsParts) (items : List Item) (decided : List (Option Bool)) (d : DiagramsParts) (others : List Item) (more : List (Option Bool)) → Type 0
-Carries c items decided d others more = (q : ProblemParts) (store : NodeParts) (p : SetPair) (a : ℕ) → c.tests ≡ q.tests → StandFor q store c items p a decided → StandFor q store d others p a more
+Carries c items decided d others more = (q : ProblemParts) (store : NodeParts) (p : SetPair) (a : ℕ) → c.tests ≡ q.tests → Represent q store c items p a decided → Represent q store d others p a more
 
 module _ (c d : DiagramsParts) (items others : List Item) (decided : List (Option Bool)) (test : ℕ) (value : Bool) (parts : AreItemsWith c d items test value others) (undecided : IsOpen decided test) (same : d.tests ≡ c.tests) where
   side_same : (side : Side) (atom : Atom) → length atom ≡ d.tests → get_or atom test false ≡ value → chosen c side items atom ≡ chosen d side others atom
-  side_same side atom fits v = ap (chosen c side items) (sym (set-get_or atom test false) ∙ ap (set atom test) v) ∙ sym (parts.told side atom fits)
+  side_same side atom fits v = ap (chosen c side items) (sym (set-get_or atom test false) ∙ ap (set atom test) v) ∙ sym (parts.given side atom fits)
 
-  part_stands : Carries c items decided d others (set decided test (Some value))
-  part_stands q store p a tests stands = record {
+  part_represents : Carries c items decided d others (set decided test (Some value))
+  part_represents q store p a tests represents = record {
     targets = λ i h.
         let f = has_map (λ (x : Item). x.target) items i.target (parts.targets i.target (map_has (λ (x : Item). x.target) others i h)) in
-        subst (IsTermOf store q.tests) f.2 (stands.targets f.0 f.1);
+        subst (IsTermOf store q.tests) f.2 (represents.targets f.0 f.1);
     lefts = λ atom wide x.
         let w = extends_without decided atom test value undecided x in
-        subst (λ ts. SameMembers (set_next p.left atom a) (terms_of store ts)) (side_same Left atom (wide ∙ sym (same ∙ tests)) w.1) (stands.lefts atom wide w.0);
+        subst (λ ts. SameMembers (set_next p.left atom a) (terms_of store ts)) (side_same Left atom (wide ∙ sym (same ∙ tests)) w.1) (represents.lefts atom wide w.0);
     rights = λ atom wide x.
         let w = extends_without decided atom test value undecided x in
-        subst (λ ts. SameMembers (set_next p.right atom a) (terms_of store ts)) (side_same Right atom (wide ∙ sym (same ∙ tests)) w.1) (stands.rights atom wide w.0);
+        subst (λ ts. SameMembers (set_next p.right atom a) (terms_of store ts)) (side_same Right atom (wide ∙ sym (same ∙ tests)) w.1) (represents.rights atom wide w.0);
   }
 
 -- the part that is made first, and the part that is made after it
 pub first_carries : (c d e : DiagramsParts) (items others : List Item) (decided : List (Option Bool)) (test : ℕ) (value : Bool) → AreItemsWith c d items test value others → IsOpen decided test → KeepsFunctions c d → KeepsFunctions d e → Carries c items decided e others (set decided test (Some value))
-first_carries c d e items others decided test value parts undecided k l q store p a tests stands =
-    stands_kept d e l q store others p a (set decided test (Some value)) parts.are (part_stands c d items others decided test value parts undecided k.tests q store p a tests stands)
+first_carries c d e items others decided test value parts undecided k l q store p a tests represents =
+    represents_kept d e l q store others p a (set decided test (Some value)) parts.are (part_represents c d items others decided test value parts undecided k.tests q store p a tests represents)
 
 pub second_carries : (b c d e : DiagramsParts) (items others : List Item) (decided : List (Option Bool)) (test : ℕ) (value : Bool) → AreItems b items → KeepsFunctions b c → AreItemsWith c d items test value others → IsOpen decided test → KeepsFunctions c d → KeepsFunctions d e → Carries b items decided e others (set decided test (Some value))
-second_carries b c d e items others decided test value are j parts undecided k l q store p a tests stands =
-    first_carries c d e items others decided test value parts undecided k l q store p a (j.tests ∙ tests) (stands_kept b c j q store items p a decided are stands)
+second_carries b c d e items others decided test value are j parts undecided k l q store p a tests represents =
+    first_carries c d e items others decided test value parts undecided k l q store p a (j.tests ∙ tests) (represents_kept b c j q store items p a decided are represents)
 
 module _ (c : DiagramsParts) (source : StepSource) (decided : List (Option Bool)) (items : List Item) (test : ℕ) (undecided : IsOpen decided test) (value : Bool) where
   either : (x y : Bool) (atom : Atom) → Extends decided atom → get_or atom test false ≡ y → Extends (set decided test (Some x)) atom ⊎ Extends (set decided test (Some (not x))) atom
@@ -150,9 +150,9 @@ module _ (c : DiagramsParts) (source : StepSource) (decided : List (Option Bool)
       → Visits d source (set decided test (Some value)) one old middle
       → Visits e source (set decided test (Some (not value))) other middle new
       → Visits c source decided items old new
-  visits_both d e one other old middle new m n first_stands second_stands first second q store from tests acts listed at stands =
-      let u = first q store from (m ∙ tests) acts listed at (first_stands q store from.pair source.act tests stands) in
-      let v = second q store from (n ∙ tests) acts u.listed (grown_at (entries_of store old.pairs) (entries_of store middle.pairs) source.place from u.visited.grows at) (second_stands q store from.pair source.act tests stands) in
+  visits_both d e one other old middle new m n first_represents second_represents first second q store from tests acts listed at represents =
+      let u = first q store from (m ∙ tests) acts listed at (first_represents q store from.pair source.act tests represents) in
+      let v = second q store from (n ∙ tests) acts u.listed (grown_at (entries_of store old.pairs) (entries_of store middle.pairs) source.place from u.visited.grows at) (second_represents q store from.pair source.act tests represents) in
       record {
         listed = v.listed;
         visited =
@@ -163,8 +163,8 @@ module _ (c : DiagramsParts) (source : StepSource) (decided : List (Option Bool)
 
 -- a case needs more pairs than may be listed if the part that is visited first or the other part does
 pub passes_first : (c d : DiagramsParts) (source : StepSource) (decided more : List (Option Bool)) (items one : List Item) (old : ListedPairsParts) → d.tests ≡ c.tests → Carries c items decided d one more → PassesLimit d source more one old → PassesLimit c source decided items old
-passes_first c d source decided more items one old same carries passes q store from tests acts listed at stands =
-    passes q store from (same ∙ tests) acts listed at (carries q store from.pair source.act tests stands)
+passes_first c d source decided more items one old same carries passes q store from tests acts listed at represents =
+    passes q store from (same ∙ tests) acts listed at (carries q store from.pair source.act tests represents)
 
 pub passes_second : (c d e : DiagramsParts) (source : StepSource) (decided more others : List (Option Bool)) (items one other : List Item) (old middle : ListedPairsParts) → d.tests ≡ c.tests → e.tests ≡ c.tests
     → Carries c items decided d one more
@@ -173,10 +173,10 @@ pub passes_second : (c d e : DiagramsParts) (source : StepSource) (decided more 
     → middle.limit ≡ old.limit
     → PassesLimit e source others other middle
     → PassesLimit c source decided items old
-passes_second c d e source decided more others items one other old middle m n first_carries second_carries first limit passes q store from tests acts listed at stands =
-    let u = first q store from (m ∙ tests) acts listed at (first_carries q store from.pair source.act tests stands) in
+passes_second c d e source decided more others items one other old middle m n first_carries second_carries first limit passes q store from tests acts listed at represents =
+    let u = first q store from (m ∙ tests) acts listed at (first_carries q store from.pair source.act tests represents) in
     let there = grown_at (entries_of store old.pairs) (entries_of store middle.pairs) source.place from u.visited.grows at in
-    subst (IsPastLimit q) limit (passes q store from (n ∙ tests) acts u.listed there (second_carries q store from.pair source.act tests stands))
+    subst (IsPastLimit q) limit (passes q store from (n ∙ tests) acts u.listed there (second_carries q store from.pair source.act tests represents))
 
 -- a part of a case has one undecided test fewer
 pub fewer_part : (ds es : List (Option Bool)) (k : ℕ) (b : Bool) → IsOpen ds k → es ≡ set ds k (Some b) → open_count es + 1 ≡ open_count ds

@@ -66,5 +66,5 @@ pub record IsCase (d : DiagramsParts) (decided : List (Option Bool)) (items : Li
 pub record AreItemsWith (c d : DiagramsParts) (old : List Item) (test : ℕ) (value : Bool) (new : List Item) : Type 0 where
   pub are : AreItems d new
   pub targets : (t : ℕ) → Has (targets_of new) t → Has (targets_of old) t
-  pub told : (side : Side) (atom : Atom) → IsAtomOf d atom → chosen d side new atom ≡ chosen c side old (slice_set atom test value)
+  pub given : (side : Side) (atom : Atom) → IsAtomOf d atom → chosen d side new atom ≡ chosen c side old (slice_set atom test value)
   pub independent : (k : ℕ) → ((i : Item) → Has old i → IsFixedItem c k i) ⊎ (k ≡ test) → (i : Item) → Has new i → IsFixedItem d k i

@@ -22,8 +22,8 @@ IsWitness (Some w) ids = Has ids w
 
 -- the set with these members, on this side of the pair at the place, is indexed under one of them with a member as
 -- witness; an empty set is in `apart`
-abbrev pub StandsUnder : IndexParts → List ℕ → ℕ → Side → Type 0
-StandsUnder x ids k side =
+abbrev pub IsListedUnder : IndexParts → List ℕ → ℕ → Side → Type 0
+IsListedUnder x ids k side =
     ((ids ≡ []) × Has x.apart (pair_side_at k side None))
     ⊎ ((t : ℕ) × (w : ℕ) × Has ids t × Has ids w × Has (slice_index_or x.under t []) (pair_side_at k side (Some w)))
 
@@ -39,4 +39,4 @@ pub record KeepsPlaces (old new : IndexParts) : Type 0 where
 
 -- both sets of each pair are in the index
 abbrev pub AreIndexed : IndexParts → List IdEntry → Type 0
-AreIndexed x es = (k : ℕ) (e : IdEntry) → slice_get es k ≡ Some e → StandsUnder x e.left k Left × StandsUnder x e.right k Right
+AreIndexed x es = (k : ℕ) (e : IdEntry) → slice_get es k ≡ Some e → IsListedUnder x e.left k Left × IsListedUnder x e.right k Right

@@ -4,7 +4,7 @@ ghost use Rattle.std.specs.Prelude.{◌≡◌, ◌⊎◌, ◌<◌, ◌∷◌, []
 ghost use Rattle.kat_model.specs.Members.{Has};
 ghost use Rattle.walk_up_to.specs.declared.pair.PairSide.{PairSide as PairSide'};
 ghost use Rattle.walk_pairs.specs.declared.items.Side.TheVariants.{Left as OnLeft, Right as OnRight};
-ghost use Rattle.walk_up_to.specs.Indices.{StandsUnder, KeepsPlaces, KeepsLists, pair_side_at};
+ghost use Rattle.walk_up_to.specs.Indices.{IsListedUnder, KeepsPlaces, KeepsLists, pair_side_at};
 
 use crate::pair::{ListedPair, PairSide};
 use kat_model::NoMemory;
@@ -185,7 +185,7 @@ impl PairIndex {
         place: usize,
         side: Side,
     ) -> Result<(), NoMemory>
-        ensures added { OnOk result (StandsUnder self.new set.now place side) }
+        ensures added { OnOk result (IsListedUnder self.new set.now place side) }
         ensures kept { KeepsPlaces self.old self.new }
     {
         let Some(term) = self.lightest(uses, set) else {
@@ -214,8 +214,8 @@ impl PairIndex {
         pair: &ListedPair,
         place: usize,
     ) -> Result<(), NoMemory>
-        ensures left { OnOk result (StandsUnder self.new pair.now.left place OnLeft) }
-        ensures right { OnOk result (StandsUnder self.new pair.now.right place OnRight) }
+        ensures left { OnOk result (IsListedUnder self.new pair.now.left place OnLeft) }
+        ensures right { OnOk result (IsListedUnder self.new pair.now.right place OnRight) }
         ensures kept { KeepsPlaces self.old self.new }
     {
         self.add_under_member(alloc, uses, pair.left.as_slice(), place, Side::Left)?;

@@ -1,4 +1,4 @@
-//! The walk up to congruence.
+//! The walk over pairs of sets up to congruence.
 //!
 //! The walk visits, breadth first, pairs of sets of terms, from the pair of the closed sides. For each atom and action it
 //! lists the pair of sets to which the step leads, unless the pairs listed so far already join both sets (Hopcroft and

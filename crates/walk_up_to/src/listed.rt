@@ -1,7 +1,7 @@
 //! The pairs that a walk has listed. Congruence is by these pairs.
 ghost use Rattle.std.specs.Prelude.{◌≡◌, ◌<◌, ◌++◌, ◌∷◌, [], true, false, length, slice_index_or, OnOk, OnErr};
 ghost use Rattle.walk_pairs.specs.declared.items.Side.TheVariants.{Left as OnLeft, Right as OnRight};
-ghost use Rattle.walk_up_to.specs.Indices.{StandsUnder, KeepsPlaces};
+ghost use Rattle.walk_up_to.specs.Indices.{IsListedUnder, KeepsPlaces};
 ghost use Rattle.walk_up_to.specs.Marks.{AllMarked, Stays};
 
 use crate::index::PairIndex;
@@ -90,8 +90,8 @@ fn note_pair(
     place: usize,
 ) -> Result<(), NoMemory>
     ensures noted { OnOk result (AllMarked members.new.items pair.now.left × AllMarked members.new.items pair.now.right) }
-    ensures left { OnOk result (StandsUnder index.new pair.now.left place OnLeft) }
-    ensures right { OnOk result (StandsUnder index.new pair.now.right place OnRight) }
+    ensures left { OnOk result (IsListedUnder index.new pair.now.left place OnLeft) }
+    ensures right { OnOk result (IsListedUnder index.new pair.now.right place OnRight) }
     ensures marks { Stays members.old.items members.new.items }
     ensures places { KeepsPlaces index.old index.new }
 {

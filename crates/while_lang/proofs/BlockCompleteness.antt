@@ -85,8 +85,8 @@ module _ {E B L T M S : Type 0} (g : BlockActions E B L T M S) where
   abbrev after_cond : ℕ → S → B × List Lexeme → Parsed S
   after_cond d v b = parse_block g block_aim d b.1 >>= second d v b.0
 
-  abbrev turned : ℕ → S → B × List Lexeme → Parsed S
-  turned d v b = change (g.turn v b.0) (parse_block g block_aim d b.1)
+  abbrev converse : ℕ → S → B × List Lexeme → Parsed S
+  converse d v b = change (g.turn v b.0) (parse_block g block_aim d b.1)
 
   -- an `if` with its condition and first block, given the reading of the rest
   branch_read : (b : Phrase cond) (p : BlockPhrase block) (d : ℕ) (v : S) (us ts : List Lexeme) (l : B → S → Result S TextFault) →
@@ -130,8 +130,8 @@ module _ {E B L T M S : Type 0} (g : BlockActions E B L T M S) where
   parsed (if_stmt l r) = λ d v ts o n. block_step g (stmt_after v) d _ ∙ parsed r d v ts o n
   parsed (while_stmt l b p) = λ d v ts o n.
       block_step g (stmt_after v) d _
-      ∙ ap (λ (m : Parsed B). m >>= turned d v) (cond_read b d (block_before p ts) o.0 (block_ends p ts))
-      ∙ then_rest (block_before p ts) ts (fold_cond g d b) (turned d v) (λ x. fold_block g d p v >>= λ w. Ok (g.turn v x w))
+      ∙ ap (λ (m : Parsed B). m >>= converse d v) (cond_read b d (block_before p ts) o.0 (block_ends p ts))
+      ∙ then_rest (block_before p ts) ts (fold_cond g d b) (converse d v) (λ x. fold_block g d p v >>= λ w. Ok (g.turn v x w))
       (λ x. ap (change (g.turn v x)) (parsed p d v ts o.1) ∙ changed ts (g.turn v x) (fold_block g d p v))
   parsed (no_else b p) = λ d v ts o n.
       branch_read b p d v ts ts (λ x w. Ok (g.branch v x w g.none)) o.0 (parsed p d v ts o.1) (λ x w. rw (n) refl)

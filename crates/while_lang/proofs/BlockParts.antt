@@ -10,8 +10,8 @@ use Rattle.text_parser.specs.declared.terminal.Keyword.{Keyword as KeywordOf}
 use Rattle.text_parser.specs.declared.terminal.Keyword.TheVariants as word
 use Rattle.text_parser.specs.declared.terminal.Separator.TheVariants.{Semicolon, CurlyOpen, CurlyClose, Becomes}
 use Rattle.text_parser.specs.Lexemes.{Lexeme, lexeme, heads, is_terminal}
-use Rattle.text_parser.specs.Parsed.{Parsed, ◌>>=◌, before, change, wants, place_of, Makes, Wants, Goes}
-use Rattle.text_parser.proofs.NamedFaults.{IsNamed, wants_named}
+use Rattle.text_parser.specs.Parsed.{Parsed, ◌>>=◌, before, change, expects, place_of, Makes, Expects, Goes}
+use Rattle.text_parser.proofs.NamedFaults.{IsNamed, expects_named}
 use Rattle.text_parser.proofs.TokenPlaces.{next_drop}
 use Rattle.while_lang.specs.BlockActions.{BlockActions}
 use Rattle.while_lang.specs.Blocks.{enter, block, stmts_after, stmt_after, branch_after, cond_by, expr_by, then_semicolon, assign_by, named_by, loop_by, else_by, parse_block}
@@ -36,10 +36,10 @@ next_two n xs = let two : n + 1 + 1 ≡ n + 2 = omega arith in next_drop (n + 1)
 module _ {E B L T M S : Type 0} (g : BlockActions E B L T M S) (d : ℕ) (ts : List Lexeme) where
   -- ---- a block
 
-  pub block_closed : (e : TextFault) → wants (is_terminal (Separator CurlyOpen)) ts ≡ Err e → parse_block g block d ts ≡ Err e
+  pub block_closed : (e : TextFault) → expects (is_terminal (Separator CurlyOpen)) ts ≡ Err e → parse_block g block d ts ≡ Err e
   block_closed e h = block_aim_step g d ts ∙ rw (h) refl
 
-  module _ (us : List Lexeme) (opens : wants (is_terminal (Separator CurlyOpen)) ts ≡ Ok us) where
+  module _ (us : List Lexeme) (opens : expects (is_terminal (Separator CurlyOpen)) ts ≡ Ok us) where
     pub block_deep : (e : TextFault) → enter d (place_of ts) ≡ Err e → parse_block g block d ts ≡ Err e
     block_deep e h = block_aim_step g d ts ∙ rw (opens, h) refl
 
@@ -149,7 +149,7 @@ module _ {E B L T M S : Type 0} (g : BlockActions E B L T M S) (d : ℕ) (ts : L
       assign_unread e h = rw (target, h) refl
 
       pub assign_ended : (x : E × List Lexeme) → expr_by g d ts ≡ Ok x → assign_by g s d at name ts ≡ then_semicolon (Ok (g.assign s name x.0, x.1))
-      assign_ended x h = rw (target, h) (change_ended (g.assign s name) x.0 (wants (is_terminal (Separator Semicolon)) x.1))
+      assign_ended x h = rw (target, h) (change_ended (g.assign s name) x.0 (expects (is_terminal (Separator Semicolon)) x.1))
 
     pub named_assign : heads (is_terminal (Separator Becomes)) ts ≡ true → (us : List Lexeme) → drop 1 ts ≡ us → named_by g s d at name ts ≡ assign_by g s d at name us
     named_assign h us next = rw (h, next) refl
@@ -164,7 +164,7 @@ module _ {E B L T M S : Type 0} (g : BlockActions E B L T M S) (d : ℕ) (ts : L
     assert_unread e h = rw (h) refl
 
     pub assert_ended : (b : B × List Lexeme) → cond_by g d ts ≡ Ok b → change (g.assert s) (then_semicolon (cond_by g d ts)) ≡ then_semicolon (Ok (g.assert s b.0, b.1))
-    assert_ended b h = rw (h) (change_ended (g.assert s) b.0 (wants (is_terminal (Separator Semicolon)) b.1))
+    assert_ended b h = rw (h) (change_ended (g.assert s) b.0 (expects (is_terminal (Separator Semicolon)) b.1))
 
 -- ---- what an action made, and what follows it
 
@@ -199,17 +199,17 @@ made_appends memory list v all end (Err NoMemory) r whole is h same = rw (is) h
 made_appends memory list v all end (Err e) r whole is h same = absurd cc
 
 -- a semicolon follows
-pub ends_after : (all us : List Lexeme) (made : Result (Unit {0}) TextFault) (rest r : Result ℕ TextFault) → r ≡ result_and made rest → Wants all rest (wants (is_terminal (Separator Semicolon)) us) → EndsAfter all made r us
+pub ends_after : (all us : List Lexeme) (made : Result (Unit {0}) TextFault) (rest r : Result ℕ TextFault) → r ≡ result_and made rest → Expects all rest (expects (is_terminal (Separator Semicolon)) us) → EndsAfter all made r us
 ends_after all us (Ok u) rest r is h = rw (is) h
 ends_after all us (Err e) rest r is h = is
 
-semicolon_appends : {S : Type 0} (memory : Type 0) (list : S) (all us : List Lexeme) (r : Result ℕ TextFault) → IsNamed (wants (is_terminal (Separator Semicolon)) us) → Wants all r (wants (is_terminal (Separator Semicolon)) us) → Appends memory list all r (then_semicolon (Ok (list, us)))
+semicolon_appends : {S : Type 0} (memory : Type 0) (list : S) (all us : List Lexeme) (r : Result ℕ TextFault) → IsNamed (expects (is_terminal (Separator Semicolon)) us) → Expects all r (expects (is_terminal (Separator Semicolon)) us) → Appends memory list all r (then_semicolon (Ok (list, us)))
 semicolon_appends memory list all us (Ok x) named h = rw (h) refl
 semicolon_appends memory list all us (Err NoMemory) named h = elim (subst IsNamed h named) [ ]
 semicolon_appends memory list all us (Err e) named h = rw (h) refl
 
 pub ended_appends : {S : Type 0} (memory : Type 0) (list : S) (all us : List Lexeme) (made : Result (Unit {0}) TextFault) (m : Result S TextFault) (r : Result ℕ TextFault) (whole : Parsed S) →
     EndsAfter all made r us → Makes memory (λ (u : Unit {0}). list) made m → whole ≡ then_semicolon (before us m) → Appends memory list all r whole
-ended_appends memory list all us (Ok u) m r whole ends h is = rw (is, h) (semicolon_appends memory list all us r (wants_named (is_terminal (Separator Semicolon)) us) ends)
+ended_appends memory list all us (Ok u) m r whole ends h is = rw (is, h) (semicolon_appends memory list all us r (expects_named (is_terminal (Separator Semicolon)) us) ends)
 ended_appends memory list all us (Err NoMemory) m r whole ends h is = rw (ends) h
 ended_appends memory list all us (Err e) m r whole ends h is = rw (ends, is, h) refl

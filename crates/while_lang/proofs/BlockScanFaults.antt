@@ -10,13 +10,13 @@ use Rattle.text_parser.specs.declared.terminal.Terminal.TheVariants.{RoundClose,
 use Rattle.text_parser.specs.declared.terminal.Keyword.TheVariants as word
 use Rattle.text_parser.specs.declared.terminal.Separator.TheVariants.{Semicolon, CurlyOpen, CurlyClose, Becomes}
 use Rattle.text_parser.specs.Lexemes.{Lexeme, lexeme, heads, is_terminal}
-use Rattle.text_parser.specs.Parsed.{Parsed, ◌>>=◌, change, wants, place_of, Wants}
+use Rattle.text_parser.specs.Parsed.{Parsed, ◌>>=◌, change, expects, place_of, Expects}
 use Rattle.text_parser.specs.Actions.{context}
 use Rattle.text_parser.specs.Exprs.{sums}
 use Rattle.text_parser.specs.Conds.{disjunction}
 use Rattle.text_parser.specs.Scans.{scanning_exprs, scanning_conds}
 use Rattle.text_parser.specs.Phrases.{Symbol, Leaf, Phrase, one_prod, more_prods, one_star, more_stars, bare, starred, zero_unit, one_unit, name_unit, not_unit, square_unit, round_unit, one_conj, more_conjs, one_lit, more_lits, true_lit, false_lit, name_lit, not_lit, round_lit, relation_lit, one_mul, more_muls, one_fac, more_facs, zero_fac, one_fac_number, number_fac, wide_fac, name_fac, round_fac, cons_token, sum_terminal, yield_before}
-use Rattle.text_parser.specs.Faults.{opens, is_wide, StandsAt, IsSyntaxFault}
+use Rattle.text_parser.specs.Faults.{opens, is_wide, OccursAt, IsSyntaxFault}
 use Rattle.text_parser.proofs.TerminalEquality.{terminal_is}
 use Rattle.text_parser.proofs.ParserSoundness.{leaf, terminal_headed, expr_found, cond_found}
 use Rattle.text_parser.proofs.ScanFaults.{cond_faults, expr_faults}
@@ -31,7 +31,7 @@ use Rattle.while_lang.proofs.BlockSteps.{IsShort, cond_short, within_short}
 
 -- each token of `us` occurs in `ts`
 abbrev Holds : List Lexeme → List Lexeme → Type 0
-Holds ts us = (p : Terminal → Bool) (at : ℕ) → StandsAt p at us → StandsAt p at ts
+Holds ts us = (p : Terminal → Bool) (at : ℕ) → OccursAt p at us → OccursAt p at ts
 
 holds_later : (ts : List Lexeme) → Holds ts (drop 1 ts)
 holds_later [] p at h = h
@@ -73,20 +73,20 @@ holds_yield (round_fac l f r) ts p at h = inr (holds_yield f (cons_token RoundCl
 
 -- the tokens after a phrase occur among all tokens
 holds_before : {x : Symbol} (f : Phrase x) (ts us : List Lexeme) → ts ≡ yield_before f us → Holds ts us
-holds_before f ts us e p at h = subst (StandsAt p at) (sym e) (holds_yield f us p at h)
+holds_before f ts us e p at h = subst (OccursAt p at) (sym e) (holds_yield f us p at h)
 
 -- ---- faults
 
-stands_wider : (ts : List Lexeme) (at : ℕ) → StandsAt opens at ts → StandsAt opens_block at ts
-stands_wider [] at h = h
-stands_wider (lexeme s place text ∷ ts) at (inl h) =
+represents_wider : (ts : List Lexeme) (at : ℕ) → OccursAt opens at ts → OccursAt opens_block at ts
+represents_wider [] at h = h
+represents_wider (lexeme s place text ∷ ts) at (inl h) =
     inl (or_right (is_terminal (Separator CurlyOpen) s) (is_terminal (Keyword word.If) s || opens s) (or_right (is_terminal (Keyword word.If) s) (opens s) h.0), h.1)
-stands_wider (lexeme s place text ∷ ts) at (inr h) = inr (stands_wider ts at h)
+represents_wider (lexeme s place text ∷ ts) at (inr h) = inr (represents_wider ts at h)
 
 -- a syntax fault of a condition or an expression is one of the block
 widened : (ts : List Lexeme) (e : TextFault) → IsSyntaxFault ts e → IsBlockFault ts e
 widened ts (Syntax at) h = h
-widened ts (TooDeep at) h = stands_wider ts at h
+widened ts (TooDeep at) h = represents_wider ts at h
 widened ts (NumberTooWide at) h = h
 widened ts _ h = h
 
@@ -120,20 +120,20 @@ change_sound ts f (Ok x) h = h
 change_sound ts f (Err e) h = h
 
 -- one token, then the rest
-wanted_then : {V : Type 0} (s : Terminal) (ts : List Lexeme) (k : List Lexeme → Parsed V) → ((l : Leaf) (us : List Lexeme) → ts ≡ cons_token s l us → Sound ts (k us)) → Sound ts (wants (is_terminal s) ts >>= k)
-wanted_then s [] k h = inl refl
-wanted_then {V} s (lexeme x at text ∷ ts) k h = by_terminal (is_terminal s x) refl where
+expected_then : {V : Type 0} (s : Terminal) (ts : List Lexeme) (k : List Lexeme → Parsed V) → ((l : Leaf) (us : List Lexeme) → ts ≡ cons_token s l us → Sound ts (k us)) → Sound ts (expects (is_terminal s) ts >>= k)
+expected_then s [] k h = inl refl
+expected_then {V} s (lexeme x at text ∷ ts) k h = by_terminal (is_terminal s x) refl where
   by_terminal : (b : Bool) → is_terminal s x ≡ b → Sound {V = V} (lexeme x at text ∷ ts) (if_true b (Ok ts) (Err (Syntax at)) >>= k)
   by_terminal true e = h (leaf at text) ts (rw (terminal_is s x e) refl)
   by_terminal false e = inr (inl (refl, refl))
 
 semicolon_sound : {V : Type 0} (ts : List Lexeme) (s : Parsed V) → Sound ts s → Sound ts (then_semicolon s)
 semicolon_sound ts (Ok x) h =
-    lift ts x.1 h (wants (is_terminal (Separator Semicolon)) x.1 >>= λ r. Ok (x.0, r))
-    (wanted_then (Separator Semicolon) x.1 (λ r. Ok (x.0, r)) (λ l us e p at i. subst (StandsAt p at) (sym e) (inr i)))
+    lift ts x.1 h (expects (is_terminal (Separator Semicolon)) x.1 >>= λ r. Ok (x.0, r))
+    (expected_then (Separator Semicolon) x.1 (λ r. Ok (x.0, r)) (λ l us e p at i. subst (OccursAt p at) (sym e) (inr i)))
 semicolon_sound ts (Err e) h = h
 
-entered_sound : {V : Type 0} (ts : List Lexeme) (d at : ℕ) (k : ℕ → Parsed V) → StandsAt opens_block at ts → ((e : ℕ) → Sound ts (k e)) → Sound ts (enter d at >>= k)
+entered_sound : {V : Type 0} (ts : List Lexeme) (d at : ℕ) (k : ℕ → Parsed V) → OccursAt opens_block at ts → ((e : ℕ) → Sound ts (k e)) → Sound ts (enter d at >>= k)
 entered_sound ts d at k h g = elim (nat_lt d MAX_OPEN) as (λ b. Sound ts (if_true b (Ok (d + 1)) (Err (TooDeep at)) >>= k)) [ true ↦ g (d + 1) | false ↦ h ]
 
 -- ---- parts of statements
@@ -166,10 +166,10 @@ Below f n = (x : BlockAim (Unit {0})) (d : ℕ) (ts : List Lexeme) → steps x t
 
 block_sound : (f : BlockParser (Unit {0})) (d : ℕ) (ts : List Lexeme) → Below f (2 * length ts) → Sound ts (block_by scanning_blocks f d ts)
 block_sound f d ts a =
-    wanted_then (Separator CurlyOpen) ts (λ us. enter d (place_of ts) >>= λ e. change scanning_blocks.braced (f (stmts_after tt) e us))
+    expected_then (Separator CurlyOpen) ts (λ us. enter d (place_of ts) >>= λ e. change scanning_blocks.braced (f (stmts_after tt) e us))
     (λ l us e. entered_sound ts d (place_of ts) (λ n. change scanning_blocks.braced (f (stmts_after tt) n us))
-    (subst (λ (ws : List Lexeme). StandsAt opens_block (place_of ws) ws) (sym e) (inl (refl, refl)))
-    (λ n. lift ts us (λ p at h. subst (StandsAt p at) (sym e) (inr h)) (change scanning_blocks.braced (f (stmts_after tt) n us))
+    (subst (λ (ws : List Lexeme). OccursAt opens_block (place_of ws) ws) (sym e) (inl (refl, refl)))
+    (λ n. lift ts us (λ p at h. subst (OccursAt p at) (sym e) (inr h)) (change scanning_blocks.braced (f (stmts_after tt) n us))
     (change_sound us scanning_blocks.braced (f (stmts_after tt) n us) (a (stmts_after tt) n us (omega (arith, ap length e))))))
 
 stmts_sound : (f : BlockParser (Unit {0})) → IsShort f → (v : Unit {0}) (d : ℕ) (ts : List Lexeme) → Below f (2 * length ts + 1) → Sound ts (stmts_by scanning_blocks f v d ts)
@@ -205,7 +205,7 @@ chained_sound f d ts h a =
     let lt = headed (is_terminal (Keyword word.If)) (drop 1 ts) h in
     let us = drop 1 (drop 1 ts) in
     entered_sound ts d (place_of (drop 1 ts)) (λ e. change scanning_blocks.chained (f (branch_after tt) e us))
-    (holds_later ts opens_block (place_of (drop 1 ts)) (subst (λ (ws : List Lexeme). StandsAt opens_block (place_of ws) ws) (sym w.1) (inl (refl, refl))))
+    (holds_later ts opens_block (place_of (drop 1 ts)) (subst (λ (ws : List Lexeme). OccursAt opens_block (place_of ws) ws) (sym w.1) (inl (refl, refl))))
     (λ e. lift ts us (λ p at i. holds_later ts p at (holds_later (drop 1 ts) p at i)) (change scanning_blocks.chained (f (branch_after tt) e us))
     (change_sound us scanning_blocks.chained (f (branch_after tt) e us) (a (branch_after tt) e us (omega (arith, lt, length-drop 1 ts)))))
 
@@ -249,6 +249,6 @@ block_faults : AnswersBlockFaults
 block_faults d ts e same = fault_of ts (parse_block scanning_blocks block d ts) e (scan_sound block d ts) same
 
 -- a call with the result of the syntax check reports only syntax faults
-pub answers_block_fault : (d : ℕ) (all ts : List Lexeme) (r : Result ℕ TextFault) → Wants all r (scan_block d ts) → IfErr r (λ e. IsBlockFault ts e)
+pub answers_block_fault : (d : ℕ) (all ts : List Lexeme) (r : Result ℕ TextFault) → Expects all r (scan_block d ts) → IfErr r (λ e. IsBlockFault ts e)
 answers_block_fault d all ts (Ok i) h = tt
 answers_block_fault d all ts (Err e) h = block_faults d ts e h

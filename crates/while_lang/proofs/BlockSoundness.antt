@@ -8,13 +8,13 @@ use Rattle.text_parser.specs.declared.terminal.Terminal.TheVariants.{Name, Keywo
 use Rattle.text_parser.specs.declared.terminal.Keyword.TheVariants as word
 use Rattle.text_parser.specs.declared.terminal.Separator.TheVariants.{Semicolon, CurlyOpen, CurlyClose, Becomes}
 use Rattle.text_parser.specs.Lexemes.{Lexeme, lexeme, heads, is_terminal}
-use Rattle.text_parser.specs.Parsed.{Parsed, ◌>>=◌, before, change, wants, place_of}
+use Rattle.text_parser.specs.Parsed.{Parsed, ◌>>=◌, before, change, expects, place_of}
 use Rattle.text_parser.specs.Actions.{context}
 use Rattle.text_parser.specs.Exprs.{sums}
 use Rattle.text_parser.specs.Conds.{disjunction}
 use Rattle.text_parser.specs.Phrases.{cond, expr, Leaf, Phrase, cons_token, yield_before, MeetsLookahead, IsWithinLimits, IsPhrase}
-use Rattle.text_parser.proofs.TerminalEquality.{wants_ok}
-use Rattle.text_parser.proofs.ParserSoundness.{leaf, bind_ok, chosen, changed_ok, before_ok, wanted_ok, terminal_headed, expr_found, cond_found}
+use Rattle.text_parser.proofs.TerminalEquality.{expects_ok}
+use Rattle.text_parser.proofs.ParserSoundness.{leaf, bind_ok, chosen, changed_ok, before_ok, expected_ok, terminal_headed, expr_found, cond_found}
 use Rattle.while_lang.specs.BlockActions.{BlockActions}
 use Rattle.while_lang.specs.Blocks.{enter, BlockAim, block as block_aim, stmts_after, stmt_after, branch_after, BlockParser, cond_by, expr_by, then_semicolon, block_by, stmts_by, assign_by, named_by, loop_by, stmt_by, else_by, branch_by}
 use Rattle.while_lang.specs.Blocks.{blocks_by, block_within, parse_block}
@@ -40,7 +40,7 @@ rest_of (Err e) = []
 semicolon_ok : {V W : Type 0} (f : V → W) (m : Parsed V) (w : W) (rest : List Lexeme) → change f (then_semicolon m) ≡ Ok (w, rest) → (v : V) × (l : Leaf) × (m ≡ Ok (v, cons_token (Separator Semicolon) l rest))
 semicolon_ok f m w rest e =
     let a = changed_ok f (then_semicolon m) w rest e in
-    let b = wanted_ok (Separator Semicolon) m (a.0, rest) a.1 in
+    let b = expected_ok (Separator Semicolon) m (a.0, rest) a.1 in
     (a.0, b.0, b.1)
 
 -- a phrase one level deeper
@@ -101,8 +101,8 @@ module _ {E B L T M S : Type 0} (g : BlockActions E B L T M S) where
 
   block_finds : (f : BlockParser S) → Finds f → (d : ℕ) (ts : List Lexeme) (y : S × List Lexeme) → block_by g f d ts ≡ Ok y → IsBlockPhrase block d ts y.1
   block_finds f s d ts y e =
-      let a = bind_ok (wants (is_terminal (Separator CurlyOpen)) ts) (λ us. enter d (place_of ts) >>= λ n. change g.braced (f (stmts_after g.none) n us)) y e in
-      let w = wants_ok (Separator CurlyOpen) ts a.0 a.1 in
+      let a = bind_ok (expects (is_terminal (Separator CurlyOpen)) ts) (λ us. enter d (place_of ts) >>= λ n. change g.braced (f (stmts_after g.none) n us)) y e in
+      let w = expects_ok (Separator CurlyOpen) ts a.0 a.1 in
       let b = bind_ok (enter d (place_of ts)) (λ n. change g.braced (f (stmts_after g.none) n a.0)) y a.2 in
       let n = enter_ok d b.0 (place_of ts) b.1 in
       let k = changed_ok g.braced (f (stmts_after g.none) b.0 a.0) y.0 y.1 b.2 in
@@ -142,7 +142,7 @@ module _ {E B L T M S : Type 0} (g : BlockActions E B L T M S) where
   named_finds v d at name ts y e =
       chosen (heads (is_terminal (Separator Becomes)) ts) (assign_by g v d at name (drop 1 ts)) (then_semicolon (before ts (g.named d at name v))) y
       (λ h k. let w = terminal_headed (Separator Becomes) ts h in assign_finds v d at name ts (drop 1 ts) w.0 y w.1 k)
-      (λ h k. let w = wanted_ok (Separator Semicolon) (before ts (g.named d at name v)) y k in
+      (λ h k. let w = expected_ok (Separator Semicolon) (before ts (g.named d at name v)) y k in
       let same : ts ≡ cons_token (Separator Semicolon) w.0 y.1 = before_ok ts (g.named d at name v) y.0 (cons_token (Separator Semicolon) w.0 y.1) w.1 in
       record { phrase = name_stmt (leaf at name) w.0; spelled = ap (λ (x : List Lexeme). lexeme Name at name ∷ x) same; obeys = tt; fits = tt })
       e
@@ -163,10 +163,10 @@ module _ {E B L T M S : Type 0} (g : BlockActions E B L T M S) where
   stmt_finds : (f : BlockParser S) → Finds f → (v : S) (d : ℕ) (ts : List Lexeme) (y : S × List Lexeme) → stmt_by g f v d ts ≡ Ok y → IsBlockPhrase stmt d ts y.1
   stmt_finds f s v d [] y e = absurd cc
   stmt_finds f s v d (lexeme (Keyword word.Skip) at text ∷ ts) y e =
-      let w = wanted_ok (Separator Semicolon) (Ok (g.skip v, ts)) y e in
+      let w = expected_ok (Separator Semicolon) (Ok (g.skip v, ts)) y e in
       record { phrase = skip_stmt (leaf at text) w.0; spelled = ap (λ (x : List Lexeme). lexeme (Keyword word.Skip) at text ∷ x) (ap rest_of w.1); obeys = tt; fits = tt }
   stmt_finds f s v d (lexeme (Keyword word.Abort) at text ∷ ts) y e =
-      let w = wanted_ok (Separator Semicolon) (Ok (g.abort v, ts)) y e in
+      let w = expected_ok (Separator Semicolon) (Ok (g.abort v, ts)) y e in
       record { phrase = abort_stmt (leaf at text) w.0; spelled = ap (λ (x : List Lexeme). lexeme (Keyword word.Abort) at text ∷ x) (ap rest_of w.1); obeys = tt; fits = tt }
   stmt_finds f s v d (lexeme (Keyword word.Assert) at text ∷ ts) y e =
       let k = semicolon_ok (g.assert v) (cond_by g d ts) y.0 y.1 e in

@@ -6,11 +6,11 @@ use Rattle.text_parser.specs.declared.terminal.Terminal.TheVariants.{Name, Keywo
 use Rattle.text_parser.specs.declared.terminal.Keyword.TheVariants as word
 use Rattle.text_parser.specs.declared.terminal.Separator.TheVariants.{Semicolon, CurlyOpen, CurlyClose, Becomes}
 use Rattle.text_parser.specs.Lexemes.{Lexeme, lexeme, heads, is_terminal}
-use Rattle.text_parser.specs.Parsed.{Parsed, ◌>>=◌, before, change, wants, place_of}
+use Rattle.text_parser.specs.Parsed.{Parsed, ◌>>=◌, before, change, expects, place_of}
 use Rattle.text_parser.specs.Actions.{context}
 use Rattle.text_parser.specs.Exprs.{sums}
 use Rattle.text_parser.specs.Conds.{disjunction}
-use Rattle.text_parser.proofs.Within.{Within, bind_within, if_within, weaken, before_within, enter_within, change_within, then_wants_within, headed, bind_same, if_same, else_same, enter_same}
+use Rattle.text_parser.proofs.Within.{Within, bind_within, if_within, weaken, before_within, enter_within, change_within, then_expects_within, headed, bind_same, if_same, else_same, enter_same}
 use Rattle.text_parser.proofs.ExprSteps.{expr_read_short}
 use Rattle.text_parser.proofs.CondSteps.{cond_read_short}
 use Rattle.while_lang.specs.BlockActions.{BlockActions}
@@ -29,13 +29,13 @@ pub expr_short : {E B L T M S : Type 0} (g : BlockActions E B L T M S) (d : ℕ)
 expr_short g d ts = weaken (length ts + 0) (length ts) (expr_by g d ts) (omega arith) (expr_read_short g.phrases.conds.exprs sums (context d false true) ts)
 
 -- one token, then the rest
-pub wanted_within : {V : Type 0} (p : Terminal → Bool) (n : ℕ) (ts : List Lexeme) (k : List Lexeme → Parsed V) → ((us : List Lexeme) → length us < length ts → Within n (k us)) → Within n (wants p ts >>= k)
-wanted_within p n [] k h = tt
-wanted_within p n (lexeme s at text ∷ ts) k h = elim (p s) as (λ b. Within n (cond b (Ok ts) (Err (Syntax at)) >>= k)) [ true ↦ h ts (omega arith) | false ↦ tt ]
+pub expected_within : {V : Type 0} (p : Terminal → Bool) (n : ℕ) (ts : List Lexeme) (k : List Lexeme → Parsed V) → ((us : List Lexeme) → length us < length ts → Within n (k us)) → Within n (expects p ts >>= k)
+expected_within p n [] k h = tt
+expected_within p n (lexeme s at text ∷ ts) k h = elim (p s) as (λ b. Within n (cond b (Ok ts) (Err (Syntax at)) >>= k)) [ true ↦ h ts (omega arith) | false ↦ tt ]
 
 block_short : {E B L T M S : Type 0} (g : BlockActions E B L T M S) (f : BlockParser S) → IsShort f → (d : ℕ) (ts : List Lexeme) → Within (length ts) (block_by g f d ts)
 block_short g f s d ts =
-    wanted_within (is_terminal (Separator CurlyOpen)) (length ts) ts (λ a. enter d (place_of ts) >>= λ e. change g.braced (f (stmts_after g.none) e a))
+    expected_within (is_terminal (Separator CurlyOpen)) (length ts) ts (λ a. enter d (place_of ts) >>= λ e. change g.braced (f (stmts_after g.none) e a))
     (λ a lt. enter_within (length ts) (enter d (place_of ts)) (λ e. change g.braced (f (stmts_after g.none) e a))
     (λ e. change_within (length ts) g.braced (f (stmts_after g.none) e a) (weaken (length a) (length ts) (f (stmts_after g.none) e a) (omega arith) (s (stmts_after g.none) e a))))
 
@@ -49,13 +49,13 @@ stmts_short g f s v d ts =
 assign_short : {E B L T M S : Type 0} (g : BlockActions E B L T M S) (v : S) (d at : ℕ) (name : List ℕ) (ts : List Lexeme) (n : ℕ) → length ts ≤ n → Within n (assign_by g v d at name ts)
 assign_short g v d at name ts n le =
     enter_within n (g.target at name) (λ u. change (g.assign v name) (then_semicolon (expr_by g d ts)))
-    (λ u. change_within n (g.assign v name) (then_semicolon (expr_by g d ts)) (then_wants_within (is_terminal (Separator Semicolon)) n (expr_by g d ts) (weaken (length ts) n (expr_by g d ts) le (expr_short g d ts))))
+    (λ u. change_within n (g.assign v name) (then_semicolon (expr_by g d ts)) (then_expects_within (is_terminal (Separator Semicolon)) n (expr_by g d ts) (weaken (length ts) n (expr_by g d ts) le (expr_short g d ts))))
 
 pub named_short : {E B L T M S : Type 0} (g : BlockActions E B L T M S) (v : S) (d at : ℕ) (name : List ℕ) (ts : List Lexeme) → Within (suc (length ts)) (named_by g v d at name ts)
 named_short g v d at name ts =
     if_within (suc (length ts)) (heads (is_terminal (Separator Becomes)) ts) (assign_by g v d at name (drop 1 ts)) (then_semicolon (before ts (g.named d at name v)))
     (λ h. assign_short g v d at name (drop 1 ts) (suc (length ts)) (omega (arith, length-drop 1 ts)))
-    (λ h. then_wants_within (is_terminal (Separator Semicolon)) (suc (length ts)) (before ts (g.named d at name v)) (before_within (suc (length ts)) ts (g.named d at name v) (omega arith)))
+    (λ h. then_expects_within (is_terminal (Separator Semicolon)) (suc (length ts)) (before ts (g.named d at name v)) (before_within (suc (length ts)) ts (g.named d at name v) (omega arith)))
 
 loop_short : {E B L T M S : Type 0} (g : BlockActions E B L T M S) (f : BlockParser S) → IsShort f → (v : S) (d : ℕ) (ts : List Lexeme) (n : ℕ) → length ts ≤ n → Within n (loop_by g f v d ts)
 loop_short g f s v d ts n le =
@@ -64,11 +64,11 @@ loop_short g f s v d ts n le =
 
 stmt_short : {E B L T M S : Type 0} (g : BlockActions E B L T M S) (f : BlockParser S) → IsShort f → (v : S) (d : ℕ) (ts : List Lexeme) → Within (length ts) (stmt_by g f v d ts)
 stmt_short g f s v d [] = tt
-stmt_short g f s v d (lexeme (Keyword word.Skip) at text ∷ ts) = then_wants_within (is_terminal (Separator Semicolon)) (suc (length ts)) (Ok (g.skip v, ts)) (omega arith)
-stmt_short g f s v d (lexeme (Keyword word.Abort) at text ∷ ts) = then_wants_within (is_terminal (Separator Semicolon)) (suc (length ts)) (Ok (g.abort v, ts)) (omega arith)
+stmt_short g f s v d (lexeme (Keyword word.Skip) at text ∷ ts) = then_expects_within (is_terminal (Separator Semicolon)) (suc (length ts)) (Ok (g.skip v, ts)) (omega arith)
+stmt_short g f s v d (lexeme (Keyword word.Abort) at text ∷ ts) = then_expects_within (is_terminal (Separator Semicolon)) (suc (length ts)) (Ok (g.abort v, ts)) (omega arith)
 stmt_short g f s v d (lexeme (Keyword word.Assert) at text ∷ ts) =
     change_within (suc (length ts)) (g.assert v) (then_semicolon (cond_by g d ts))
-    (then_wants_within (is_terminal (Separator Semicolon)) (suc (length ts)) (cond_by g d ts) (weaken (length ts) (suc (length ts)) (cond_by g d ts) (omega arith) (cond_short g d ts)))
+    (then_expects_within (is_terminal (Separator Semicolon)) (suc (length ts)) (cond_by g d ts) (weaken (length ts) (suc (length ts)) (cond_by g d ts) (omega arith) (cond_short g d ts)))
 stmt_short g f s v d (lexeme (Keyword word.If) at text ∷ ts) = weaken (length ts) (suc (length ts)) (f (branch_after v) d ts) (omega arith) (s (branch_after v) d ts)
 stmt_short g f s v d (lexeme (Keyword word.While) at text ∷ ts) = loop_short g f s v d ts (suc (length ts)) (omega arith)
 stmt_short g f s v d (lexeme Name at text ∷ ts) = named_short g v d at text ts
@@ -107,13 +107,13 @@ within_short g (suc n) x d ts = blocks_short g (block_within g n) (within_short 
 abbrev Same : {S : Type 0} → BlockParser S → BlockParser S → ℕ → Type 0
 Same {S} f h n = (x : BlockAim S) (d : ℕ) (ts : List Lexeme) → steps x ts < n → f x d ts ≡ h x d ts
 
-pub wanted_same : {V : Type 0} (p : Terminal → Bool) (ts : List Lexeme) (k l : List Lexeme → Parsed V) → ((us : List Lexeme) → length us < length ts → k us ≡ l us) → (wants p ts >>= k) ≡ (wants p ts >>= l)
-wanted_same p [] k l h = refl
-wanted_same p (lexeme s at text ∷ ts) k l h = elim (p s) as (λ b. (cond b (Ok ts) (Err (Syntax at)) >>= k) ≡ (cond b (Ok ts) (Err (Syntax at)) >>= l)) [ true ↦ h ts (omega arith) | false ↦ refl ]
+pub expected_same : {V : Type 0} (p : Terminal → Bool) (ts : List Lexeme) (k l : List Lexeme → Parsed V) → ((us : List Lexeme) → length us < length ts → k us ≡ l us) → (expects p ts >>= k) ≡ (expects p ts >>= l)
+expected_same p [] k l h = refl
+expected_same p (lexeme s at text ∷ ts) k l h = elim (p s) as (λ b. (cond b (Ok ts) (Err (Syntax at)) >>= k) ≡ (cond b (Ok ts) (Err (Syntax at)) >>= l)) [ true ↦ h ts (omega arith) | false ↦ refl ]
 
 block_same : {E B L T M S : Type 0} (g : BlockActions E B L T M S) (f h : BlockParser S) (d : ℕ) (ts : List Lexeme) → Same f h (2 * length ts) → block_by g f d ts ≡ block_by g h d ts
 block_same g f h d ts a =
-    wanted_same (is_terminal (Separator CurlyOpen)) ts _ _
+    expected_same (is_terminal (Separator CurlyOpen)) ts _ _
     (λ us lt. enter_same (enter d (place_of ts)) _ _ (λ e. ap (change g.braced) (a (stmts_after g.none) e us (omega arith))))
 
 stmts_same : {E B L T M S : Type 0} (g : BlockActions E B L T M S) (f h : BlockParser S) → IsShort f → (v : S) (d : ℕ) (ts : List Lexeme) → Same f h (2 * length ts + 1) → stmts_by g f v d ts ≡ stmts_by g h v d ts

@@ -18,7 +18,7 @@ use Rattle.text_parser.specs.Phrases.{one_conj, one_lit, one_mul, one_fac, yield
 use Rattle.text_parser.specs.declared.meaning.Meaning.{Meaning}
 use Rattle.text_parser.specs.declared.meaning.Meaning.TheVariants.{Action, Var}
 use Rattle.text_parser.specs.ScopeParts.{ScopeParts, IsNameOf}
-use Rattle.text_parser.specs.Laws.{told_nodes}
+use Rattle.text_parser.specs.Laws.{given_nodes}
 use Rattle.text_parser.specs.Sound.{IsExprName}
 use Rattle.text_parser.proofs.Measured.{ok_value}
 use Rattle.text_print.specs.Printing.{expr_pieces, cond_pieces, CondIsNamed, ExprIsNamed, expr_nesting, cond_nesting}
@@ -255,7 +255,7 @@ module _ (w : ScopeParts) (progs : List ProgParts) where
 
   -- ---- the reading of a printed block
 
-  few : (p : ProgTree) → largest_in p ≤ MAX_EXPR_NODES → prog_size p ≤ MAX_TERM_NODES → told_nodes (largest_in p) (prog_size p) ≤ MAX_TERM_NODES
+  few : (p : ProgTree) → largest_in p ≤ MAX_EXPR_NODES → prog_size p ≤ MAX_TERM_NODES → given_nodes (largest_in p) (prog_size p) ≤ MAX_TERM_NODES
   few p large size = rw (le-ltb MAX_EXPR_NODES (largest_in p) large) (omega arith)
 
   read_back : (limited : AreLimited progs) (t : ProgTree) (d n : ℕ) (p : BlockPhrase block) → BlockObeys p [] → Makes (stmts_of t) n p → d + n ≤ MAX_OPEN → largest_in t ≤ MAX_EXPR_NODES → prog_size t ≤ MAX_TERM_NODES → block_at w progs d (block_before p []) ≡ Ok (record { tree = t; nesting = n; rest = [] })
@@ -264,11 +264,11 @@ module _ (w : ScopeParts) (progs : List ProgParts) where
       let k = block_measured w progs limited d p m.0 m.1 in
       let made : (fold_block (block_trees w progs) d p [] >>= λ ss. Ok (prog_of ss)) ≡ Ok t = rw (h.tree d le [], prog_of-stmts_of t) refl in
       let same : k.tree ≡ t = inside_ok k.tree t (fold_block (block_trees w progs) d p [] >>= λ ss. Ok (prog_of ss)) k.built made in
-      let told : (m.0).nodes ≡ told_nodes (largest_in t) (prog_size t) = k.nodes ∙ ap (λ (x : ProgTree). told_nodes (largest_in x) (prog_size x)) same in
+      let given : (m.0).nodes ≡ given_nodes (largest_in t) (prog_size t) = k.nodes ∙ ap (λ (x : ProgTree). given_nodes (largest_in x) (prog_size x)) same in
       read_as MAX_TERM_NODES (place_of (block_before p [])) (measured_block w progs d (block_before p [])) (built_block w progs d (block_before p [])) m.0 t n
       (parsed (block_extents w progs) p d (extent 0 0) [] obeys ∙ ap (before []) m.1)
       (ap (change prog_of) (parsed (block_trees w progs) p d [] [] obeys) ∙ rw (h.tree d le [], prog_of-stmts_of t) refl)
-      (omega (arith, told, few t large size))
+      (omega (arith, given, few t large size))
       (omega (arith, k.levels, h.deep, le))
 
 pub printed_back : PrintedReadsBack

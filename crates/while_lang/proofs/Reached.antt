@@ -7,7 +7,7 @@ use Rattle.while_lang.specs.Programs.{ProgTree, empty, skip_then, abort_then, as
 use Rattle.while_lang.specs.Runs.{Run, condition, Chosen, Enters, Leaves, Faces, Turns, Goes, Sticks, Waits}
 use Rattle.while_lang.specs.Working.Running.{End, ended, then_run, loop_end, run_end}
 use Rattle.while_lang.specs.declared.outcome.Outcome.TheVariants.{Done, Stuck, More}
-use Rattle.while_lang.proofs.Turns.{turned, stopped, passed, used_up, run_less}
+use Rattle.while_lang.proofs.Turns.{converse, stopped, passed, used_up, run_less}
 
 chosen : {A B : Type 0} → (x : Bool) (P Q e : End) → Chosen x A B → (A → P ≡ e) → (B → Q ≡ e) → (if x then P else Q) ≡ e
 chosen true P Q e h f g = f h
@@ -30,7 +30,7 @@ turns_to : (w : Width) (b : Store → Bool) (p : ProgTree) (R : Run) (r : ℕ) (
 turns_to w b p R r res done last zero s k t h = last s k t h
 turns_to w b p R r res done last (suc n) s k t (i, j, u, (l, g, c, e), later, f) =
     let less : l + (j + r) ≡ k + r - 1 = omega (arith, e, f) in
-    turned b (run_end w p) (run_less w p) s (k + r) Done u (j + r) g (omega (arith, e, f)) (rw (← less) (sym (done s l u c (j + r)))) refl
+    converse b (run_end w p) (run_less w p) s (k + r) Done u (j + r) g (omega (arith, e, f)) (rw (← less) (sym (done s l u c (j + r)))) refl
     ∙ turns_to w b p R r res done last n u j t later
 
 left_done : (w : Width) (b : CondTree) (p : ProgTree) (r : ℕ) (s : Store) (k : ℕ) (t : Store) → Leaves (condition w b) s k t → loop_end (condition w b) (run_end w p) s (k + r) ≡ ended Done t r

@@ -79,10 +79,10 @@ turning_more (suc f) (suc g) b body less s n p q =
     by_cases (inr d) h = rw (h d) refl
 
 -- if the condition holds and the body is done, the loop continues after the body
-pub turned : (b : Store → Bool) (body : Store → ℕ → End) → ((s : Store) (k : ℕ) → (body s k).left ≤ k) →
+pub converse : (b : Store → Bool) (body : Store → ℕ → End) → ((s : Store) (k : ℕ) → (body s k).left ≤ k) →
     (s : Store) (n : ℕ) (o : Outcome) (t : Store) (k : ℕ) → b s ≡ true → 0 < n → ended o t k ≡ body s (n - 1) → o ≡ Done → loop_end b body s n ≡ loop_end b body t k
-turned b body less s zero o t k h p e d = absurd (omega (arith, p))
-turned b body less s (suc n) o t k h p e d =
+converse b body less s zero o t k h p e d = absurd (omega (arith, p))
+converse b body less s (suc n) o t k h p e d =
     rw (h, last, ← e, d) (turning_more n k b body less t k (omega (arith, less s (suc n - 1), ap (λ x. x.left) e)) (omega arith))
   where
     last : nat_eq (suc n) 0 ≡ false

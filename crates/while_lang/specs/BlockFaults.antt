@@ -8,7 +8,7 @@ use Rattle.text_parser.specs.declared.terminal.Keyword.TheVariants as word
 use Rattle.text_parser.specs.declared.terminal.Separator.TheVariants.{CurlyOpen}
 use Rattle.text_parser.specs.Lexemes.{Lexeme, is_terminal}
 use Rattle.text_parser.specs.Parsed.{at_end}
-use Rattle.text_parser.specs.Faults.{opens, is_wide, StandsAt}
+use Rattle.text_parser.specs.Faults.{opens, is_wide, OccursAt}
 use Rattle.while_lang.specs.BlockScans.{scan_block}
 
 -- whether a terminal opens a construct of a block: a brace, the `if` of an `else if`, or what opens a construct of a
@@ -18,9 +18,9 @@ opens_block s = is_terminal (Separator CurlyOpen) s || (is_terminal (Keyword wor
 
 -- a syntax fault: at a token, or after the last
 abbrev pub IsBlockFault : List Lexeme → TextFault → Type 0
-IsBlockFault ts (Syntax at) = (at ≡ at_end) ⊎ StandsAt (λ s. true) at ts
-IsBlockFault ts (TooDeep at) = StandsAt opens_block at ts
-IsBlockFault ts (NumberTooWide at) = StandsAt is_wide at ts
+IsBlockFault ts (Syntax at) = (at ≡ at_end) ⊎ OccursAt (λ s. true) at ts
+IsBlockFault ts (TooDeep at) = OccursAt opens_block at ts
+IsBlockFault ts (NumberTooWide at) = OccursAt is_wide at ts
 IsBlockFault ts other = ⊥
 
 -- the check reports only syntax faults

@@ -5,7 +5,7 @@ use Rattle.text_parser.specs.Lexemes.{Lexeme}
 use Rattle.text_parser.specs.Parsed.{◌>>=◌, before}
 use Rattle.text_parser.specs.declared.extent.Extent.{Extent}
 use Rattle.text_parser.specs.ScopeParts.{ScopeParts}
-use Rattle.text_parser.specs.Laws.{told_nodes}
+use Rattle.text_parser.specs.Laws.{given_nodes}
 use Rattle.while_lang.specs.Programs.{ProgTree, prog_of}
 use Rattle.while_lang.specs.ProgramSizes.{prog_size, largest_in}
 use Rattle.while_lang.specs.NamedProgs.{ProgParts}
@@ -38,7 +38,7 @@ AreLimited ps = (i : ℕ) (p : ProgParts) → slice_get ps i ≡ Some p → larg
 pub record MeasuresBlock (w : ScopeParts) (ps : List ProgParts) (d : ℕ) (p : BlockPhrase block_symbol) (m : Extent) : Type 0 where
   pub tree : ProgTree
   pub built : (fold_block (block_trees w ps) d p [] >>= λ ss. Ok (prog_of ss)) ≡ Ok tree
-  pub nodes : m.nodes ≡ told_nodes (largest_in tree) (prog_size tree)
+  pub nodes : m.nodes ≡ given_nodes (largest_in tree) (prog_size tree)
   pub levels : m.nesting ≡ min (block_nesting w ps p) (MAX_OPEN + 1)
 
 abbrev pub MeasuresAreOfTrees : Type 0

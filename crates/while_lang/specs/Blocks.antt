@@ -7,7 +7,7 @@ use Rattle.text_parser.specs.declared.terminal.Terminal.TheVariants.{Name, Keywo
 use Rattle.text_parser.specs.declared.terminal.Keyword.TheVariants as word
 use Rattle.text_parser.specs.declared.terminal.Separator.TheVariants.{Semicolon, CurlyOpen, CurlyClose, Becomes}
 use Rattle.text_parser.specs.Lexemes.{Lexeme, lexeme, heads, is_terminal}
-use Rattle.text_parser.specs.Parsed.{Parsed, ◌>>=◌, at_end, place_of, before, change, wants, then_wants}
+use Rattle.text_parser.specs.Parsed.{Parsed, ◌>>=◌, at_end, place_of, before, change, expects, then_expects}
 use Rattle.text_parser.specs.Actions.{context}
 use Rattle.text_parser.specs.Exprs.{parse_expr, sums}
 use Rattle.text_parser.specs.Conds.{parse_cond, disjunction}
@@ -38,12 +38,12 @@ expr_by g d ts = parse_expr g.phrases.conds.exprs sums (context d false true) ts
 
 -- a value, followed by a semicolon
 abbrev pub then_semicolon : {V : Type 0} → Parsed V → Parsed V
-then_semicolon m = then_wants (is_terminal (Separator Semicolon)) m
+then_semicolon m = then_expects (is_terminal (Separator Semicolon)) m
 
 -- "{" { stmt } "}"
 abbrev pub block_by : {E B L T M S : Type 0} → BlockActions E B L T M S → BlockParser S → ℕ → List Lexeme → Parsed S
 block_by g f d ts =
-    wants (is_terminal (Separator CurlyOpen)) ts >>= λ a. enter d (place_of ts) >>= λ e. change g.braced (f (stmts_after g.none) e a)
+    expects (is_terminal (Separator CurlyOpen)) ts >>= λ a. enter d (place_of ts) >>= λ e. change g.braced (f (stmts_after g.none) e a)
 
 -- { stmt } "}", after the statements so far
 abbrev pub stmts_by : {E B L T M S : Type 0} → BlockActions E B L T M S → BlockParser S → S → ℕ → List Lexeme → Parsed S

@@ -7,10 +7,10 @@ use Rattle.while_lang.specs.Runs.{Ends}
 use Rattle.while_lang.specs.Files.{GoalTree, equal, triple, prog_side, FileParts}
 
 -- the goal equates two programs, or is a triple of a program
-abbrev pub AsksOfProgs : GoalTree → Type 0
-AsksOfProgs (equal (prog_side p) (prog_side q)) = Unit {0}
-AsksOfProgs (triple b (prog_side p) c) = Unit {0}
-AsksOfProgs goal = ⊥
+abbrev pub PosesProgs : GoalTree → Type 0
+PosesProgs (equal (prog_side p) (prog_side q)) = Unit {0}
+PosesProgs (triple b (prog_side p) c) = Unit {0}
+PosesProgs goal = ⊥
 
 -- the file declares no test, action or term, states no hypothesis, and its goal is about programs
 pub record IsConcrete (f : FileParts) : Type 0 where
@@ -18,7 +18,7 @@ pub record IsConcrete (f : FileParts) : Type 0 where
   pub actions : f.actions ≡ 0
   pub terms : f.terms ≡ 0
   pub hyps : f.hyps ≡ []
-  pub asks : AsksOfProgs f.goal
+  pub poses : PosesProgs f.goal
 
 -- a store of the file has as many numbers as the file has variables, each below 2 to its width
 abbrev pub IsStoreOf : FileParts → Store → Type 0

@@ -1,7 +1,7 @@
 //! The syntax check of blocks, which takes no memory.
 ghost use Rattle.std.specs.Prelude.{◌≡◌, ◌<◌, ◌≤◌, length, drop, IfOk, IfErr};
 ghost use Rattle.text_parser.specs.Lexemes.{lexemes};
-ghost use Rattle.text_parser.specs.Parsed.{Wants};
+ghost use Rattle.text_parser.specs.Parsed.{Expects};
 ghost use Rattle.while_lang.specs.BlockScans.{scanning_blocks, scan_block};
 ghost use Rattle.while_lang.specs.BlockFaults.{IsBlockFault};
 
@@ -103,7 +103,7 @@ impl BlockReading for BlockScan {
 /// fault after the last token has the place `usize::MAX`. Each `else if` is one construct until its chain ends, and its
 /// `if` is the token of a `TooDeep` fault. Takes no memory.
 pub fn block_end(toks: &[Token], from: usize, depth: usize) -> Result<usize, TextFault>
-    ensures value { Wants (lexemes toks.now) result (scan_block depth (drop from (lexemes toks.now))) }
+    ensures value { Expects (lexemes toks.now) result (scan_block depth (drop from (lexemes toks.now))) }
     ensures goes { IfOk result (λ end. (from < end) × (end ≤ length toks.now)) }
     ensures fault { IfErr result (λ fault. IsBlockFault (drop from (lexemes toks.now)) fault) }
 {

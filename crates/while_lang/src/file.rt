@@ -3,7 +3,7 @@ ghost use Rattle.std.specs.Prelude.{◌≡◌, ◌↔◌, IsTrue, option_map};
 ghost use Rattle.while_lang.specs.NamedProgs.{prog_parts, parts_of_progs};
 ghost use Rattle.while_lang.specs.Files.{prog_meant, prog_named};
 ghost use Rattle.while_lang.specs.Trees.{goal_tree};
-ghost use Rattle.while_lang.specs.Concrete.{AsksOfProgs, IsConcrete};
+ghost use Rattle.while_lang.specs.Concrete.{PosesProgs, IsConcrete};
 
 use crate::named::NamedProg;
 use crate::numbered::prog_at;
@@ -131,8 +131,8 @@ pub fn prog_meant(progs: &[NamedProg], meaning: Option<Meaning>) -> Option<&Name
     }
 }
 
-fn asks_of_progs(goal: &Goal) -> bool
-    ensures { IsTrue result ↔ AsksOfProgs (goal_tree goal.now) }
+fn poses_progs(goal: &Goal) -> bool
+    ensures { IsTrue result ↔ PosesProgs (goal_tree goal.now) }
 {
     matches!(
         goal,
@@ -150,7 +150,7 @@ impl File {
             && self.actions == 0
             && self.terms == 0
             && self.hyps.is_empty()
-            && asks_of_progs(&self.goal)
+            && poses_progs(&self.goal)
     }
 
     /// Returns the program with that name, or `None` if no program has it. Allocates no memory.

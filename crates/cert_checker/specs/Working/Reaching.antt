@@ -20,7 +20,7 @@ abbrev pub IsReached : List NumberPair → List ℕ → ℕ → Type 0
 IsReached ps ks k = (set : ℕ → Bool) → IsClosed ps set → HoldsAll set ks → set k ≡ true
 
 abbrev pub AreReached : List NumberPair → List ℕ → List ℕ → Type 0
-AreReached ps ks wanted = (k : ℕ) → Has wanted k → IsReached ps ks k
+AreReached ps ks expected = (k : ℕ) → Has expected k → IsReached ps ks k
 
 -- there is a universal term, and it is reached from both sets
 abbrev pub IsReachedByBoth : List NumberPair → Option ℕ → List ℕ → List ℕ → Type 0

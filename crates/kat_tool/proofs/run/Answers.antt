@@ -6,7 +6,7 @@ use Rattle.kat_tool.proofs.run.Goals as goal
 
 pub returns-in-Ok-send-clause-is_run : goal.returns-in-Ok-send-clause-is_run
 returns-in-Ok-send-clause-is_run g c =
-    run_sent _ _ c.in-Ok.ensures.replies (subst (λ o. Appends (g.K.Sink.taken c.args.sink.now) (g.K.Sink.taken c.send.new.sink) o) c.deref.ensures.value c.in-Ok-send.ensures.sent) c.in-Ok-send.ensures.cause.stands
+    run_sent _ _ c.in-Ok.ensures.replies (subst (λ o. Appends (g.K.Sink.taken c.args.sink.now) (g.K.Sink.taken c.send.new.sink) o) c.deref.ensures.value c.in-Ok-send.ensures.sent) c.in-Ok-send.ensures.cause.represents
 
 pub returns-in-Ok-clause-is_run : goal.returns-in-Ok-clause-is_run
 returns-in-Ok-clause-is_run g c =

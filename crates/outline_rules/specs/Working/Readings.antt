@@ -17,17 +17,17 @@ unless_memory NoMemory P = Unit {0}
 unless_memory fault P = P
 
 -- a fact gives itself unless memory ran out, and so does a fact that follows from one
-pub is_told : (fault : NotesFault) (told : Answer) → told ≡ Err fault → unless_memory fault (told ≡ Err fault)
-is_told NoMemory told e = tt
-is_told fault told e = e
+pub is_given : (fault : NotesFault) (given : Answer) → given ≡ Err fault → unless_memory fault (given ≡ Err fault)
+is_given NoMemory given e = tt
+is_given fault given e = e
 
-pub is_passed_on : (fault : NotesFault) (o : Option NotesFault) (told : Answer) → unless_memory fault (o ≡ Some fault) → (o ≡ Some fault → told ≡ Err fault) → unless_memory fault (told ≡ Err fault)
-is_passed_on NoMemory o told e f = tt
-is_passed_on fault o told e f = f e
+pub is_passed_on : (fault : NotesFault) (o : Option NotesFault) (given : Answer) → unless_memory fault (o ≡ Some fault) → (o ≡ Some fault → given ≡ Err fault) → unless_memory fault (given ≡ Err fault)
+is_passed_on NoMemory o given e f = tt
+is_passed_on fault o given e f = f e
 
 -- the result is this answer, unless memory ran out
 abbrev pub Reads : Answer → Answer → Type 0
-Reads told result = Answers unless_memory told result
+Reads given result = Answers unless_memory given result
 
 -- the result of reading a line whose content, if any, is `o`
 abbrev pub ReadsLine : Option NoteLine → Result NoteLine LineFault → Type 0

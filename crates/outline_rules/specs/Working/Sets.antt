@@ -69,9 +69,9 @@ abbrev pub HasCheckInRange : ℕ → Check → Type 0
 HasCheckInRange n check = IsConditionInRange n (condition_of check)
 
 -- `None` if all conditions of the list are met, else the least target of an unmet one
-abbrev pub TellsLeastUnmet : ProblemParts → (ℕ → Atom → Bool) → List Condition → Option ℕ → Type 0
-TellsLeastUnmet q note cs None = (c : Condition) → Has cs c → IsMet q note c
-TellsLeastUnmet q note cs (Some k) = IsLeastUnmet q note cs k
+abbrev pub ShowsLeastUnmet : ProblemParts → (ℕ → Atom → Bool) → List Condition → Option ℕ → Type 0
+ShowsLeastUnmet q note cs None = (c : Condition) → Has cs c → IsMet q note c
+ShowsLeastUnmet q note cs (Some k) = IsLeastUnmet q note cs k
 
 -- the step leads from a member of two sets, and no hypothesis rules it out
 abbrev pub free_step : List Term → ℕ → (Atom → Bool) → (Atom → Bool) → Atom → Atom → Bool

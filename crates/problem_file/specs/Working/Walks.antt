@@ -25,8 +25,8 @@ abbrev pub triple_of : {X : Type 0} → List Lexeme → MeasuredTriple X → Tri
 triple_of ts m = record { pre = measured_of ts m.pre; body = measured_of ts m.body; post = measured_of ts m.post }
 
 -- the result for the part at an index is the measure of that part, or its fault
-abbrev pub Tells : {X Y : Type 0} → (List Lexeme → X → Y) → List Token → ℕ → Result (X × ℕ) TextFault → (List Lexeme → Parsed Y) → Type 0
-Tells means toks from result f = Reads ⊥ (means (lexemes toks)) (lexemes toks) result (f (drop from (lexemes toks)))
+abbrev pub Represents : {X Y : Type 0} → (List Lexeme → X → Y) → List Token → ℕ → Result (X × ℕ) TextFault → (List Lexeme → Parsed Y) → Type 0
+Represents means toks from result f = Reads ⊥ (means (lexemes toks)) (lexemes toks) result (f (drop from (lexemes toks)))
 
 -- a step returns an index and leaves a state, or returns a fault; `memory` is what holds when memory runs out
 abbrev pub StepEnds : {S : Type 0} → Type 0 → List Lexeme → Result ℕ TextFault → S → Parsed S → Type 0

@@ -18,8 +18,8 @@ pub record IsSquare (m : Square) : Type 0 where
   pub width : (i : ℕ) → i < m.size → length (row_at m.rows i) ≡ m.size
 
 -- the entries of the first n rows and columns are the values of the function
-abbrev pub Tells : ℕ → Square → (ℕ → ℕ → Bool) → Type 0
-Tells n m r = (i j : ℕ) → i < n → j < n → entry m i j ≡ r i j
+abbrev pub Represents : ℕ → Square → (ℕ → ℕ → Bool) → Type 0
+Represents n m r = (i j : ℕ) → i < n → j < n → entry m i j ≡ r i j
 
 -- the matrix at an index of a list
 abbrev pub level : List Square → ℕ → Square

@@ -14,14 +14,14 @@ use Rattle.chain_rules.specs.Chains.{ChainTree}
 use Rattle.chain_rules.specs.Chained.{IsChained}
 use Rattle.chain_proofs.specs.Reads.{Reads as ReadsProof, FirstFault}
 use Rattle.chain_proofs.proofs.OneAnswer.{have_one_answer}
-use Rattle.tool_inputs.specs.FileProblem.{Asks}
+use Rattle.tool_inputs.specs.FileProblem.{Poses}
 use Rattle.tool_inputs.specs.TextProblem.{HasNoProblem}
-use Rattle.tool_inputs.specs.Steps.{ReplySpec, AsksQuestion, AsksFor}
+use Rattle.tool_inputs.specs.Steps.{ReplySpec, PosesQuestion, PosesFor}
 use Rattle.tool_check.specs.Chain.{accepted_chain_line, chain_fault_line, long_proof_line, SpellsChain, HasFault, IsNoChain, ReadsChain, IsUnproving, IsProved, ProvesBytes, ProvesTexts, ChainHeadline, ChainReply}
-use Rattle.tool_inputs.proofs.Steps.{OneStatus, reads_said, text_asks, abstracted_none, text_small, text_once}
-use Rattle.tool_inputs.proofs.TextReplies.{asked_text}
+use Rattle.tool_inputs.proofs.Steps.{OneStatus, reads_denoted, text_poses, abstracted_none, text_small, text_once}
+use Rattle.tool_inputs.proofs.TextReplies.{posed_text}
 use Rattle.tool_inputs.proofs.FileReplies.{HasOneReply}
-use Rattle.tool_inputs.proofs.StoreSentences.{asked_agrees}
+use Rattle.tool_inputs.proofs.StoreSentences.{posed_agrees}
 use Rattle.tool_inputs.proofs.Ways.{Ways, at_zero, at_two, at_three}
 
 -- ---- the text of a proof is read
@@ -95,18 +95,18 @@ module _ (q : ProblemParts) (bytes : List ℕ) (status : ℕ) (output : List ℕ
         reason_line = λ e. let h = rejected e in (h.0, h.2.reason, h.1, h.2.first, h.2.printed);
       }
 
-pub texts_headline : (text bytes : List ℕ) (status : ℕ) (output : List ℕ) (q : ProblemParts) → Asks text q → ProvesTexts text bytes status output → ChainHeadline bytes q status output
-texts_headline text bytes status output q asks r = proved_headline q bytes status output (text_asks text (λ p. ProvesBytes p bytes) status output q asks r)
+pub texts_headline : (text bytes : List ℕ) (status : ℕ) (output : List ℕ) (q : ProblemParts) → Poses text q → ProvesTexts text bytes status output → ChainHeadline bytes q status output
+texts_headline text bytes status output q poses r = proved_headline q bytes status output (text_poses text (λ p. ProvesBytes p bytes) status output q poses r)
 
 -- if the status is 0, the goal of a concrete file holds for all its stores
 pub texts_stores : (text bytes : List ℕ) (status : ℕ) (output : List ℕ) (f : FileParts) → Reads text f → IsConcrete f → ProvesTexts text bytes status output → status ≡ 0 → Agrees f
-texts_stores text bytes status output f reads concrete r zero = stores (reads_said text (λ g. AsksQuestion g (λ p. ProvesBytes p bytes)) status output f reads r)
+texts_stores text bytes status output f reads concrete r zero = stores (reads_denoted text (λ g. PosesQuestion g (λ p. ProvesBytes p bytes)) status output f reads r)
   where
-    stores : AsksQuestion f (λ p. ProvesBytes p bytes) status output → Agrees f
+    stores : PosesQuestion f (λ p. ProvesBytes p bytes) status output → Agrees f
     stores (inl refused) = absurd (omega (arith, zero, refused.0))
     stores (inr (a, is, d)) =
-        let asks : Asks text a.problem = record { file = f; reads = reads; abstract = a; is_abstract = is; question = refl } in
-        asked_agrees text a.problem asks ((proved_headline a.problem bytes status output d).same zero) concrete
+        let poses : Poses text a.problem = record { file = f; reads = reads; abstract = a; is_abstract = is; question = refl } in
+        posed_agrees text a.problem poses ((proved_headline a.problem bytes status output d).same zero) concrete
 
 proved_once : (q : ProblemParts) (c : ChainTree) → OneStatus (IsProved q c)
 proved_once q c a b o p (inl x) y = x.has_status ∙ sym (proved_status q [] b p c x.chained y)
@@ -117,12 +117,12 @@ bytes_once q bytes = reads_chain_once q bytes (IsProved q) (proved_once q)
 
 -- ---- what the reply says
 
-pub chain_reply : (text bytes : List ℕ) (status : ℕ) (output : List ℕ) → AsksFor (HasNoProblem text) (Asks text) (λ q. ProvesBytes q bytes) status output → ChainReply text bytes status output
-chain_reply text bytes status output asked =
-    let r : ProvesTexts text bytes status output = asked_text text (λ q. ProvesBytes q bytes) status output asked in
+pub chain_reply : (text bytes : List ℕ) (status : ℕ) (output : List ℕ) → PosesFor (HasNoProblem text) (Poses text) (λ q. ProvesBytes q bytes) status output → ChainReply text bytes status output
+chain_reply text bytes status output posed =
+    let r : ProvesTexts text bytes status output = posed_text text (λ q. ProvesBytes q bytes) status output posed in
     record {
       replies = r;
-      headline = λ q asks. texts_headline text bytes status output q asks r;
+      headline = λ q poses. texts_headline text bytes status output q poses r;
       stores = λ f reads concrete zero. texts_stores text bytes status output f reads concrete r zero;
       declined = λ line none. abstracted_none text (λ f a. ProvesBytes a.problem bytes) status output line none r;
     }

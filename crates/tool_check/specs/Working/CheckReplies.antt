@@ -13,15 +13,15 @@ use Rattle.while_lang.specs.Files.{FileParts}
 use Rattle.problem_file.specs.Reads.{Reads}
 use Rattle.while_lang.specs.Concrete.{IsConcrete, Agrees}
 use Rattle.kat_report.specs.Acceptances.{accepted_line}
-use Rattle.tool_inputs.specs.FileProblem.{Asks}
+use Rattle.tool_inputs.specs.FileProblem.{Poses}
 use Rattle.tool_inputs.specs.TextProblem.{HasNoProblem}
 use Rattle.tool_inputs.specs.EvidenceBytes.{Spells, IsNoEvidence}
-use Rattle.tool_inputs.specs.Steps.{AsksQuestion, AsksFor}
+use Rattle.tool_inputs.specs.Steps.{PosesQuestion, PosesFor}
 use Rattle.tool_check.specs.Check.{IsChecked, IsRejecting, ChecksBytes, ChecksTexts, CheckHeadline, CheckReply}
-use Rattle.tool_inputs.proofs.Steps.{OneStatus, reads_said, text_asks, abstracted_none, text_small, text_once, reads_spelled, reads_no_evidence, reads_evidence_once}
-use Rattle.tool_inputs.proofs.TextReplies.{asked_text}
+use Rattle.tool_inputs.proofs.Steps.{OneStatus, reads_denoted, text_poses, abstracted_none, text_small, text_once, reads_spelled, reads_no_evidence, reads_evidence_once}
+use Rattle.tool_inputs.proofs.TextReplies.{posed_text}
 use Rattle.tool_inputs.proofs.FileReplies.{HasOneReply}
-use Rattle.tool_inputs.proofs.StoreSentences.{asked_agrees}
+use Rattle.tool_inputs.proofs.StoreSentences.{posed_agrees}
 use Rattle.tool_check.specs.Working.FaultLines.{fault_printed}
 use Rattle.tool_inputs.proofs.Ways.{Ways, at_zero, at_one, at_two, at_three}
 
@@ -40,8 +40,8 @@ BytesWays q bytes status output =
 module _ (q : ProblemParts) (bytes : List ℕ) (status : ℕ) (output : List ℕ) where
   bytes_ways : ChecksBytes q bytes status output → BytesWays q bytes status output
   bytes_ways (inl r) = inr (inr (inl r))
-  bytes_ways (inr (Equal c, s, inl a)) = inl (a.has_status, (c, s, a.shows, a.says))
-  bytes_ways (inr (Different x, s, inl a)) = inr (inl (a.has_status, (x, s, a.shows, a.says)))
+  bytes_ways (inr (Equal c, s, inl a)) = inl (a.has_status, (c, s, a.shows, a.denotes))
+  bytes_ways (inr (Different x, s, inl a)) = inr (inl (a.has_status, (x, s, a.shows, a.denotes)))
   bytes_ways (inr (e, s, inr r)) = inr (inr (inr (inl (r.has_status, (e, s, r)))))
 
   accepted_status : (c : CertParts) → IsAccepted q c → IsChecked q (Equal c) status output → status ≡ 0
@@ -89,18 +89,18 @@ module _ (q : ProblemParts) (bytes : List ℕ) (status : ℕ) (output : List ℕ
         rejected_output = λ e. let h = rejected e in (h.0, h.2.reason, h.1, h.2.first, h.2.printed);
       }
 
-pub texts_headline : (text bytes : List ℕ) (status : ℕ) (output : List ℕ) (q : ProblemParts) → Asks text q → ChecksTexts text bytes status output → CheckHeadline bytes q status output
-texts_headline text bytes status output q asks r = checked_headline q bytes status output (text_asks text (λ p. ChecksBytes p bytes) status output q asks r)
+pub texts_headline : (text bytes : List ℕ) (status : ℕ) (output : List ℕ) (q : ProblemParts) → Poses text q → ChecksTexts text bytes status output → CheckHeadline bytes q status output
+texts_headline text bytes status output q poses r = checked_headline q bytes status output (text_poses text (λ p. ChecksBytes p bytes) status output q poses r)
 
 -- if the status is 0, the goal of a concrete file holds for all its stores
 pub texts_stores : (text bytes : List ℕ) (status : ℕ) (output : List ℕ) (f : FileParts) → Reads text f → IsConcrete f → ChecksTexts text bytes status output → status ≡ 0 → Agrees f
-texts_stores text bytes status output f reads concrete r zero = stores (reads_said text (λ g. AsksQuestion g (λ p. ChecksBytes p bytes)) status output f reads r)
+texts_stores text bytes status output f reads concrete r zero = stores (reads_denoted text (λ g. PosesQuestion g (λ p. ChecksBytes p bytes)) status output f reads r)
   where
-    stores : AsksQuestion f (λ p. ChecksBytes p bytes) status output → Agrees f
+    stores : PosesQuestion f (λ p. ChecksBytes p bytes) status output → Agrees f
     stores (inl refused) = absurd (omega (arith, zero, refused.0))
     stores (inr (a, is, d)) =
-        let asks : Asks text a.problem = record { file = f; reads = reads; abstract = a; is_abstract = is; question = refl } in
-        asked_agrees text a.problem asks ((checked_headline a.problem bytes status output d).equal zero).3 concrete
+        let poses : Poses text a.problem = record { file = f; reads = reads; abstract = a; is_abstract = is; question = refl } in
+        posed_agrees text a.problem poses ((checked_headline a.problem bytes status output d).equal zero).3 concrete
 
 checked_once : (q : ProblemParts) (e : Evidence) → OneStatus (IsChecked q e)
 checked_once q e a b o p (inl x) (inl y) = x.has_status ∙ sym y.has_status
@@ -113,12 +113,12 @@ bytes_once q bytes = reads_evidence_once bytes (IsChecked q) (checked_once q)
 
 -- ---- what the reply says
 
-pub check_reply : (text bytes : List ℕ) (status : ℕ) (output : List ℕ) → AsksFor (HasNoProblem text) (Asks text) (λ q. ChecksBytes q bytes) status output → CheckReply text bytes status output
-check_reply text bytes status output asked =
-    let r : ChecksTexts text bytes status output = asked_text text (λ q. ChecksBytes q bytes) status output asked in
+pub check_reply : (text bytes : List ℕ) (status : ℕ) (output : List ℕ) → PosesFor (HasNoProblem text) (Poses text) (λ q. ChecksBytes q bytes) status output → CheckReply text bytes status output
+check_reply text bytes status output posed =
+    let r : ChecksTexts text bytes status output = posed_text text (λ q. ChecksBytes q bytes) status output posed in
     record {
       replies = r;
-      headline = λ q asks. texts_headline text bytes status output q asks r;
+      headline = λ q poses. texts_headline text bytes status output q poses r;
       stores = λ f reads concrete zero. texts_stores text bytes status output f reads concrete r zero;
       declined = λ line none. abstracted_none text (λ f a. ChecksBytes a.problem bytes) status output line none r;
     }

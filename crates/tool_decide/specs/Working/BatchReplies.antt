@@ -17,11 +17,11 @@ use Rattle.abstraction.proofs.ReadingAgreement.{readings_agree}
 use Rattle.abstraction.proofs.Agreement.{same_agrees}
 use Rattle.kat_report.specs.InputLines.{too_long_line}
 use Rattle.tool_decide.specs.Decide.{IsDecided}
-use Rattle.tool_decide.specs.Batch.{with_each, AsksSome, AsksSame, goal_line, IsGoalAnswer, AnswersFrom, IsFirstRefused, AnswersAll, AnswersText, BatchHeadline, BatchReply}
+use Rattle.tool_decide.specs.Batch.{with_each, PosesSome, PosesSame, goal_line, IsGoalAnswer, AnswersFrom, IsFirstRefused, AnswersAll, AnswersText, BatchHeadline, BatchReply}
 use Rattle.tool_decide.specs.Working.Goals.{AreInRange}
 use Rattle.tool_inputs.specs.ReplySpecs.{IsQuestionOf}
 use Rattle.tool_inputs.specs.Working.Questions.{not_both as not_both_results}
-use Rattle.tool_inputs.proofs.Steps.{OneStatus, one_value, one_line, said_one, faulty_one, read_once, reads_small, reads_long}
+use Rattle.tool_inputs.proofs.Steps.{OneStatus, one_value, one_line, denoted_one, faulty_one, read_once, reads_small, reads_long}
 use Rattle.tool_inputs.proofs.FileReplies.{RefusesLong, HasOneReply}
 use Rattle.tool_decide.specs.Working.DecideReplies.{not_both, decided_headline}
 use Rattle.tool_decide.specs.Working.GoalLists.{with_first, first_next, length_first}
@@ -29,13 +29,13 @@ use Rattle.tool_decide.specs.Working.GoalLists.{with_first, first_next, length_f
 -- ---- one goal
 
 module _ (f : FileParts) where
-  goal_some : (status : ℕ) (output : List ℕ) → IsGoalAnswer f status output → AsksSome f
+  goal_some : (status : ℕ) (output : List ℕ) → IsGoalAnswer f status output → PosesSome f
   goal_some status output (a, is, d) = (a, is)
 
-  goal_same : (status : ℕ) (output : List ℕ) → IsGoalAnswer f status output → status ≡ 0 → AsksSame f
+  goal_same : (status : ℕ) (output : List ℕ) → IsGoalAnswer f status output → status ≡ 0 → PosesSame f
   goal_same status output (a, is, d) zero = (a, is, (decided_headline a.problem status output d).equal.0 zero)
 
-  goal_zero : (status : ℕ) (output : List ℕ) → IsGoalAnswer f status output → AsksSame f → status ≡ 0
+  goal_zero : (status : ℕ) (output : List ℕ) → IsGoalAnswer f status output → PosesSame f → status ≡ 0
   goal_zero status output (a, is, d) (b, was, same) =
       (decided_headline a.problem status output d).equal.1 (subst (λ (x : AbstractParts). Same x.problem) (one_value (abstract_of f) b a was is) same)
 
@@ -53,17 +53,17 @@ one_of_both status m n e (inl p) (inr q) = inr (omega (arith, e, p, q))
 one_of_both status m n e (inr p) (inl q) = inr (omega (arith, e, p, q))
 one_of_both status m n e (inr p) (inr q) = inr (omega (arith, e, p, q))
 
-each_some : (k : ℕ) (fs : List FileParts) (status : ℕ) (output : List ℕ) → AnswersFrom k fs status output → (g : FileParts) → Has fs g → AsksSome g
+each_some : (k : ℕ) (fs : List FileParts) (status : ℕ) (output : List ℕ) → AnswersFrom k fs status output → (g : FileParts) → Has fs g → PosesSome g
 each_some k [] status output r g has = elim has [ ]
-each_some k (f ∷ fs) status output r g (inl is) = subst AsksSome is (goal_some f r.first r.text r.answer)
+each_some k (f ∷ fs) status output r g (inl is) = subst PosesSome is (goal_some f r.first r.text r.answer)
 each_some k (f ∷ fs) status output r g (inr has) = each_some (k + 1) fs r.later r.others r.goes_on g has
 
-each_same : (k : ℕ) (fs : List FileParts) (status : ℕ) (output : List ℕ) → AnswersFrom k fs status output → status ≡ 0 → (g : FileParts) → Has fs g → AsksSame g
+each_same : (k : ℕ) (fs : List FileParts) (status : ℕ) (output : List ℕ) → AnswersFrom k fs status output → status ≡ 0 → (g : FileParts) → Has fs g → PosesSame g
 each_same k [] status output r zero g has = elim has [ ]
-each_same k (f ∷ fs) status output r zero g (inl is) = subst AsksSame is (goal_same f r.first r.text r.answer (both_zero status r.first r.later r.has_status zero).0)
+each_same k (f ∷ fs) status output r zero g (inl is) = subst PosesSame is (goal_same f r.first r.text r.answer (both_zero status r.first r.later r.has_status zero).0)
 each_same k (f ∷ fs) status output r zero g (inr has) = each_same (k + 1) fs r.later r.others r.goes_on (both_zero status r.first r.later r.has_status zero).1 g has
 
-all_zero : (k : ℕ) (fs : List FileParts) (status : ℕ) (output : List ℕ) → AnswersFrom k fs status output → ((g : FileParts) → Has fs g → AsksSame g) → status ≡ 0
+all_zero : (k : ℕ) (fs : List FileParts) (status : ℕ) (output : List ℕ) → AnswersFrom k fs status output → ((g : FileParts) → Has fs g → PosesSame g) → status ≡ 0
 all_zero k [] status output r same = r.0
 all_zero k (f ∷ fs) status output r same =
     let first : r.first ≡ 0 = goal_zero f r.first r.text r.answer (same f (inl refl)) in
@@ -118,7 +118,7 @@ answered_last k (g ∷ fs) status output r f last text a = record {
 
 -- ---- a refused goal
 
-refused_some : (fs : List FileParts) (line : List ℕ) → IsFirstRefused fs line → ((g : FileParts) → Has fs g → AsksSome g) → ⊥
+refused_some : (fs : List FileParts) (line : List ℕ) → IsFirstRefused fs line → ((g : FileParts) → Has fs g → PosesSome g) → ⊥
 refused_some [] line first some = elim first [ ]
 refused_some (f ∷ fs) line (inl none) some = let a = some f (inl refl) in not_both_results (abstract_of f) a.0 none.fault a.1 none.has_none
 refused_some (f ∷ fs) line (inr later) some = refused_some fs line later.1 (λ g has. some g (inr has))
@@ -149,11 +149,11 @@ numbers_of_goals text f more reads x (inr has) =
 -- ---- the reply to what was read
 
 module _ (f : FileParts) (more : List GoalTree) (status : ℕ) (output : List ℕ) where
-  same_if : AnswersAll f more status output → ((g : FileParts) → Has (with_each f more) g → AsksSame g) → status ≡ 0
+  same_if : AnswersAll f more status output → ((g : FileParts) → Has (with_each f more) g → PosesSame g) → status ≡ 0
   same_if (inl r) same = absurd (refused_some (with_each f more) output r.1 (λ g has. let h = same g has in (h.0, h.1)))
   same_if (inr r) same = all_zero 0 (with_each f more) status output r same
 
-  answered_if : AnswersAll f more status output → ((g : FileParts) → Has (with_each f more) g → AsksSome g) → AnswersFrom 0 (with_each f more) status output
+  answered_if : AnswersAll f more status output → ((g : FileParts) → Has (with_each f more) g → PosesSome g) → AnswersFrom 0 (with_each f more) status output
   answered_if (inl r) some = absurd (refused_some (with_each f more) output r.1 some)
   answered_if (inr r) some = r
 
@@ -173,7 +173,7 @@ module _ (f : FileParts) (more : List GoalTree) (status : ℕ) (output : List �
   below_two (inl r) e = absurd (⊎_elim (λ zero. omega (arith, zero, r.0)) (λ one. omega (arith, one, r.0)) e)
   below_two (inr r) e = r
 
-  differ_if : AnswersAll f more status output → ((g : FileParts) → Has (with_each f more) g → AsksSome g) → (((g : FileParts) → Has (with_each f more) g → AsksSame g) → ⊥) → status ≡ 1
+  differ_if : AnswersAll f more status output → ((g : FileParts) → Has (with_each f more) g → PosesSome g) → (((g : FileParts) → Has (with_each f more) g → PosesSame g) → ⊥) → status ≡ 1
   differ_if r some differ =
       let answered = answered_if r some in
       ⊎_elim (λ zero. absurd (differ (each_same 0 (with_each f more) status output answered zero))) (λ one. one) (either_status 0 (with_each f more) status output answered)
@@ -220,7 +220,7 @@ goals_once f more a b o p (inr x) y = by_status (either_status 0 (with_each f mo
 pub text_headline : (text : List ℕ) (status : ℕ) (output : List ℕ) (f : FileParts) (more : List GoalTree) → ReadsAll text f more → AnswersText text status output → BatchHeadline f more status output
 text_headline text status output f more reads r =
     goals_headline f more status output (numbers_of_goals text f more reads)
-    (said_one ReadsBoth FirstFaultOfAll all_have_one_answer text (λ x. AnswersAll x.0 x.1) status output (f, more) reads r)
+    (denoted_one ReadsBoth FirstFaultOfAll all_have_one_answer text (λ x. AnswersAll x.0 x.1) status output (f, more) reads r)
 
 batches_once : (text : List ℕ) → OneStatus (AnswersText text)
 batches_once text = read_once ReadsBoth FirstFaultOfAll all_have_one_answer text (λ x. AnswersAll x.0 x.1) (λ x. goals_once x.0 x.1)

@@ -23,5 +23,5 @@ pub record IsTripleOfFile (f : FileParts) (t : Triple) : Type 0 where
   pub task : HasTask f abstract.problem (task_parts t.task)
 
 -- the file has no triple: it has no abstraction, or its question has no outlines
-abbrev pub AsksNoTask : FileParts → List ℕ → Type 0
-AsksNoTask f output = HasNoAbstraction f output ⊎ ((a : AbstractParts) × (abstract_of f ≡ Ok a) × HasNoTask f a.problem output)
+abbrev pub LacksTask : FileParts → List ℕ → Type 0
+LacksTask f output = HasNoAbstraction f output ⊎ ((a : AbstractParts) × (abstract_of f ≡ Ok a) × HasNoTask f a.problem output)

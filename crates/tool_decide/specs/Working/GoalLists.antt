@@ -8,7 +8,7 @@ use Rattle.while_lang.specs.declared.file.Goal.{Goal}
 use Rattle.while_lang.specs.Files.{GoalTree, FileParts}
 use Rattle.while_lang.specs.Trees.{goal_tree}
 use Rattle.abstraction.specs.Abstracts.{with_goal}
-use Rattle.tool_decide.specs.Batch.{with_each, AsksSome, IsFirstRefused}
+use Rattle.tool_decide.specs.Batch.{with_each, PosesSome, IsFirstRefused}
 use Rattle.tool_inputs.specs.TextProblem.{HasNoAbstraction}
 
 no_goal : (k : ℕ) (g : GoalTree) → slice_get [] k ≡ Some g → ⊥
@@ -65,19 +65,19 @@ module _ (f : FileParts) where
   all_first gs i past = ap (λ ys. f ∷ map (with_goal f) ys) (take_all i (map goal_tree gs) (subst (λ n. n ≤ i) (sym (length-map gs goal_tree)) past))
 
   -- if each file of a list asks a question, and an additional file does, so does each file of the longer list
-  has_last : (xs : List FileParts) (x g : FileParts) → Has (xs ++ x ∷ []) g → ((h : FileParts) → Has xs h → AsksSome h) → AsksSome x → AsksSome g
-  has_last [] x g (inl is) some one = subst AsksSome is one
+  has_last : (xs : List FileParts) (x g : FileParts) → Has (xs ++ x ∷ []) g → ((h : FileParts) → Has xs h → PosesSome h) → PosesSome x → PosesSome g
+  has_last [] x g (inl is) some one = subst PosesSome is one
   has_last [] x g (inr has) some one = elim has [ ]
   has_last (y ∷ ys) x g (inl is) some one = some g (inl is)
   has_last (y ∷ ys) x g (inr has) some one = has_last ys x g has (λ h there. some h (inr there)) one
 
-  pub some_next : (more : List GoalTree) (k : ℕ) (g : GoalTree) → slice_get more k ≡ Some g → ((h : FileParts) → Has (with_first k more) h → AsksSome h) → AsksSome (with_goal f g) → (h : FileParts) → Has (with_first (k + 1) more) h → AsksSome h
+  pub some_next : (more : List GoalTree) (k : ℕ) (g : GoalTree) → slice_get more k ≡ Some g → ((h : FileParts) → Has (with_first k more) h → PosesSome h) → PosesSome (with_goal f g) → (h : FileParts) → Has (with_first (k + 1) more) h → PosesSome h
   some_next more k g e some one h has = has_last (with_first k more) (with_goal f g) h (subst (λ xs. Has xs h) (first_next more k g e) has) some one
 
   -- the first refused file follows files that ask a question
-  refused_behind : (before after : List FileParts) (x : FileParts) (line : List ℕ) → ((g : FileParts) → Has before g → AsksSome g) → HasNoAbstraction x line → IsFirstRefused (before ++ x ∷ after) line
+  refused_behind : (before after : List FileParts) (x : FileParts) (line : List ℕ) → ((g : FileParts) → Has before g → PosesSome g) → HasNoAbstraction x line → IsFirstRefused (before ++ x ∷ after) line
   refused_behind [] after x line some none = inl none
   refused_behind (g ∷ before) after x line some none = inr (some g (inl refl), refused_behind before after x line (λ h has. some h (inr has)) none)
 
-  pub refused_at : (more : List GoalTree) (k : ℕ) (g : GoalTree) (line : List ℕ) → slice_get more k ≡ Some g → ((h : FileParts) → Has (with_first k more) h → AsksSome h) → HasNoAbstraction (with_goal f g) line → IsFirstRefused (with_each f more) line
+  pub refused_at : (more : List GoalTree) (k : ℕ) (g : GoalTree) (line : List ℕ) → slice_get more k ≡ Some g → ((h : FileParts) → Has (with_first k more) h → PosesSome h) → HasNoAbstraction (with_goal f g) line → IsFirstRefused (with_each f more) line
   refused_at more k g line e some none = subst (λ xs. IsFirstRefused xs line) (sym (each_split more k g e)) (refused_behind (with_first k more) (map (with_goal f) (drop (suc k) more)) (with_goal f g) line some none)

@@ -17,16 +17,16 @@ use Rattle.outline_rules.specs.Reasons.{IsFirstReason}
 use Rattle.outline_rules.specs.declared.answer.NoteReason.{NoteReason}
 use Rattle.outline_rules.proofs.Soundness.{follows_same}
 use Rattle.outline_rules.proofs.Against.{reasons_against}
-use Rattle.tool_inputs.specs.FileProblem.{Asks}
+use Rattle.tool_inputs.specs.FileProblem.{Poses}
 use Rattle.kat_report.specs.Acceptances.{accepted_outline_line}
 use Rattle.kat_report.specs.OutlineLines.{notes_fault_line, note_reason_line}
-use Rattle.tool_inputs.specs.Steps.{ReplySpec, AbstractsFile, AsksFor}
+use Rattle.tool_inputs.specs.Steps.{ReplySpec, AbstractsFile, PosesFor}
 use Rattle.tool_decide.specs.Triples.{HasTask, TakesTask, PosesNoTask}
 use Rattle.tool_decide.specs.OutlineCheck.{SpellsNotes, IsNoNotes, ReadsNotes, AreAccepted, AreRejected, AreChecked, ChecksNotes, ChecksNoteTexts, HasNoNotes, NotesHeadline, OutlineCheckReply}
-use Rattle.tool_inputs.proofs.Steps.{OneStatus, reads_said, small_status}
+use Rattle.tool_inputs.proofs.Steps.{OneStatus, reads_denoted, small_status}
 use Rattle.tool_inputs.proofs.FileReplies.{HasOneReply}
-use Rattle.tool_inputs.proofs.StoreSentences.{asked_agrees}
-use Rattle.tool_decide.specs.Working.TextTriples.{takes_task, takes_none, asks_once, asks_takes, asks_none, asked_task, task_small, IsPosed}
+use Rattle.tool_inputs.proofs.StoreSentences.{posed_agrees}
+use Rattle.tool_decide.specs.Working.TextTriples.{takes_task, takes_none, poses_once, poses_takes, poses_none, answered_task, task_small, IsPosed}
 use Rattle.tool_inputs.proofs.Ways.{Ways, at_zero, at_two, at_three}
 
 -- ---- notes are read
@@ -131,29 +131,29 @@ module _ (bytes : List ℕ) (f : FileParts) (q : ProblemParts) (status : ℕ) (o
           reason_line = λ t ns has s fails. is_rejected q t ns status output fails (checked t ns has s);
         }
 
-pub texts_headline : (text bytes : List ℕ) (status : ℕ) (output : List ℕ) (q : ProblemParts) (asks : Asks text q) → ChecksNoteTexts text bytes status output → NotesHeadline bytes asks.file q status output
-texts_headline text bytes status output q asks r = notes_headline bytes asks.file q status output (asks_takes text (ChecksNotes bytes) status output q asks r)
+pub texts_headline : (text bytes : List ℕ) (status : ℕ) (output : List ℕ) (q : ProblemParts) (poses : Poses text q) → ChecksNoteTexts text bytes status output → NotesHeadline bytes poses.file q status output
+texts_headline text bytes status output q poses r = notes_headline bytes poses.file q status output (poses_takes text (ChecksNotes bytes) status output q poses r)
 
 -- if the status is 0, the goal of a concrete file holds for all its stores
 pub texts_stores : (text bytes : List ℕ) (status : ℕ) (output : List ℕ) (f : FileParts) → Reads text f → IsConcrete f → ChecksNoteTexts text bytes status output → status ≡ 0 → Agrees f
-texts_stores text bytes status output f reads concrete r zero = stores (reads_said text (λ g. AbstractsFile g (λ a. TakesTask (ChecksNotes bytes) g a.problem)) status output f reads r)
+texts_stores text bytes status output f reads concrete r zero = stores (reads_denoted text (λ g. AbstractsFile g (λ a. TakesTask (ChecksNotes bytes) g a.problem)) status output f reads r)
   where
     stores : AbstractsFile f (λ a. TakesTask (ChecksNotes bytes) f a.problem) status output → Agrees f
     stores (inl refused) = absurd (omega (arith, zero, refused.0))
     stores (inr (a, is, taken)) =
-        let asks : Asks text a.problem = record { file = f; reads = reads; abstract = a; is_abstract = is; question = refl } in
-        asked_agrees text a.problem asks ((notes_headline bytes f a.problem status output taken).same zero) concrete
+        let poses : Poses text a.problem = record { file = f; reads = reads; abstract = a; is_abstract = is; question = refl } in
+        posed_agrees text a.problem poses ((notes_headline bytes f a.problem status output taken).same zero) concrete
 
 -- ---- what the reply says
 
-pub outline_check_reply : (text bytes : List ℕ) (status : ℕ) (output : List ℕ) → AsksFor (PosesNoTask text) (IsPosed text) (λ t. ChecksNotes bytes t.problem (task_parts t.task)) status output → OutlineCheckReply text bytes status output
-outline_check_reply text bytes status output asked =
-    let r : ChecksNoteTexts text bytes status output = asked_task text (ChecksNotes bytes) status output asked in
+pub outline_check_reply : (text bytes : List ℕ) (status : ℕ) (output : List ℕ) → PosesFor (PosesNoTask text) (IsPosed text) (λ t. ChecksNotes bytes t.problem (task_parts t.task)) status output → OutlineCheckReply text bytes status output
+outline_check_reply text bytes status output posed =
+    let r : ChecksNoteTexts text bytes status output = answered_task text (ChecksNotes bytes) status output posed in
     record {
       replies = r;
-      headline = λ q asks. texts_headline text bytes status output q asks r;
+      headline = λ q poses. texts_headline text bytes status output q poses r;
       stores = λ f reads concrete zero. texts_stores text bytes status output f reads concrete r zero;
-      declined = λ line none. asks_none text (ChecksNotes bytes) status output line none r;
+      declined = λ line none. poses_none text (ChecksNotes bytes) status output line none r;
     }
 
 small_checked : (bytes : List ℕ) (q : ProblemParts) (t : TaskParts) (status : ℕ) (output : List ℕ) → ChecksNotes bytes q t status output → status < 4
@@ -164,5 +164,5 @@ small_checked bytes q t status output (inr (ns, s, inr r)) = small_status status
 pub outline_check_one : (text bytes : List ℕ) → HasOneReply (OutlineCheckReply text bytes) ⊥
 outline_check_one text bytes = record {
   small = λ status output r. inl (task_small text (ChecksNotes bytes) (small_checked bytes) status output r.replies);
-  once = λ a b o p x y. asks_once text (ChecksNotes bytes) (notes_once bytes) a b o p x.replies y.replies;
+  once = λ a b o p x y. poses_once text (ChecksNotes bytes) (notes_once bytes) a b o p x.replies y.replies;
 }

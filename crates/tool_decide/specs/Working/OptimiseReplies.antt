@@ -6,7 +6,7 @@ use Rattle.while_lang.specs.Files.{FileParts}
 use Rattle.problem_file.specs.Reads.{Reads}
 use Rattle.kat_report.specs.InputLines.{too_long_line, words_line}
 use Rattle.tool_decide.specs.Optimise.{any_program_of, PrintsOptimised, OptimisesFile, OptimisesText, OptimiseHeadline, LacksAnyProgram, OptimiseReply}
-use Rattle.tool_inputs.proofs.Steps.{OneStatus, reads_said, reads_faulty, reads_once, small_status, text_long}
+use Rattle.tool_inputs.proofs.Steps.{OneStatus, reads_denoted, reads_faulty, reads_once, small_status, text_long}
 use Rattle.tool_inputs.proofs.FileReplies.{RefusesLong, HasOneReply}
 use Rattle.tool_inputs.specs.Steps.{HasUnfitWords}
 
@@ -55,7 +55,7 @@ module _ (f : FileParts) (name : List ℕ) (turns status : ℕ) (output : List �
       }
 
 pub text_headline : (text name : List ℕ) (turns status : ℕ) (output : List ℕ) (f : FileParts) → Reads text f → OptimisesText text name turns status output → OptimiseHeadline f name turns status output
-text_headline text name turns status output f reads r = optimise_headline f name turns status output (reads_said text (λ g. OptimisesFile g name turns) status output f reads r)
+text_headline text name turns status output f reads r = optimise_headline f name turns status output (reads_denoted text (λ g. OptimisesFile g name turns) status output f reads r)
 
 -- ---- one status
 

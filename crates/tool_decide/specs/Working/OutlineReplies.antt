@@ -16,17 +16,17 @@ use Rattle.outline_rules.specs.NoteLists.{NotesParts, AreNotes}
 use Rattle.outline_rules.specs.Texts.{node_numbers, IsNarrow, AreNarrowNotes}
 use Rattle.outline_rules.specs.Tasks.{TaskParts}
 use Rattle.outline_rules.specs.Follows.{Follows, HasTests}
-use Rattle.tool_inputs.specs.FileProblem.{Asks}
+use Rattle.tool_inputs.specs.FileProblem.{Poses}
 use Rattle.kat_report.specs.InputLines.{too_long_line}
 use Rattle.tool_inputs.specs.Steps.{AbstractsFile}
 use Rattle.tool_decide.specs.Decide.{IsDifferent, IsDecided}
 use Rattle.tool_decide.specs.Triples.{HasTask, HasNoTask, TakesTask}
 use Rattle.tool_decide.specs.Outline.{IsNoted, IsOutlined, OutlinesText, OutlineHeadline, OutlineReply}
 use Rattle.tool_decide.specs.Working.NarrowCounts.{small, few_tests}
-use Rattle.tool_inputs.proofs.Steps.{OneStatus, reads_said, small_status, text_long}
+use Rattle.tool_inputs.proofs.Steps.{OneStatus, reads_denoted, small_status, text_long}
 use Rattle.tool_inputs.proofs.FileReplies.{RefusesLong, HasOneReply}
-use Rattle.tool_inputs.proofs.StoreSentences.{asked_agrees}
-use Rattle.tool_decide.specs.Working.TextTriples.{takes_task, takes_none, asks_once, asks_takes, asks_none, task_small}
+use Rattle.tool_inputs.proofs.StoreSentences.{posed_agrees}
+use Rattle.tool_decide.specs.Working.TextTriples.{takes_task, takes_none, poses_once, poses_takes, poses_none, task_small}
 use Rattle.tool_inputs.proofs.Ways.{Ways, at_zero, at_one, at_two}
 
 -- ---- the numbers in notes fit in 64 bits
@@ -59,15 +59,15 @@ module _ (q : ProblemParts) (problem : IsProblem q) (ns : NotesParts) (has : Has
 -- ---- the reply to a problem and its triple
 
 -- what the contract of `outline` says about its answer
-module _ (q : ProblemParts) (t : TaskParts) (o : Option NotesParts) (told : MatchOption o (Same q → ⊥) (λ notes. Same q × Follows q t notes)) where
-  abbrev IsTold : Option NotesParts → Type 0
-  IsTold x = MatchOption x (Same q → ⊥) (λ notes. Same q × Follows q t notes)
+module _ (q : ProblemParts) (t : TaskParts) (o : Option NotesParts) (given : MatchOption o (Same q → ⊥) (λ notes. Same q × Follows q t notes)) where
+  abbrev IsGiven : Option NotesParts → Type 0
+  IsGiven x = MatchOption x (Same q → ⊥) (λ notes. Same q × Follows q t notes)
 
   pub noted_at : (notes : NotesParts) → o ≡ Some notes → Same q × Follows q t notes
-  noted_at notes is = subst IsTold is told
+  noted_at notes is = subst IsGiven is given
 
   pub none_at : o ≡ None → Same q → ⊥
-  none_at is = subst IsTold is told
+  none_at is = subst IsGiven is given
 
 -- if the triple does not hold, the decision is a string
 pub fails_decided : (q : ProblemParts) (status : ℕ) (output : List ℕ) → (Same q → ⊥) → IsDecided q status output → (status ≡ 1) × IsDifferent q output
@@ -123,27 +123,27 @@ outlined_once q t a b o p (inr x) (inr y) = x.0 ∙ sym y.0
 
 -- ---- the reply to a text
 
-pub text_headline : (text : List ℕ) (status : ℕ) (output : List ℕ) (q : ProblemParts) (asks : Asks text q) → OutlinesText text status output → OutlineHeadline asks.file q status output
-text_headline text status output q asks r = outlined_headline asks.file q status output (asks_takes text IsOutlined status output q asks r)
+pub text_headline : (text : List ℕ) (status : ℕ) (output : List ℕ) (q : ProblemParts) (poses : Poses text q) → OutlinesText text status output → OutlineHeadline poses.file q status output
+text_headline text status output q poses r = outlined_headline poses.file q status output (poses_takes text IsOutlined status output q poses r)
 
 -- if the status is 0, the goal of a concrete file holds for all its stores
 pub text_stores : (text : List ℕ) (status : ℕ) (output : List ℕ) (f : FileParts) → Reads text f → IsConcrete f → OutlinesText text status output → status ≡ 0 → Agrees f
-text_stores text status output f reads concrete r zero = stores (reads_said text (λ g. AbstractsFile g (λ a. TakesTask IsOutlined g a.problem)) status output f reads r)
+text_stores text status output f reads concrete r zero = stores (reads_denoted text (λ g. AbstractsFile g (λ a. TakesTask IsOutlined g a.problem)) status output f reads r)
   where
     stores : AbstractsFile f (λ a. TakesTask IsOutlined f a.problem) status output → Agrees f
     stores (inl refused) = absurd (omega (arith, zero, refused.0))
     stores (inr (a, is, taken)) =
-        let asks : Asks text a.problem = record { file = f; reads = reads; abstract = a; is_abstract = is; question = refl } in
-        asked_agrees text a.problem asks ((outlined_headline f a.problem status output taken).noted.0 zero).2 concrete
+        let poses : Poses text a.problem = record { file = f; reads = reads; abstract = a; is_abstract = is; question = refl } in
+        posed_agrees text a.problem poses ((outlined_headline f a.problem status output taken).noted.0 zero).2 concrete
 
 -- ---- what the reply says
 
 pub outline_reply : (text : List ℕ) (status : ℕ) (output : List ℕ) → OutlinesText text status output → OutlineReply text status output
 outline_reply text status output r = record {
   replies = r;
-  headline = λ q asks. text_headline text status output q asks r;
+  headline = λ q poses. text_headline text status output q poses r;
   stores = λ f reads concrete zero. text_stores text status output f reads concrete r zero;
-  declined = λ line none. asks_none text IsOutlined status output line none r;
+  declined = λ line none. poses_none text IsOutlined status output line none r;
 }
 
 pub outline_long : RefusesLong OutlineReply
@@ -156,5 +156,5 @@ small_outlined q t status output (inr h) = small_status status (inr (inl h.0))
 pub outline_one : (text : List ℕ) → HasOneReply (OutlineReply text) ⊥
 outline_one text = record {
   small = λ status output r. inl (task_small text IsOutlined small_outlined status output r.replies);
-  once = λ a b o p x y. asks_once text IsOutlined outlined_once a b o p x.replies y.replies;
+  once = λ a b o p x y. poses_once text IsOutlined outlined_once a b o p x.replies y.replies;
 }

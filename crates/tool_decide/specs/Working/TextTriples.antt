@@ -22,17 +22,17 @@ use Rattle.outline_rules.specs.Tasks.{TaskParts, task_parts, IsTripleOf}
 use Rattle.outline_rules.specs.declared.task.Task.{Task}
 use Rattle.tool_inputs.specs.declared.reply.EarlyEnd.{EarlyEnd}
 use Rattle.tool_decide.specs.declared.triple.Triple.{Triple}
-use Rattle.tool_inputs.specs.FileProblem.{Asks}
+use Rattle.tool_inputs.specs.FileProblem.{Poses}
 use Rattle.tool_inputs.specs.TextProblem.{IsFaulty, HasNoAbstraction}
 use Rattle.kat_report.specs.InputLines.{too_long_line}
 use Rattle.kat_report.specs.OutlineLines.{not_a_triple_line, not_simple_line}
-use Rattle.tool_decide.specs.Triples.{goal_task, file_task, HasTask, TellsNotSimple, HasNoTask, TakesTask, AsksTask, PosesTask, PosesNoTask, PosesSomeTask}
-use Rattle.tool_inputs.specs.Steps.{ReplySpec, IsRefusal, AbstractsFile, AsksFor}
+use Rattle.tool_decide.specs.Triples.{goal_task, file_task, HasTask, ReportsNotSimple, HasNoTask, TakesTask, AnswersTask, PosesTask, PosesNoTask, PosesSomeTask}
+use Rattle.tool_inputs.specs.Steps.{ReplySpec, IsRefusal, AbstractsFile, PosesFor}
 use Rattle.tool_inputs.specs.ReplySpecs.{Yields}
 use Rattle.tool_inputs.specs.Working.Questions.{long_problem}
-use Rattle.tool_decide.specs.Working.FileTriples.{IsSimpleTriple, IsTripleOfFile, AsksNoTask}
+use Rattle.tool_decide.specs.Working.FileTriples.{IsSimpleTriple, IsTripleOfFile, LacksTask}
 use Rattle.tool_inputs.proofs.ReplySpecs.{EndsWith-weaker, Yields-refused}
-use Rattle.tool_inputs.proofs.Steps.{OneStatus, reads_said, reads_once, abstracts_as, abstracts_once, abstracted_none, small_status, reads_small, abstracts_small}
+use Rattle.tool_inputs.proofs.Steps.{OneStatus, reads_denoted, reads_once, abstracts_as, abstracts_once, abstracted_none, small_status, reads_small, abstracts_small}
 
 -- ---- the triple of a file
 
@@ -56,21 +56,21 @@ shown_task f a g made same = ap (λ t. goal_task t g) (shown_tables-abstract_of 
 
 -- the triple of a file, or why it has none
 module _ (f : FileParts) (a : AbstractParts) (made : abstract_of f ≡ Ok a) where
-  pub no_triple : (status : ℕ) (output : List ℕ) → file_task f ≡ None → (status ≡ 2) × (output ≡ not_a_triple_line) → IsRefusal (AsksNoTask f) status output
+  pub no_triple : (status : ℕ) (output : List ℕ) → file_task f ≡ None → (status ≡ 2) × (output ≡ not_a_triple_line) → IsRefusal (LacksTask f) status output
   no_triple status output none h = (h.0, inr (a, made, inl (record { none = none; printed = h.1 })))
 
   module _ (task : Task) (is : file_task f ≡ Some (task_parts task)) where
-    not_simple : (status : ℕ) (output : List ℕ) → IsRefusal (TellsNotSimple a.problem.hyps) status output → IsRefusal (AsksNoTask f) status output
+    not_simple : (status : ℕ) (output : List ℕ) → IsRefusal (ReportsNotSimple a.problem.hyps) status output → IsRefusal (LacksTask f) status output
     not_simple status output h = (h.0, inr (a, made, inr (task_parts task, is, h.1)))
 
-    pub simple_of_file : (result : Result Triple EarlyEnd) → Yields (IsSimpleTriple a task) (IsRefusal (TellsNotSimple a.problem.hyps)) result → Yields (IsTripleOfFile f) (IsRefusal (AsksNoTask f)) result
+    pub simple_of_file : (result : Result Triple EarlyEnd) → Yields (IsSimpleTriple a task) (IsRefusal (ReportsNotSimple a.problem.hyps)) result → Yields (IsTripleOfFile f) (IsRefusal (LacksTask f)) result
     simple_of_file (Ok t) s =
         let P : Task → Type 0 = λ u. HasTask f a.problem (task_parts u) in
         record { abstract = a; is_abstract = made; problem = s.problem; task = subst P (sym s.task) (record { is_task = is; simple = s.simple }) }
-    simple_of_file (Err stop) s = EndsWith-weaker (IsRefusal (TellsNotSimple a.problem.hyps)) (IsRefusal (AsksNoTask f)) not_simple stop s
+    simple_of_file (Err stop) s = EndsWith-weaker (IsRefusal (ReportsNotSimple a.problem.hyps)) (IsRefusal (LacksTask f)) not_simple stop s
 
-pub no_abstract : (f : FileParts) (result : Result Triple EarlyEnd) → Yields (λ t. ⊥) (IsRefusal (HasNoAbstraction f)) result → Yields (IsTripleOfFile f) (IsRefusal (AsksNoTask f)) result
-no_abstract f result r = Yields-refused (IsTripleOfFile f) (IsRefusal (HasNoAbstraction f)) (IsRefusal (AsksNoTask f)) (λ status output h. (h.0, inl h.1)) result r
+pub no_abstract : (f : FileParts) (result : Result Triple EarlyEnd) → Yields (λ t. ⊥) (IsRefusal (HasNoAbstraction f)) result → Yields (IsTripleOfFile f) (IsRefusal (LacksTask f)) result
+no_abstract f result r = Yields-refused (IsTripleOfFile f) (IsRefusal (HasNoAbstraction f)) (IsRefusal (LacksTask f)) (λ status output h. (h.0, inl h.1)) result r
 
 -- the triple of a text, or why it has none
 module _ (text : List ℕ) where
@@ -81,21 +81,21 @@ module _ (text : List ℕ) where
   no_file result r = Yields-refused IsPosed (IsRefusal (IsFaulty text)) (IsRefusal (PosesNoTask text)) (λ status output h. (h.0, inl (inl h.1))) result r
 
   module _ (f : FileParts) (reads : Reads text f) where
-    none_posed : (status : ℕ) (output : List ℕ) → IsRefusal (AsksNoTask f) status output → IsRefusal (PosesNoTask text) status output
+    none_posed : (status : ℕ) (output : List ℕ) → IsRefusal (LacksTask f) status output → IsRefusal (PosesNoTask text) status output
     none_posed status output (two, inl none) = (two, inl (inr (f, reads, none)))
     none_posed status output (two, inr (a, made, none)) = (two, inr (a.problem, record { file = f; reads = reads; abstract = a; is_abstract = made; question = refl }, none))
 
-    pub file_posed : (result : Result Triple EarlyEnd) → Yields (IsTripleOfFile f) (IsRefusal (AsksNoTask f)) result → Yields IsPosed (IsRefusal (PosesNoTask text)) result
+    pub file_posed : (result : Result Triple EarlyEnd) → Yields (IsTripleOfFile f) (IsRefusal (LacksTask f)) result → Yields IsPosed (IsRefusal (PosesNoTask text)) result
     file_posed (Ok t) h =
         let task : TaskParts = task_parts t.task in
         let P : ProblemParts → Type 0 = λ p. HasTask f p task in
         let S : ProblemParts → Type 0 = λ p. IsTripleOf p task in
         record {
-          asks = record { file = f; reads = reads; abstract = h.abstract; is_abstract = h.is_abstract; question = h.problem };
+          poses = record { file = f; reads = reads; abstract = h.abstract; is_abstract = h.is_abstract; question = h.problem };
           task = subst P (sym h.problem) h.task;
           sides = subst S (sym h.problem) (task_is_triple f h.abstract task h.is_abstract h.task.is_task);
         }
-    file_posed (Err stop) h = EndsWith-weaker (IsRefusal (AsksNoTask f)) (IsRefusal (PosesNoTask text)) none_posed stop h
+    file_posed (Err stop) h = EndsWith-weaker (IsRefusal (LacksTask f)) (IsRefusal (PosesNoTask text)) none_posed stop h
 
 -- ---- one triple, or one reason
 
@@ -133,44 +133,44 @@ module _ (f : FileParts) (q : ProblemParts) where
 -- ---- the triple of a text
 
 module _ (text : List ℕ) (GoesOn : ProblemParts → TaskParts → ReplySpec) where
-  pub asks_once : ((q : ProblemParts) (t : TaskParts) → OneStatus (GoesOn q t)) → OneStatus (AsksTask text GoesOn)
-  asks_once once =
+  pub poses_once : ((q : ProblemParts) (t : TaskParts) → OneStatus (GoesOn q t)) → OneStatus (AnswersTask text GoesOn)
+  poses_once once =
       reads_once text (λ f. AbstractsFile f (λ a. TakesTask GoesOn f a.problem))
       (λ f. abstracts_once f (λ a. TakesTask GoesOn f a.problem) (λ a. takes_once f a.problem GoesOn (once a.problem)))
 
   module _ (status : ℕ) (output : List ℕ) where
     -- the reply to a text with a question is the reply to this question
-    pub asks_takes : (q : ProblemParts) (asks : Asks text q) → AsksTask text GoesOn status output → TakesTask GoesOn asks.file q status output
-    asks_takes q asks r =
-        subst (λ p. TakesTask GoesOn asks.file p status output) (sym asks.question)
-        (abstracts_as asks.file (λ a. TakesTask GoesOn asks.file a.problem) status output asks.abstract asks.is_abstract (reads_said text (λ f. AbstractsFile f (λ a. TakesTask GoesOn f a.problem)) status output asks.file asks.reads r))
+    pub poses_takes : (q : ProblemParts) (poses : Poses text q) → AnswersTask text GoesOn status output → TakesTask GoesOn poses.file q status output
+    poses_takes q poses r =
+        subst (λ p. TakesTask GoesOn poses.file p status output) (sym poses.question)
+        (abstracts_as poses.file (λ a. TakesTask GoesOn poses.file a.problem) status output poses.abstract poses.is_abstract (reads_denoted text (λ f. AbstractsFile f (λ a. TakesTask GoesOn f a.problem)) status output poses.file poses.reads r))
 
-    pub asks_none : (line : List ℕ) → PosesNoTask text line → AsksTask text GoesOn status output → (status ≡ 2) × (output ≡ line)
-    asks_none line (inl none) r = abstracted_none text (λ f a. TakesTask GoesOn f a.problem) status output line none r
-    asks_none line (inr n) r = takes_none n.1.file n.0 GoesOn status output line n.2 (asks_takes n.0 n.1 r)
+    pub poses_none : (line : List ℕ) → PosesNoTask text line → AnswersTask text GoesOn status output → (status ≡ 2) × (output ≡ line)
+    poses_none line (inl none) r = abstracted_none text (λ f a. TakesTask GoesOn f a.problem) status output line none r
+    poses_none line (inr n) r = takes_none n.1.file n.0 GoesOn status output line n.2 (poses_takes n.0 n.1 r)
 
     -- the reply to a text that asks no triple, and to one that asks a triple
-    pub no_task : IsRefusal (PosesNoTask text) status output → AsksTask text GoesOn status output
+    pub no_task : IsRefusal (PosesNoTask text) status output → AnswersTask text GoesOn status output
     no_task (two, inl (inl faulty)) = inl (two, faulty)
-    no_task (two, inl (inr (f, says, n))) = inr (f, says, inl (two, n))
+    no_task (two, inl (inr (f, denotes, n))) = inr (f, denotes, inl (two, n))
     no_task (two, inr n) =
-        let asks = n.1 in
-        let P : ProblemParts → Type 0 = λ p. HasNoTask asks.file p output in
-        inr (asks.file, asks.reads, inr (asks.abstract, asks.is_abstract, inl (two, subst P asks.question n.2)))
+        let poses = n.1 in
+        let P : ProblemParts → Type 0 = λ p. HasNoTask poses.file p output in
+        inr (poses.file, poses.reads, inr (poses.abstract, poses.is_abstract, inl (two, subst P poses.question n.2)))
 
-    pub posed_task : (q : ProblemParts) (t : TaskParts) → PosesTask text q t → GoesOn q t status output → AsksTask text GoesOn status output
-    posed_task q t poses g =
-        let asks = poses.asks in
-        let P : ProblemParts → Type 0 = λ p. TakesTask GoesOn asks.file p status output in
-        inr (asks.file, asks.reads, inr (asks.abstract, asks.is_abstract, subst P asks.question (inr (t, poses.task, g))))
+    pub posed_task : (q : ProblemParts) (t : TaskParts) → PosesTask text q t → GoesOn q t status output → AnswersTask text GoesOn status output
+    posed_task q t task_posed g =
+        let poses = task_posed.poses in
+        let P : ProblemParts → Type 0 = λ p. TakesTask GoesOn poses.file p status output in
+        inr (poses.file, poses.reads, inr (poses.abstract, poses.is_abstract, subst P poses.question (inr (t, task_posed.task, g))))
 
 -- the reply to a text, by what it poses
-pub asked_task : (text : List ℕ) (GoesOn : ProblemParts → TaskParts → ReplySpec) (status : ℕ) (output : List ℕ) → AsksFor (PosesNoTask text) (IsPosed text) (λ t. GoesOn t.problem (task_parts t.task)) status output → AsksTask text GoesOn status output
-asked_task text GoesOn status output (inl r) = no_task text GoesOn status output r
-asked_task text GoesOn status output (inr (t, poses, g)) = posed_task text GoesOn status output t.problem (task_parts t.task) poses g
+pub answered_task : (text : List ℕ) (GoesOn : ProblemParts → TaskParts → ReplySpec) (status : ℕ) (output : List ℕ) → PosesFor (PosesNoTask text) (IsPosed text) (λ t. GoesOn t.problem (task_parts t.task)) status output → AnswersTask text GoesOn status output
+answered_task text GoesOn status output (inl r) = no_task text GoesOn status output r
+answered_task text GoesOn status output (inr (t, task_posed, g)) = posed_task text GoesOn status output t.problem (task_parts t.task) task_posed g
 
 -- the status is below 4 if the status of the reply to a triple is
-pub task_small : (text : List ℕ) (GoesOn : ProblemParts → TaskParts → ReplySpec) → ((q : ProblemParts) (t : TaskParts) (status : ℕ) (output : List ℕ) → GoesOn q t status output → status < 4) → (status : ℕ) (output : List ℕ) → AsksTask text GoesOn status output → status < 4
+pub task_small : (text : List ℕ) (GoesOn : ProblemParts → TaskParts → ReplySpec) → ((q : ProblemParts) (t : TaskParts) (status : ℕ) (output : List ℕ) → GoesOn q t status output → status < 4) → (status : ℕ) (output : List ℕ) → AnswersTask text GoesOn status output → status < 4
 task_small text GoesOn small =
     reads_small (Reads text) (FirstFault text) (λ f. AbstractsFile f (λ a. TakesTask GoesOn f a.problem))
     (λ f status output reads r. abstracts_small f (λ a. TakesTask GoesOn f a.problem) (λ a. takes_small f a.problem) status output r)
@@ -181,13 +181,13 @@ task_small text GoesOn small =
 
 -- no text both asks a triple and has a reason why it asks none
 pub task_or_no_task : (text line : List ℕ) → PosesNoTask text line → PosesSomeTask text → ⊥
-task_or_no_task text line none (q, t, poses) =
+task_or_no_task text line none (q, t, task_posed) =
     let AnyReply : ProblemParts → TaskParts → ReplySpec = λ p u status output. Unit {0} in
-    let r = asks_none text AnyReply 0 line line none (posed_task text AnyReply 0 line q t poses tt) in
+    let r = poses_none text AnyReply 0 line line none (posed_task text AnyReply 0 line q t task_posed tt) in
     absurd (omega (arith, r.0))
 
 pub some_task : (text : List ℕ) (t : Triple) → IsPosed text t → PosesSomeTask text
-some_task text t poses = (t.problem, task_parts t.task, poses)
+some_task text t task_posed = (t.problem, task_parts t.task, task_posed)
 
 -- a text that is too long asks none
 pub long_task : (text : List ℕ) → MAX_TEXT_BYTES < length text → PosesNoTask text too_long_line

@@ -12,10 +12,10 @@ use Rattle.abstraction.specs.Abstracts.{AbstractParts, abstract_of}
 use Rattle.kat_report.specs.Refusals.{evidence_fault_line}
 use Rattle.tool_inputs.specs.EvidenceBytes.{Spells, IsNoEvidence}
 use Rattle.tool_inputs.specs.TextProblem.{HasNoProblem}
-use Rattle.tool_inputs.specs.Steps.{AbstractsFile, AsksFor}
+use Rattle.tool_inputs.specs.Steps.{AbstractsFile, PosesFor}
 use Rattle.tool_explain.specs.Used.{with_marked}
 use Rattle.tool_explain.specs.Explain.{IsExplaining, IsDoubting, IsExplained, ExplainsBytes, ExplainsTexts, ExplainHeadline, ExplainReply}
-use Rattle.tool_inputs.proofs.Steps.{OneStatus, reads_said, reads_once, abstracts_as, abstracts_once, abstracts_small, abstracted_none, reads_spelled, reads_no_evidence, reads_evidence_once, small_status}
+use Rattle.tool_inputs.proofs.Steps.{OneStatus, reads_denoted, reads_once, abstracts_as, abstracts_once, abstracts_small, abstracted_none, reads_spelled, reads_no_evidence, reads_evidence_once, small_status}
 use Rattle.tool_inputs.proofs.FileReplies.{HasOneReply}
 use Rattle.tool_explain.specs.Working.ShownTexts.{IsShown, shown_text}
 use Rattle.tool_inputs.proofs.Ways.{Ways, at_zero, at_two, at_three}
@@ -93,11 +93,11 @@ small f a bytes status output r = below (explained_headline f a bytes status out
 text_headline : (text bytes : List ℕ) (status : ℕ) (output : List ℕ) (f : FileParts) (a : AbstractParts) → Reads text f → abstract_of f ≡ Ok a → ExplainsTexts text bytes status output → ExplainHeadline bytes f a status output
 text_headline text bytes status output f a reads is r =
     explained_headline f a bytes status output
-    (abstracts_as f (λ b. ExplainsBytes f b bytes) status output a is (reads_said text (λ g. AbstractsFile g (λ b. ExplainsBytes g b bytes)) status output f reads r))
+    (abstracts_as f (λ b. ExplainsBytes f b bytes) status output a is (reads_denoted text (λ g. AbstractsFile g (λ b. ExplainsBytes g b bytes)) status output f reads r))
 
-pub explain_reply : (text bytes : List ℕ) (status : ℕ) (output : List ℕ) → AsksFor (HasNoProblem text) (IsShown text) (λ s. ExplainsBytes s.file s.shown bytes) status output → ExplainReply text bytes status output
-explain_reply text bytes status output asked =
-    let r : ExplainsTexts text bytes status output = shown_text text (λ f a. ExplainsBytes f a bytes) status output asked in
+pub explain_reply : (text bytes : List ℕ) (status : ℕ) (output : List ℕ) → PosesFor (HasNoProblem text) (IsShown text) (λ s. ExplainsBytes s.file s.shown bytes) status output → ExplainReply text bytes status output
+explain_reply text bytes status output posed =
+    let r : ExplainsTexts text bytes status output = shown_text text (λ f a. ExplainsBytes f a bytes) status output posed in
     record {
       replies = r;
       headline = λ f a reads is. text_headline text bytes status output f a reads is r;

@@ -5,7 +5,7 @@ use Rattle.problem_file.specs.Reads.{Reads}
 use Rattle.abstraction.specs.Abstracts.{AbstractParts, abstract_of}
 use Rattle.tool_inputs.specs.FileProblem.{HasProblem}
 use Rattle.tool_inputs.specs.TextProblem.{HasNoProblem}
-use Rattle.tool_inputs.specs.Steps.{ReplySpec, IsRefusal, ReadsText, AbstractsFile, AsksFor}
+use Rattle.tool_inputs.specs.Steps.{ReplySpec, IsRefusal, ReadsText, AbstractsFile, PosesFor}
 use Rattle.tool_explain.specs.declared.shown.ShownFile.{ShownFile}
 
 -- the text is read as this file, and the file has this abstraction
@@ -26,6 +26,6 @@ module _ (text : List ℕ) (GoesOn : FileParts → AbstractParts → ReplySpec) 
   refused_text status output (two, inl faulty) = inl (two, faulty)
   refused_text status output (two, inr (f, reads, none)) = inr (f, reads, inl (two, none))
 
-  pub shown_text : (status : ℕ) (output : List ℕ) → AsksFor (HasNoProblem text) (IsShown text) (λ s. GoesOn s.file s.shown) status output → ReadsText text (λ f. AbstractsFile f (GoesOn f)) status output
+  pub shown_text : (status : ℕ) (output : List ℕ) → PosesFor (HasNoProblem text) (IsShown text) (λ s. GoesOn s.file s.shown) status output → ReadsText text (λ f. AbstractsFile f (GoesOn f)) status output
   shown_text status output (inl r) = refused_text status output r
   shown_text status output (inr (s, is, r)) = inr (s.file, is.reads, inr (s.shown, is.is_abstract, r))

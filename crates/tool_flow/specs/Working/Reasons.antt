@@ -6,14 +6,14 @@ use Rattle.flow_model.specs.Graphs.{Graph}
 use Rattle.flow_model.specs.Polish.{graph_of}
 use Rattle.flow_ways.specs.declared.limits.TheConstants.{MAX_WAYS}
 use Rattle.flow_ways.specs.Outcomes.{Outcome}
-use Rattle.flow_sorts.specs.WholeGraphs.{are_whole_blocks}
-use Rattle.flow_sorts.proofs.OneOutcome.{whole_outcomes}
-use Rattle.flow_problem.specs.Places.{is_place}
+use Rattle.flow_laws.specs.WholeGraphs.{are_whole_blocks}
+use Rattle.flow_laws.proofs.OneOutcome.{whole_outcomes}
+use Rattle.flow_places.specs.Places.{is_place}
 use Rattle.flow_problem.specs.FlowProblems.{FlowQuestion}
-use Rattle.flow_questions.specs.declared.fault.FlowFault.{FlowFault}
-use Rattle.flow_questions.specs.declared.fault.FlowFault.TheVariants.{NoMemory, UncutLoop, TooManyPaths, TooLarge, TooManyTests, TooManyActions, ProblemTooLarge}
-use Rattle.flow_questions.specs.Asked as blocks
-use Rattle.flow_questions.specs.Asked.{Asked, HasManyWays, HasLargeForm, IsRefusedBy}
+use Rattle.flow_abstraction.specs.declared.fault.FlowFault.{FlowFault}
+use Rattle.flow_abstraction.specs.declared.fault.FlowFault.TheVariants.{NoMemory, UncutLoop, TooManyPaths, TooLarge, TooManyTests, TooManyActions, ProblemTooLarge}
+use Rattle.flow_abstraction.specs.PosedQuestion as blocks
+use Rattle.flow_abstraction.specs.PosedQuestion.{PosedQuestion, HasManyWays, HasLargeForm, IsRefusedBy}
 use Rattle.tool_flow.specs.Questions.{ways_at, IsRefused}
 
 -- ---- the same ways give the same reasons
@@ -44,7 +44,7 @@ module _ (q : FlowQuestion) (before after first second : ℕ → Outcome) (same 
 one_outcome : (sorts : List Sort) (bs : List Block) → are_whole_blocks bs ≡ true → (k : ℕ) → blocks.ways_at sorts bs k ≡ ways_at sorts (graph_of bs) k
 one_outcome sorts bs whole k = whole_outcomes bs whole sorts (is_place (graph_of bs)) k
 
-module _ (a : Asked) (before : are_whole_blocks a.before ≡ true) (after : are_whole_blocks a.after ≡ true) where
+module _ (a : PosedQuestion) (before : are_whole_blocks a.before ≡ true) (after : are_whole_blocks a.after ≡ true) where
   pub refused_as_trees : (fault : FlowFault) → blocks.IsRefused a fault → IsRefused (blocks.question_of a) fault
   refused_as_trees fault h =
       refused_by (blocks.question_of a) (blocks.ways_at a.sorts a.before) (blocks.ways_at a.sorts a.after) (ways_at a.sorts (graph_of a.before)) (ways_at a.sorts (graph_of a.after))

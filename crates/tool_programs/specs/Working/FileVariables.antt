@@ -60,6 +60,6 @@ start_below name k e = absurd (none-some (Var k) (sym (get-empty (slice_cmp nat_
 
 pub next_unnamed : (text : List ℕ) (f : FileParts) → Reads text f → IsUnnamed f.scope (Var f.vars)
 next_unnamed text f reads =
-    let says = reads.says in
-    let below : HasVarsBelow says.state = all_below says.items start_one says.state says.make start_below in
-    subst (λ (g : FileParts). IsUnnamed g.scope (Var g.vars)) (sym reads.file) (λ name e. let less : (says.state).vars < (says.state).vars = below name (says.state).vars e in omega (arith, less))
+    let denotes = reads.denotes in
+    let below : HasVarsBelow denotes.state = all_below denotes.items start_one denotes.state denotes.make start_below in
+    subst (λ (g : FileParts). IsUnnamed g.scope (Var g.vars)) (sym reads.file) (λ name e. let less : (denotes.state).vars < (denotes.state).vars = below name (denotes.state).vars e in omega (arith, less))

@@ -9,10 +9,10 @@ use Rattle.text_parser.specs.declared.meaning.Meaning.{Meaning}
 use Rattle.text_parser.specs.declared.meaning.Meaning.TheVariants.{Test, Action, Var, Term, Prog}
 use Rattle.text_parser.specs.ScopeParts.{meaning, Means, IsWellFormed}
 use Rattle.text_print.specs.Printing.{name_of}
-use Rattle.text_print.proofs.NameOf.{name_stands}
+use Rattle.text_print.proofs.NameOf.{name_occurs}
 use Rattle.problem_file.specs.Questions.{goal_text}
 use Rattle.problem_file.specs.NamedTexts.{names_line, named_text, IsOneOf, AreNames}
-use Rattle.problem_file.specs.TextLaws.{AsksEqual}
+use Rattle.problem_file.specs.TextLaws.{PosesEqual}
 use Rattle.problem_file.proofs.PlainReadings.{named_reads_back}
 use Rattle.gkat_front.specs.Expressions.{kat_of}
 use Rattle.problem_file.specs.FirstFaults.{too_long, no_text}
@@ -21,12 +21,12 @@ use Rattle.gkat_front.specs.Reads.{Reads, FirstFault}
 use Rattle.gkat_front.proofs.OneAnswer.{have_one_answer}
 use Rattle.kat_report.specs.InputLines.{too_long_line}
 use Rattle.tool_inputs.specs.TextProblem.{IsFaultOf}
-use Rattle.tool_inputs.specs.FileProblem.{Asks}
-use Rattle.tool_inputs.proofs.EqualGoals.{asks_equal}
+use Rattle.tool_inputs.specs.FileProblem.{Poses}
+use Rattle.tool_inputs.proofs.EqualGoals.{poses_equal}
 use Rattle.tool_programs.specs.Show.{IsReadable}
 use Rattle.tool_programs.specs.Gkat.{gkat_text, gkat_question, IsTranslated, TranslatesText, GkatHeadline, GkatReply}
 use Rattle.tool_programs.specs.Working.GkatNumbers.{GkatIsNumbered, read_numbered}
-use Rattle.tool_inputs.proofs.Steps.{OneStatus, said_one, faulty_one, read_once, reads_long}
+use Rattle.tool_inputs.proofs.Steps.{OneStatus, denoted_one, faulty_one, read_once, reads_long}
 use Rattle.tool_inputs.proofs.FileReplies.{RefusesLong, HasOneReply}
 
 -- ---- what is printed
@@ -40,8 +40,8 @@ module _ (f : GkatFileParts) where
 
   module _ (numbered : GkatIsNumbered f) (well : IsWellFormed f.scope) where
     names_mean : (m : Meaning) → IsOneOf f.tests f.actions m → Means f.scope (name_of f.scope m) m
-    names_mean (Test k) h = let x = numbered.named_tests k h in name_stands f.scope (Test k) x.0 x.1
-    names_mean (Action k) h = let x = numbered.named_actions k h in name_stands f.scope (Action k) x.0 x.1
+    names_mean (Test k) h = let x = numbered.named_tests k h in name_occurs f.scope (Test k) x.0 x.1
+    names_mean (Action k) h = let x = numbered.named_actions k h in name_occurs f.scope (Action k) x.0 x.1
     names_mean (Var k) h = absurd h
     names_mean (Term k) h = absurd h
     names_mean (Prog k) h = absurd h
@@ -54,22 +54,22 @@ module _ (f : GkatFileParts) where
     }
 
 -- the text of a file asks its question
-translated_asks : (text : List ℕ) (f : GkatFileParts) (status : ℕ) (output : List ℕ) → Reads text f → IsTranslated f status output → problem_size (gkat_question f) ≤ MAX_TERM_NODES → IsReadable (gkat_question f) output → Asks output (gkat_question f)
-translated_asks text f status output reads translated few within =
+translated_poses : (text : List ℕ) (f : GkatFileParts) (status : ℕ) (output : List ℕ) → Reads text f → IsTranslated f status output → problem_size (gkat_question f) ≤ MAX_TERM_NODES → IsReadable (gkat_question f) output → Poses output (gkat_question f)
+translated_poses text f status output reads translated few within =
     let q = gkat_question f in
     let names = name_of f.scope in
     let numbered = read_numbered text f reads in
     let problem : IsProblem q = record { tests = numbered.tests; actions = numbered.actions; hyps = tt; left = numbered.left; right = numbered.right; size = few } in
     let same : output ≡ named_text names q = translated.printed ∙ text_is_named f in
     let short : length (named_text names q) ≤ MAX_TEXT_BYTES = subst (λ (l : List ℕ). length l ≤ MAX_TEXT_BYTES) same within.short in
-    let read : AsksEqual (named_text names q) q = named_reads_back names q (record { problem = problem; named = file_names f numbered translated.well_formed; hyps = within.hyps; shallow = within.shallow; short = short }) in
-    asks_equal output q problem (subst (λ (l : List ℕ). AsksEqual l q) (sym same) read)
+    let read : PosesEqual (named_text names q) q = named_reads_back names q (record { problem = problem; named = file_names f numbered translated.well_formed; hyps = within.hyps; shallow = within.shallow; short = short }) in
+    poses_equal output q problem (subst (λ (l : List ℕ). PosesEqual l q) (sym same) read)
 
 -- ---- the reply to a text
 
 module _ (text : List ℕ) (status : ℕ) (output : List ℕ) where
   is_translated : (f : GkatFileParts) → Reads text f → TranslatesText text status output → IsTranslated f status output
-  is_translated = said_one Reads FirstFault have_one_answer text IsTranslated status output
+  is_translated = denoted_one Reads FirstFault have_one_answer text IsTranslated status output
 
   is_refused : (line : List ℕ) → IsFaultOf (FirstFault text) line → TranslatesText text status output → (status ≡ 2) × (output ≡ line)
   is_refused = faulty_one Reads FirstFault have_one_answer text IsTranslated status output
@@ -101,7 +101,7 @@ module _ (text : List ℕ) (status : ℕ) (output : List ℕ) where
         answers = one_of ways;
         translated = (at_translated ways, (λ h. (is_translated h.0 h.1 r).has_status));
         translated_text = λ f reads. (is_translated f reads r).printed;
-        asks = λ f reads few within. translated_asks text f status output reads (is_translated f reads r) few within;
+        poses = λ f reads few within. translated_poses text f status output reads (is_translated f reads r) few within;
         refused = (at_refused ways, (λ h. (is_refused h.0 h.1 r).0));
         refused_line = λ line fault. (is_refused line fault r).1;
       }

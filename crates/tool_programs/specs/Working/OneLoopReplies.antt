@@ -24,7 +24,7 @@ use Rattle.problem_file.specs.Reads.{Reads}
 use Rattle.problem_file.proofs.NumberedStates.{are_in_ranges}
 use Rattle.problem_file.specs.ProgramNumbers.{ProgIsNarrow}
 use Rattle.problem_file.specs.ProgramTexts.{one_program_text, IsOnePrintable}
-use Rattle.problem_file.specs.TextLaws.{SaysProgram}
+use Rattle.problem_file.specs.TextLaws.{DenotesProgram}
 use Rattle.problem_file.proofs.ProgramReadings.{program_reads_back}
 use Rattle.tool_inputs.specs.declared.reply.EarlyEnd.{EarlyEnd}
 use Rattle.kat_report.specs.InputLines.{too_long_line, words_line}
@@ -32,10 +32,10 @@ use Rattle.tool_commands.specs.ProgramWords.{where_concrete, program_of}
 use Rattle.tool_inputs.specs.Steps.{IsRefusal, HasUnfitWords}
 use Rattle.tool_commands.proofs.StoreValues.{some_numbers}
 use Rattle.tool_programs.specs.FormFaults.{form_fault_line}
-use Rattle.tool_programs.specs.OneLoop.{IsCounterName, names_with, IsFormFault, HasNoForm, HasForm, PrintsForm, FormsProgram, FormsFile, FormsText, IsWithinText, IsSmallProgram, TellsForm, OneLoopHeadline, LacksProgram, OneLoopReply}
+use Rattle.tool_programs.specs.OneLoop.{IsCounterName, names_with, IsFormFault, HasNoForm, HasForm, PrintsForm, FormsProgram, FormsFile, FormsText, IsWithinText, IsSmallProgram, ShowsForm, OneLoopHeadline, LacksProgram, OneLoopReply}
 use Rattle.tool_inputs.specs.ReplySpecs.{EndsWith}
 use Rattle.tool_inputs.proofs.ReplySpecs.{EndsWith-weaker}
-use Rattle.tool_inputs.proofs.Steps.{OneStatus, reads_said, reads_faulty, reads_once, small_status, text_long}
+use Rattle.tool_inputs.proofs.Steps.{OneStatus, reads_denoted, reads_faulty, reads_once, small_status, text_long}
 use Rattle.tool_inputs.proofs.FileReplies.{RefusesLong, HasOneReply}
 use Rattle.tool_programs.specs.Working.FileVariables.{next_unnamed}
 use Rattle.tool_programs.specs.Working.FormNames.{names_are, name_identifier, name_no_var, counter_or_declared, name_declared}
@@ -56,7 +56,7 @@ module _ (f : FileParts) (p : ProgTree) where
   one_fault TooManyVars (TooManyStatements n) x y = absurd (omega (arith, x, y.0))
   one_fault (TooManyStatements m) NoMemory x y = absurd y
   one_fault (TooManyStatements m) TooManyVars x y = absurd (omega (arith, y, x.0))
-  one_fault (TooManyStatements m) (TooManyStatements n) x y = ap TooManyStatements (x.1.told ∙ sym y.1.told)
+  one_fault (TooManyStatements m) (TooManyStatements n) x y = ap TooManyStatements (x.1.given ∙ sym y.1.given)
 
   one_line : (line other : List ℕ) → HasNoForm f p line → HasNoForm f p other → line ≡ other
   one_line line other x y = x.printed ∙ ap form_fault_line (one_fault x.fault y.fault x.is_fault y.is_fault) ∙ sym y.printed
@@ -71,7 +71,7 @@ module _ (f : FileParts) (p : ProgTree) where
           few = elim (cases_lt (statements p) (modulus f.width)) [
             | inl lt ↦ lt
             | inr le ↦
-                let refused : r ≡ Err (TooManyStatements (counted (statements p))) = (many (counted (statements p))).1 (free place, record { more = past le; told = refl }) in
+                let refused : r ≡ Err (TooManyStatements (counted (statements p))) = (many (counted (statements p))).1 (free place, record { more = past le; given = refl }) in
                 absurd cc
           ];
         }
@@ -204,16 +204,16 @@ module _ (text : List ℕ) (f : FileParts) (reads : Reads text f) (name : List �
         short = subst (λ (t : List ℕ). length t ≤ MAX_TEXT_BYTES) h.printed limits.short;
       }
 
-  form_said : IsWithinText f.width h.form output → SaysProgram output (names_with f h.counter) f.width (f.vars + 1) name h.form
-  form_said limits =
-      subst (λ (t : List ℕ). SaysProgram t (names_with f h.counter) f.width (f.vars + 1) name h.form) (sym h.printed)
+  form_denoted : IsWithinText f.width h.form output → DenotesProgram output (names_with f h.counter) f.width (f.vars + 1) name h.form
+  form_denoted limits =
+      subst (λ (t : List ℕ). DenotesProgram t (names_with f h.counter) f.width (f.vars + 1) name h.form) (sym h.printed)
       (program_reads_back (names_with f h.counter) f.width (f.vars + 1) name h.form (form_printable limits))
 
-  tells_form : TellsForm f name p output
-  tells_form = record {
+  shows_form : ShowsForm f name p output
+  shows_form = record {
     prints = h;
     within = small_within;
-    reads_back = λ limits. let says = form_said limits in (says, ap where_concrete says.program ∙ concrete_kept h.form h.is_form.concrete);
+    reads_back = λ limits. let denotes = form_denoted limits in (denotes, ap where_concrete denotes.program ∙ concrete_kept h.form h.is_form.concrete);
   }
 
 -- ---- the reply to a file
@@ -235,9 +235,9 @@ module _ (f : FileParts) (name : List ℕ) where
     prints_form p has (inl r) = absurd (form_or_fault f p r.1.fault has r.1.is_fault)
     prints_form p has (inr g) = (g.0, g.2)
 
-    says_fault : (p : ProgTree) (line : List ℕ) → HasNoForm f p line → FormsProgram f name p status output → (status ≡ 2) × (output ≡ line)
-    says_fault p line none (inl r) = (r.0, one_line f p output line r.1 none)
-    says_fault p line none (inr g) = absurd (form_or_fault f p none.fault g.1 none.is_fault)
+    denotes_fault : (p : ProgTree) (line : List ℕ) → HasNoForm f p line → FormsProgram f name p status output → (status ≡ 2) × (output ≡ line)
+    denotes_fault p line none (inl r) = (r.0, one_line f p output line r.1 none)
+    denotes_fault p line none (inr g) = absurd (form_or_fault f p none.fault g.1 none.is_fault)
 
 -- the possible statuses, each with its cause
 abbrev FileWays : FileParts → List ℕ → ℕ → List ℕ → Type 0
@@ -278,15 +278,15 @@ module _ (f : FileParts) (name : List ℕ) (status : ℕ) (output : List ℕ) wh
       record {
         answers = one_of ways;
         formed = ((λ e. let h = at_formed ways e in (h.0, h.1, h.2)), (λ h. (prints_form f name status output h.0 h.2 (takes_named f name status output h.0 h.1 r)).0));
-        form = λ p named has. tells_form text f reads name p named has output (prints_form f name status output p has (takes_named f name status output p named r)).1;
-        refused = ((λ e. let h = at_refused ways e in (h.0, output, h.1, h.2)), (λ h. (says_fault f name status output h.0 h.1 h.3 (takes_named f name status output h.0 h.2 r)).0));
-        refused_line = λ p line named none. (says_fault f name status output p line none (takes_named f name status output p named r)).1;
+        form = λ p named has. shows_form text f reads name p named has output (prints_form f name status output p has (takes_named f name status output p named r)).1;
+        refused = ((λ e. let h = at_refused ways e in (h.0, output, h.1, h.2)), (λ h. (denotes_fault f name status output h.0 h.1 h.3 (takes_named f name status output h.0 h.2 r)).0));
+        refused_line = λ p line named none. (denotes_fault f name status output p line none (takes_named f name status output p named r)).1;
         unfit = ((λ e. (at_unfit ways e).0), (λ none. (takes_none f name status output none r).has_status));
         unfit_line = λ e. (at_unfit ways e).1;
       }
 
 pub text_headline : (text name : List ℕ) (status : ℕ) (output : List ℕ) (f : FileParts) → Reads text f → FormsText text name status output → OneLoopHeadline f name status output
-text_headline text name status output f reads r = one_loop_headline f name status output text reads (reads_said text (λ g. FormsFile g name) status output f reads r)
+text_headline text name status output f reads r = one_loop_headline f name status output text reads (reads_denoted text (λ g. FormsFile g name) status output f reads r)
 
 -- ---- one status
 
@@ -295,7 +295,7 @@ file_once f name a b o p x y = once (file_ways f name a o x)
   where
     once : FileWays f name a o → a ≡ b
     once (inl h) = h.0 ∙ sym (prints_form f name b p h.1.0 h.1.2 (takes_named f name b p h.1.0 h.1.1 y)).0
-    once (inr (inl h)) = h.0 ∙ sym (says_fault f name b p h.1.0 o h.1.2 (takes_named f name b p h.1.0 h.1.1 y)).0
+    once (inr (inl h)) = h.0 ∙ sym (denotes_fault f name b p h.1.0 o h.1.2 (takes_named f name b p h.1.0 h.1.1 y)).0
     once (inr (inr h)) = h.0 ∙ sym (takes_none f name b p h.1.0 y).has_status
 
 forms_once : (text name : List ℕ) → OneStatus (FormsText text name)

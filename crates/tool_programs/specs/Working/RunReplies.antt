@@ -13,7 +13,7 @@ use Rattle.kat_report.specs.InputLines.{too_long_line, words_line}
 use Rattle.kat_report.specs.RunTexts.{outcome_line, stuck_line, more_line}
 use Rattle.tool_inputs.specs.Steps.{ReplySpec, HasUnfitWords}
 use Rattle.tool_programs.specs.Running.{outcome_status, StartsRun, StartsNoRun, TakesWords, HasRun, RunsFile, RunsText, RunsTo, RunHeadline, DoesNotFit, RunReply}
-use Rattle.tool_inputs.proofs.Steps.{OneStatus, reads_said, reads_faulty, reads_once, small_status, text_long}
+use Rattle.tool_inputs.proofs.Steps.{OneStatus, reads_denoted, reads_faulty, reads_once, small_status, text_long}
 use Rattle.tool_inputs.proofs.FileReplies.{RefusesLong, HasOneReply}
 use Rattle.tool_programs.specs.Working.NamedPrograms.{fit_concrete}
 
@@ -56,8 +56,8 @@ module _ (f : FileParts) (prog store : List ℕ) (turns : ℕ) (p : ProgTree) (s
 
 -- the printed outcome is the one outcome of the program
 module _ (f : FileParts) (prog store : List ℕ) (turns : ℕ) (status : ℕ) (output : List ℕ) (r : RunsFile f prog store turns status output) where
-  run_told : (o : Outcome) (t : Store) → RunsTo f prog store turns o t → (status ≡ outcome_status o) × (output ≡ outcome_line f.scope o t)
-  run_told o t to =
+  run_given : (o : Outcome) (t : Store) → RunsTo f prog store turns o t → (status ≡ outcome_status o) × (output ≡ outcome_line f.scope o t)
+  run_given o t to =
       let run : HasRun f turns to.program to.start status output = takes_fit f prog store (HasRun f turns) status output to.program to.start to.fits r in
       let outcome = same_outcome f prog store turns to.program to.start to.fits run.outcome o run.store t run.reached to.reached in
       let end = same_end f prog store turns to.program to.start to.fits run.outcome o run.store t run.reached to.reached in
@@ -78,9 +78,9 @@ stuck_or_more e = cc
 
 module _ (f : FileParts) (prog store : List ℕ) (turns status : ℕ) (output : List ℕ) where
   ran_ways : (p : ProgTree) (s : Store) → StartsRun f prog store p s → (o : Outcome) (t : Store) → HasOutcome f.width p s turns o t → status ≡ outcome_status o → output ≡ outcome_line f.scope o t → FileWays f prog store turns status output
-  ran_ways p s fits Done t reached e told = inl (e, (t, record { program = p; start = s; fits = fits; reached = reached }, told))
-  ran_ways p s fits Stuck t reached e told = inr (inl (e, (t, record { program = p; start = s; fits = fits; reached = reached }, told)))
-  ran_ways p s fits More t reached e told = inr (inr (inl (e, (t, record { program = p; start = s; fits = fits; reached = reached }, told))))
+  ran_ways p s fits Done t reached e given = inl (e, (t, record { program = p; start = s; fits = fits; reached = reached }, given))
+  ran_ways p s fits Stuck t reached e given = inr (inl (e, (t, record { program = p; start = s; fits = fits; reached = reached }, given)))
+  ran_ways p s fits More t reached e given = inr (inr (inl (e, (t, record { program = p; start = s; fits = fits; reached = reached }, given))))
 
   file_ways : RunsFile f prog store turns status output → FileWays f prog store turns status output
   file_ways (inl r) = inr (inr (inr (r.has_status, r.unfit, r.printed)))
@@ -127,17 +127,17 @@ module _ (f : FileParts) (prog store : List ℕ) (turns status : ℕ) (output : 
       let ways : FileWays f prog store turns status output = file_ways r in
       record {
         answers = one_of ways;
-        done = ((λ e. let h = at_done ways e in (h.0, h.1)), (λ h. (run_told f prog store turns status output r Done h.0 h.1).0));
-        done_line = λ t to. (run_told f prog store turns status output r Done t to).1;
-        stuck = ((λ h. is_stuck (at_undone ways h.0) h.1), (λ h. run_told f prog store turns status output r Stuck h.0 h.1));
-        more = ((λ h. is_more (at_undone ways h.0) h.1), (λ h. run_told f prog store turns status output r More h.0 h.1));
+        done = ((λ e. let h = at_done ways e in (h.0, h.1)), (λ h. (run_given f prog store turns status output r Done h.0 h.1).0));
+        done_line = λ t to. (run_given f prog store turns status output r Done t to).1;
+        stuck = ((λ h. is_stuck (at_undone ways h.0) h.1), (λ h. run_given f prog store turns status output r Stuck h.0 h.1));
+        more = ((λ h. is_more (at_undone ways h.0) h.1), (λ h. run_given f prog store turns status output r More h.0 h.1));
         undone = λ e. ⊎_elim (λ h. inl h.2) (λ h. inr h.2) (at_undone ways e);
         unfit = ((λ e. (at_unfit ways e).0), (λ unfit. (takes_unfit f prog store (HasRun f turns) status output unfit r).has_status));
         unfit_line = λ e. (at_unfit ways e).1;
       }
 
 pub text_headline : (text prog store : List ℕ) (turns status : ℕ) (output : List ℕ) (f : FileParts) → Reads text f → RunsText text prog store turns status output → RunHeadline f prog store turns status output
-text_headline text prog store turns status output f reads r = run_headline f prog store turns status output (reads_said text (λ g. RunsFile g prog store turns) status output f reads r)
+text_headline text prog store turns status output f reads r = run_headline f prog store turns status output (reads_denoted text (λ g. RunsFile g prog store turns) status output f reads r)
 
 -- ---- one status
 
@@ -145,9 +145,9 @@ file_once : (f : FileParts) (prog store : List ℕ) (turns : ℕ) → OneStatus 
 file_once f prog store turns a b o p x y = once (file_ways f prog store turns a o x)
   where
     once : FileWays f prog store turns a o → a ≡ b
-    once (inl h) = h.0 ∙ sym (run_told f prog store turns b p y Done h.1.0 h.1.1).0
-    once (inr (inl h)) = h.0 ∙ sym (run_told f prog store turns b p y Stuck h.1.0 h.1.1).0
-    once (inr (inr (inl h))) = h.0 ∙ sym (run_told f prog store turns b p y More h.1.0 h.1.1).0
+    once (inl h) = h.0 ∙ sym (run_given f prog store turns b p y Done h.1.0 h.1.1).0
+    once (inr (inl h)) = h.0 ∙ sym (run_given f prog store turns b p y Stuck h.1.0 h.1.1).0
+    once (inr (inr (inl h))) = h.0 ∙ sym (run_given f prog store turns b p y More h.1.0 h.1.1).0
     once (inr (inr (inr h))) = h.0 ∙ sym (takes_unfit f prog store (HasRun f turns) b p h.1 y).has_status
 
 runs_once : (text prog store : List ℕ) (turns : ℕ) → OneStatus (RunsText text prog store turns)

@@ -3,7 +3,7 @@ use Rattle.std.proofs.Common.{◌≡◌, ◌≤◌, ◌⊎◌, ◌<◌, ℕ, Lis
 use Rattle.std.proofs.lemmas.List.{length-map}
 use Rattle.kat_model.specs.Problems.{ProblemParts}
 use Rattle.kat_model.specs.declared.limits.TheConstants.{MAX_TEXT_BYTES}
-use Rattle.problem_file.specs.TextLaws.{AsksEqual}
+use Rattle.problem_file.specs.TextLaws.{PosesEqual}
 use Rattle.while_lang.specs.Files.{FileParts}
 use Rattle.abstraction.specs.Abstracts.{AbstractParts, abstract_of}
 use Rattle.abstraction.specs.Derived.{hypotheses}
@@ -12,11 +12,11 @@ use Rattle.abstraction.proofs.DerivedHypotheses.{abstract_parts_of}
 use Rattle.kat_report.specs.Shows.{show_text}
 use Rattle.kat_report.proofs.ShownComments.{shown_reads_back}
 use Rattle.kat_report.specs.InputLines.{too_long_line}
-use Rattle.tool_inputs.specs.FileProblem.{Asks}
+use Rattle.tool_inputs.specs.FileProblem.{Poses}
 use Rattle.tool_inputs.specs.TextProblem.{HasNoProblem}
-use Rattle.tool_inputs.proofs.EqualGoals.{asks_equal}
+use Rattle.tool_inputs.proofs.EqualGoals.{poses_equal}
 use Rattle.tool_programs.specs.Show.{IsShown, ShowsFile, ShowsText, HasAbstract, IsReadable, ShowHeadline, ShowReply}
-use Rattle.tool_inputs.proofs.Steps.{OneStatus, reads_said, reads_once, abstracts_as, abstracts_once, abstracted_none, text_long}
+use Rattle.tool_inputs.proofs.Steps.{OneStatus, reads_denoted, reads_once, abstracts_as, abstracts_once, abstracted_none, text_long}
 use Rattle.tool_inputs.proofs.FileReplies.{RefusesLong, HasOneReply}
 
 -- ---- what is printed
@@ -28,11 +28,11 @@ rule_each f a is =
     subst (λ (x : AbstractParts). length x.rules ≡ length x.problem.hyps) (abstract_parts_of f a is) (length-map hs (λ h. h.rule) ∙ sym (length-map hs (λ h. h.term)))
 
 -- the text of an abstraction asks its problem
-shown_asks : (f : FileParts) (a : AbstractParts) (status : ℕ) (output : List ℕ) → abstract_of f ≡ Ok a → IsShown f a status output → IsReadable a.problem output → Asks output a.problem
-shown_asks f a status output is shown within =
+shown_poses : (f : FileParts) (a : AbstractParts) (status : ℕ) (output : List ℕ) → abstract_of f ≡ Ok a → IsShown f a status output → IsReadable a.problem output → Poses output a.problem
+shown_poses f a status output is shown within =
     let short : length (show_text f.scope a) ≤ MAX_TEXT_BYTES = subst (λ (l : List ℕ). length l ≤ MAX_TEXT_BYTES) shown.printed within.short in
-    let read : AsksEqual (show_text f.scope a) a.problem = shown_reads_back f.scope a shown.well_formed (rule_each f a is) shown.problem within.hyps within.shallow short in
-    asks_equal output a.problem shown.problem (subst (λ (l : List ℕ). AsksEqual l a.problem) (sym shown.printed) read)
+    let read : PosesEqual (show_text f.scope a) a.problem = shown_reads_back f.scope a shown.well_formed (rule_each f a is) shown.problem within.hyps within.shallow short in
+    poses_equal output a.problem shown.problem (subst (λ (l : List ℕ). PosesEqual l a.problem) (sym shown.printed) read)
 
 -- ---- the reply to a text
 
@@ -61,14 +61,14 @@ module _ (text : List ℕ) (status : ℕ) (output : List ℕ) where
 
   -- the abstraction of the text is printed
   is_shown : (f : FileParts) (a : AbstractParts) → HasAbstract text f a → ShowsText text status output → IsShown f a status output
-  is_shown f a has r = abstracts_as f (IsShown f) status output a has.is_abstract (reads_said text ShowsFile status output f has.reads r)
+  is_shown f a has r = abstracts_as f (IsShown f) status output a has.is_abstract (reads_denoted text ShowsFile status output f has.reads r)
 
-  asks_same : ShowsText text status output → (q : ProblemParts) → Asks text q → IsReadable q output → Asks output q
-  asks_same r q asks within =
-      let a = asks.abstract in
-      let shown = is_shown asks.file a (record { reads = asks.reads; is_abstract = asks.is_abstract }) r in
-      let inside : IsReadable a.problem output = subst (λ (p : ProblemParts). IsReadable p output) asks.question within in
-      subst (λ (p : ProblemParts). Asks output p) (sym asks.question) (shown_asks asks.file a status output asks.is_abstract shown inside)
+  poses_same : ShowsText text status output → (q : ProblemParts) → Poses text q → IsReadable q output → Poses output q
+  poses_same r q poses within =
+      let a = poses.abstract in
+      let shown = is_shown poses.file a (record { reads = poses.reads; is_abstract = poses.is_abstract }) r in
+      let inside : IsReadable a.problem output = subst (λ (p : ProblemParts). IsReadable p output) poses.question within in
+      subst (λ (p : ProblemParts). Poses output p) (sym poses.question) (shown_poses poses.file a status output poses.is_abstract shown inside)
 
   is_refused : (line : List ℕ) → HasNoProblem text line → ShowsText text status output → (status ≡ 2) × (output ≡ line)
   is_refused line none r = abstracted_none text IsShown status output line none r
@@ -80,7 +80,7 @@ module _ (text : List ℕ) (status : ℕ) (output : List ℕ) where
         answers = one_of ways;
         shown = (at_shown ways, (λ h. (is_shown h.0 h.1 h.2 r).has_status));
         shown_text = λ f a has. (is_shown f a has r).printed;
-        asks = asks_same r;
+        poses = poses_same r;
         refused = (at_refused ways, (λ h. (is_refused h.0 h.1 r).0));
         refused_line = λ line none. (is_refused line none r).1;
       }

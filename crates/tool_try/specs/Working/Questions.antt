@@ -9,7 +9,7 @@ use Rattle.while_lang.specs.Concrete.{IsConcrete}
 use Rattle.problem_file.proofs.OneAnswer.{have_one_answer}
 use Rattle.abstraction.specs.Abstracts.{AbstractParts, abstract_of}
 use Rattle.tool_inputs.specs.TextProblem.{HasNoAbstraction}
-use Rattle.tool_inputs.specs.Steps.{ReplySpec, IsRefusal, ReadsText, AbstractsFile, AsksFor}
+use Rattle.tool_inputs.specs.Steps.{ReplySpec, IsRefusal, ReadsText, AbstractsFile, PosesFor}
 use Rattle.tool_inputs.specs.Working.Questions.{not_both}
 use Rattle.tool_try.specs.TryTexts.{not_concrete_line}
 use Rattle.tool_try.specs.Try.{TakesFile}
@@ -43,6 +43,6 @@ module _ (text : List ℕ) (GoesOn : FileParts → AbstractParts → ReplySpec) 
   declined_text status output (two, inr (f, reads, inl none)) = inr (f, reads, inl (none.0, (two, none.1)))
   declined_text status output (two, inr (f, reads, inr none)) = inr (f, reads, inr (none.0, inl (two, none.1)))
 
-  pub asked_text : (status : ℕ) (output : List ℕ) → AsksFor (DeclinesConcrete text) (IsConcreteText text) (λ s. GoesOn s.file s.shown) status output → GoesOnText status output
-  asked_text status output (inl r) = declined_text status output r
-  asked_text status output (inr (s, is, r)) = inr (s.file, is.reads, inr (is.concrete, inr (s.shown, is.is_abstract, r)))
+  pub posed_text : (status : ℕ) (output : List ℕ) → PosesFor (DeclinesConcrete text) (IsConcreteText text) (λ s. GoesOn s.file s.shown) status output → GoesOnText status output
+  posed_text status output (inl r) = declined_text status output r
+  posed_text status output (inr (s, is, r)) = inr (s.file, is.reads, inr (is.concrete, inr (s.shown, is.is_abstract, r)))

@@ -20,15 +20,15 @@ use Rattle.store_trials.specs.declared.trials.Trial.TheVariants.{Fails, NoneFail
 use Rattle.store_trials.proofs.FalseGoals.{shown_false, concrete_goal}
 use Rattle.store_trials.proofs.TrialFacts.{first_or_none}
 use Rattle.tool_inputs.specs.EvidenceBytes.{Spells, IsNoEvidence}
-use Rattle.tool_inputs.specs.Steps.{AbstractsFile, AsksFor}
-use Rattle.tool_inputs.proofs.Steps.{OneStatus, reads_said, reads_faulty, abstracts_as, abstracts_once, abstracts_small, small_status, reads_spelled, reads_no_evidence, reads_evidence_once}
+use Rattle.tool_inputs.specs.Steps.{AbstractsFile, PosesFor}
+use Rattle.tool_inputs.proofs.Steps.{OneStatus, reads_denoted, reads_faulty, abstracts_as, abstracts_once, abstracts_small, small_status, reads_spelled, reads_no_evidence, reads_evidence_once}
 use Rattle.tool_inputs.proofs.FileReplies.{HasOneReply}
 use Rattle.tool_try.specs.TryTexts.{trial_text, trial_status, not_concrete_line}
 use Rattle.tool_try.specs.Try.{TakesFile, AreTrialStores, HasTried, TriesStores, TriesFile, TriesText, FindsStore, FindsNone, TrialHeadline, TryHeadline, TryReply}
 use Rattle.tool_try.specs.TryWith.{TriesFollowing, TriesEvidence, TriesBytes, TriesTexts, TryWithHeadline, TryWithReply}
 use Rattle.tool_try.specs.Questions.{IsConcreteText, DeclinesConcrete}
 use Rattle.tool_try.specs.Working.TakenFiles.{takes_it, takes_not}
-use Rattle.tool_try.specs.Working.Questions.{asked_text}
+use Rattle.tool_try.specs.Working.Questions.{posed_text}
 use Rattle.tool_try.specs.Working.TrialStores.{trial_store_of, follower_of, one_list}
 
 -- ---- a trial on stores
@@ -39,7 +39,7 @@ module _ (f : FileParts) (turns : ℕ) (concrete : IsConcrete f) (numbered : IsN
   trial_ways tried = by tried.trial tried.is_trial tried.has_status tried.printed
     where
       by : (t : Trial) → IsTrial f.width turns f.goal stores t → status ≡ trial_status t → output ≡ trial_text f.scope (length stores) t → ((status ≡ 1) × FindsStore f turns stores output) ⊎ ((status ≡ 0) × FindsNone f turns stores output)
-      by (Fails s ends) first is told =
+      by (Fails s ends) first is given =
           let store = are s first.position first.listed in
           inl (
             is,
@@ -49,10 +49,10 @@ module _ (f : FileParts) (turns : ℕ) (concrete : IsConcrete f) (numbered : IsN
               is_store = store;
               first = first;
               is_false = shown_false f s turns ends concrete numbered.goal store first.are_ends first.show_false;
-              printed = told;
+              printed = given;
             },
           )
-      by (NoneFails cut) none is told = inr (is, record { cut = cut; none = none; printed = told })
+      by (NoneFails cut) none is given = inr (is, record { cut = cut; none = none; printed = given })
 
   trial_found : HasTried f turns stores status output → (s : Store) (ends : List EndParts) → IsFirstFalse f.width turns f.goal stores s ends → status ≡ 1
   trial_found tried s ends first = by (trial_ways tried)
@@ -89,12 +89,12 @@ module _ (f : FileParts) (turns : ℕ) (numbered : IsNumbered f) (status : ℕ) 
     tried = λ concrete. absurd (none concrete);
   }
   file_headline (inr (concrete, (stores, are, tried))) =
-      let told : TrialHeadline f turns stores status output = tried_headline f turns concrete numbered stores (trial_store_of f stores are) status output tried in
+      let given : TrialHeadline f turns stores status output = tried_headline f turns concrete numbered stores (trial_store_of f stores are) status output tried in
       record {
-        answers = below told.answers;
-        refused = ((λ e. absurd (not_two told.answers e)), (λ h. absurd (h concrete)));
-        refused_line = λ e. absurd (not_two told.answers e);
-        tried = λ c. (stores, are, told);
+        answers = below given.answers;
+        refused = ((λ e. absurd (not_two given.answers e)), (λ h. absurd (h concrete)));
+        refused_line = λ e. absurd (not_two given.answers e);
+        tried = λ c. (stores, are, given);
       }
     where
       below : (status ≡ 0) ⊎ (status ≡ 1) → (status ≡ 0) ⊎ ((status ≡ 1) ⊎ (status ≡ 2))
@@ -108,7 +108,7 @@ module _ (f : FileParts) (turns : ℕ) (numbered : IsNumbered f) (status : ℕ) 
 pub try_reply : (text : List ℕ) (turns : ℕ) (status : ℕ) (output : List ℕ) → TriesText text turns status output → TryReply text turns status output
 try_reply text turns status output r = record {
   replies = r;
-  headline = λ f reads. file_headline f turns (are_in_ranges text f reads) status output (reads_said text (λ g. TriesFile g turns) status output f reads r);
+  headline = λ f reads. file_headline f turns (are_in_ranges text f reads) status output (reads_denoted text (λ g. TriesFile g turns) status output f reads r);
   declined = λ line fault. reads_faulty text (λ f. TriesFile f turns) status output line fault r;
 }
 
@@ -141,7 +141,7 @@ file_once f turns numbered a b o p (inr (concrete, (stores, are, x))) y =
 text_once : (text : List ℕ) (turns : ℕ) → OneStatus (TriesText text turns)
 text_once text turns a b o p (inl x) y = x.0 ∙ sym (reads_faulty text (λ f. TriesFile f turns) b p o x.1 y).0
 text_once text turns a b o p (inr (f, reads, x)) y =
-    file_once f turns (are_in_ranges text f reads) a b o p x (reads_said text (λ g. TriesFile g turns) b p f reads y)
+    file_once f turns (are_in_ranges text f reads) a b o p x (reads_denoted text (λ g. TriesFile g turns) b p f reads y)
 
 pub try_one : (text : List ℕ) (turns : ℕ) → HasOneReply (TryReply text turns) ⊥
 try_one text turns = record {
@@ -199,11 +199,11 @@ module _ (turns : ℕ) (bytes : List ℕ) (f : FileParts) (a : AbstractParts) (c
 
       by : Tried ⊎ (((status ≡ 2) × IsNoEvidence bytes output) ⊎ ((status ≡ 3) × Rejected)) → TryWithHeadline turns bytes f a status output
       by (inl (x, s, h)) =
-          let told = (followed_headline x h).answers in
+          let given = (followed_headline x h).answers in
           record {
-            answers = first_two told;
-            faulty = ((λ e. absurd (small told 2 (omega arith) e)), (λ fault. reads_no_evidence bytes (TriesEvidence f a turns) status output fault.0 fault.1 r));
-            rejected = ((λ e. absurd (small told 3 (omega arith) e)), (λ no. rejected_status no r));
+            answers = first_two given;
+            faulty = ((λ e. absurd (small given 2 (omega arith) e)), (λ fault. reads_no_evidence bytes (TriesEvidence f a turns) status output fault.0 fault.1 r));
+            rejected = ((λ e. absurd (small given 3 (omega arith) e)), (λ no. rejected_status no r));
             tried = tried_so;
           }
       by (inr (inl h)) = record {
@@ -226,15 +226,15 @@ with_steps turns text bytes status output r = record {
       with_headline turns bytes f a concrete (are_in_ranges text f reads) status output
       (abstracts_as f (λ b. TriesBytes turns f b bytes) status output a is
       (takes_it (IsConcrete f) not_concrete_line (AbstractsFile f (λ b. TriesBytes turns f b bytes)) status output concrete
-      (reads_said text (λ g. TakesFile (IsConcrete g) not_concrete_line (AbstractsFile g (λ b. TriesBytes turns g b bytes))) status output f reads r)));
+      (reads_denoted text (λ g. TakesFile (IsConcrete g) not_concrete_line (AbstractsFile g (λ b. TriesBytes turns g b bytes))) status output f reads r)));
   unfit = λ f reads none.
       takes_not (IsConcrete f) not_concrete_line (AbstractsFile f (λ a. TriesBytes turns f a bytes)) status output none
-      (reads_said text (λ g. TakesFile (IsConcrete g) not_concrete_line (AbstractsFile g (λ a. TriesBytes turns g a bytes))) status output f reads r);
+      (reads_denoted text (λ g. TakesFile (IsConcrete g) not_concrete_line (AbstractsFile g (λ a. TriesBytes turns g a bytes))) status output f reads r);
   declined = λ line fault. reads_faulty text (λ f. TakesFile (IsConcrete f) not_concrete_line (AbstractsFile f (λ a. TriesBytes turns f a bytes))) status output line fault r;
 }
 
-pub try_with_reply : (turns : ℕ) (text bytes : List ℕ) (status : ℕ) (output : List ℕ) → AsksFor (DeclinesConcrete text) (IsConcreteText text) (λ s. TriesBytes turns s.file s.shown bytes) status output → TryWithReply turns text bytes status output
-try_with_reply turns text bytes status output asked = with_steps turns text bytes status output (asked_text text (λ f a. TriesBytes turns f a bytes) status output asked)
+pub try_with_reply : (turns : ℕ) (text bytes : List ℕ) (status : ℕ) (output : List ℕ) → PosesFor (DeclinesConcrete text) (IsConcreteText text) (λ s. TriesBytes turns s.file s.shown bytes) status output → TryWithReply turns text bytes status output
+try_with_reply turns text bytes status output posed = with_steps turns text bytes status output (posed_text text (λ f a. TriesBytes turns f a bytes) status output posed)
 
 -- ---- one status
 
@@ -255,7 +255,7 @@ with_once : (turns : ℕ) (text bytes : List ℕ) → OneStatus (TriesTexts turn
 with_once turns text bytes a b o p (inl x) y =
     x.0 ∙ sym (reads_faulty text (λ f. TakesFile (IsConcrete f) not_concrete_line (AbstractsFile f (λ c. TriesBytes turns f c bytes))) b p o x.1 y).0
 with_once turns text bytes a b o p (inr (f, reads, x)) y =
-    taken_once x (reads_said text (λ g. TakesFile (IsConcrete g) not_concrete_line (AbstractsFile g (λ c. TriesBytes turns g c bytes))) b p f reads y)
+    taken_once x (reads_denoted text (λ g. TakesFile (IsConcrete g) not_concrete_line (AbstractsFile g (λ c. TriesBytes turns g c bytes))) b p f reads y)
   where
     taken_once : TakesFile (IsConcrete f) not_concrete_line (AbstractsFile f (λ c. TriesBytes turns f c bytes)) a o → TakesFile (IsConcrete f) not_concrete_line (AbstractsFile f (λ c. TriesBytes turns f c bytes)) b p → a ≡ b
     taken_once (inl z) w = z.1.0 ∙ sym (takes_not (IsConcrete f) not_concrete_line (AbstractsFile f (λ c. TriesBytes turns f c bytes)) b p z.0 w).0

@@ -59,7 +59,7 @@ pub record IsAtSource (s : WalkContext) (w : TestedWorklist) (source : StepSourc
 -- The walk has listed entries such that, after the allowed moves by the action from the start atoms, the next sets of
 -- the entry are joined.
 pub record IsVisited (s : WalkContext) (old new : TestedWorklist) (source : StepSource) (from : EntryParts) (IsStart : Atom → Type 0) : Type 0 where
-  pub stands : IsAtSource s new source from
+  pub represents : IsAtSource s new source from
   pub kept : KeepsFunctions old.diagrams new.diagrams
   pub more : List EntryParts
   pub grows : new.listing.entries.items ≡ old.listing.entries.items ++ more
@@ -69,7 +69,7 @@ pub record IsVisited (s : WalkContext) (old new : TestedWorklist) (source : Step
 -- The atoms to which the step leads from the part and at which the entries do not join the part's sets. No entry has
 -- these sets at any of these atoms.
 pub record IsOpenAt (s : WalkContext) (old new : TestedWorklist) (source : StepSource) (from : EntryParts) (p : Part) (id : ℕ) : Type 0 where
-  pub stands : IsAtSource s new source from
+  pub represents : IsAtSource s new source from
   pub next : IsNextPart s.store new.diagrams from source.test source.act p
   pub kept : KeepsFunctions old.diagrams new.diagrams
   pub listing : new.listing ≡ old.listing
@@ -130,7 +130,7 @@ pub record IsDifference (s : WalkContext) (w : TestedWorklist) (place : ℕ) (at
   pub differ : set_out (terms_of s.store from.left) atom ≢ set_out (terms_of s.store from.right) atom
 
 -- at an atom of the test, exactly one of the steps accepts
-pub record TellApart (d : DiagramsParts) (test : ℕ) (steps : BothSteps) (atom : Atom) : Type 0 where
+pub record Distinguish (d : DiagramsParts) (test : ℕ) (steps : BothSteps) (atom : Atom) : Type 0 where
   pub fits : IsAtomOf d atom
   pub there : IsTrue (value_of d test atom)
   pub differ : value_of d steps.left.accepts atom ≢ value_of d steps.right.accepts atom

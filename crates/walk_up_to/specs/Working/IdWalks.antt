@@ -33,7 +33,7 @@ pub record AreListedOf (q : ProblemParts) (store : NodeParts) (r : ListedPairsPa
   pub walk : IsWalk q (entries_of store r.pairs) done
 
 -- at the atoms of a case the items represent the next sets of the pair by the action
-pub record StandFor (q : ProblemParts) (store : NodeParts) (d : DiagramsParts) (items : List Item) (p : SetPair) (a : ℕ) (decided : List (Option Bool)) : Type 0 where
+pub record Represent (q : ProblemParts) (store : NodeParts) (d : DiagramsParts) (items : List Item) (p : SetPair) (a : ℕ) (decided : List (Option Bool)) : Type 0 where
   pub targets : (i : Item) → Has items i → IsTermOf store q.tests i.target
   pub lefts : (atom : Atom) → length atom ≡ q.tests → Extends decided atom → SameMembers (set_next p.left atom a) (terms_of store (chosen d Left items atom))
   pub rights : (atom : Atom) → length atom ≡ q.tests → Extends decided atom → SameMembers (set_next p.right atom a) (terms_of store (chosen d Right items atom))
@@ -51,7 +51,7 @@ Visits d source decided items old new =
     → source.act < q.actions
     → AreListedOf q store old source.place
     → slice_get (entries_of store old.pairs) source.place ≡ Some from
-    → StandFor q store d items from.pair source.act decided
+    → Represent q store d items from.pair source.act decided
     → AreVisited q store source from.pair decided old new
 
 -- some walk has more pairs than may be listed
@@ -71,7 +71,7 @@ PassesLimit d source decided items old =
     → source.act < q.actions
     → AreListedOf q store old source.place
     → slice_get (entries_of store old.pairs) source.place ≡ Some from
-    → StandFor q store d items from.pair source.act decided
+    → Represent q store d items from.pair source.act decided
     → IsPastLimit q old.limit
 
 -- two cases are visited one after the other

@@ -51,8 +51,8 @@ least_failure-returns-in_ok-least_values-in-Fails-clause-failure t c =
     let bound = option_map (λ (b : Bor (Vec Bool Global)). b.now.items) c.args.bound in
     let compared = subst (λ (l : List (Option Bool)). IsPast c.args.bound l c.in_ok-past.past) c.deref.ensures.value c.in_ok-past.ensures in
     let below : IsBelow bound (least_of ds) = subst (IsPast c.args.bound ds) c.if-past.false compared in
-    let told = c.in_ok-least_values-in-Fails.ensures ∙ ap least_of (c.deref-in-Fails.ensures.value ∙ ap (λ (v : Vec (Option Bool) Global). v.items) c.outcome_in.ensures.decided) in
-    rw told (all_fail P ds bound below (subst (IsOutcome P ds) c.in-Fails.is c.in_ok-outcome_in.ensures.outcome))
+    let given = c.in_ok-least_values-in-Fails.ensures ∙ ap least_of (c.deref-in-Fails.ensures.value ∙ ap (λ (v : Vec (Option Bool) Global). v.items) c.outcome_in.ensures.decided) in
+    rw given (all_fail P ds bound below (subst (IsOutcome P ds) c.in-Fails.is c.in_ok-outcome_in.ensures.outcome))
 
 pub least_failure-failure_by-requires : goal.least_failure-failure_by-requires
 least_failure-failure_by-requires t c =

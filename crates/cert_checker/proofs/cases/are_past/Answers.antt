@@ -11,5 +11,5 @@ returns c =
     let ds = c.args.decided.now in
     let most = c.in-Some.bound.now.items in
     let long = extends_length ds (least_of ds) (least_extends ds) in
-    let told = past_by most (least_of ds) c.le.result ((rw c.in-Some.is at c.requires) ∙ sym long) (c.le.ensures ∙ ap (at_most most) c.in_ok-least.ensures) in
-    rw c.in-Some.is told
+    let given = past_by most (least_of ds) c.le.result ((rw c.in-Some.is at c.requires) ∙ sym long) (c.le.ensures ∙ ap (at_most most) c.in_ok-least.ensures) in
+    rw c.in-Some.is given

@@ -3,7 +3,7 @@ use Rattle.kat_model.specs.declared.tree.Kat.{Kat}
 use Rattle.kat_model.specs.Trees.{kat_tree}
 use Rattle.cert_checker.proofs.FewerHyps.{AreKept, kept_more, kept_same, kept_at_end}
 use Rattle.cert_checker.proofs.checking.kept_hyps.Goals as goal
-use Rattle.cert_checker.proofs.checking.kept_hyps.Goals.{then-not-is_short+in_ok-copy+in_ok-push, else-not-is_short+else-asks_only}
+use Rattle.cert_checker.proofs.checking.kept_hyps.Goals.{then-not-is_short+in_ok-copy+in_ok-push, else-not-is_short+else-tests_only_from}
 
 pub loop-hyp-preserved : goal.loop-hyp-preserved
 loop-hyp-preserved c =
@@ -15,7 +15,7 @@ loop-hyp-preserved c =
       | then-not-is_short+in_ok-copy+in_ok-push w ↦
           rw (add-one, w.hyps-is, w.in_ok-push.ensures.items)
           (kept_more kept items i x c.loop-hyp.invariant (omega arith) c.hyp-item.is w.in_ok-copy.field-0 w.in_ok-copy.ensures)
-      | else-not-is_short+else-asks_only w ↦
+      | else-not-is_short+else-tests_only_from w ↦
           rw (add-one, w.hyps-is)
           (kept_same kept items i x c.loop-hyp.invariant (omega arith) c.hyp-item.is (ap not (sym c.is_short.ensures ∙ w.if-not-is_short.false)))
     ]

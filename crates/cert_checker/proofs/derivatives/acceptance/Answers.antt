@@ -13,13 +13,13 @@ pub returns-in-Zero-clause-values : goal.returns-in-Zero-clause-values
 returns-in-Zero-clause-values c =
     let t = c.args.tables.now in
     let node = c.term_node in
-    IfOk-weaker c.constant.result _ _ (λ g told. (told.0, (λ atom. told.1 atom ∙ sym (ap (λ e. out e atom) node.ensures.tree ∙ silent t node.result atom c.in-Zero.is)))) c.constant.ensures.values
+    IfOk-weaker c.constant.result _ _ (λ g given. (given.0, (λ atom. given.1 atom ∙ sym (ap (λ e. out e atom) node.ensures.tree ∙ silent t node.result atom c.in-Zero.is)))) c.constant.ensures.values
 
 pub returns-in-One-clause-values : goal.returns-in-One-clause-values
 returns-in-One-clause-values c =
     let t = c.args.tables.now in
     let node = c.term_node in
-    IfOk-weaker c.constant-in-One.result _ _ (λ g told. (told.0, (λ atom. told.1 atom ∙ sym (ap (λ e. out e atom) node.ensures.tree ∙ ready t node.result atom c.in-One.is)))) c.constant-in-One.ensures.values
+    IfOk-weaker c.constant-in-One.result _ _ (λ g given. (given.0, (λ atom. given.1 atom ∙ sym (ap (λ e. out e atom) node.ensures.tree ∙ ready t node.result atom c.in-One.is)))) c.constant-in-One.ensures.values
 
 pub returns-in-Test-clause-values : goal.returns-in-Test-clause-values
 returns-in-Test-clause-values c =
@@ -36,7 +36,7 @@ returns-in-Sum-clause-values c =
     let first = accept_at t earlier c.in-Sum.x c.requires.earlier parts.0 in
     let second = accept_at t earlier c.in-Sum.y c.requires.earlier parts.1 in
     IfOk-weaker c.either.result _ _
-    (λ g told. (told.0, (λ atom. told.1 atom ∙ ap₂ (λ (a b : Bool). a || b) (first.1 atom) (second.1 atom) ∙ sym (ap (λ e. out e atom) (node.ensures.tree ∙ ap (tree_in (nodes_in t)) c.in-Sum.is)))))
+    (λ g given. (given.0, (λ atom. given.1 atom ∙ ap₂ (λ (a b : Bool). a || b) (first.1 atom) (second.1 atom) ∙ sym (ap (λ e. out e atom) (node.ensures.tree ∙ ap (tree_in (nodes_in t)) c.in-Sum.is)))))
     c.either.ensures.values
 
 pub returns-in-Seq-clause-values : goal.returns-in-Seq-clause-values
@@ -48,7 +48,7 @@ returns-in-Seq-clause-values c =
     let first = accept_at t earlier c.in-Seq.x c.requires.earlier parts.0 in
     let second = accept_at t earlier c.in-Seq.y c.requires.earlier parts.1 in
     IfOk-weaker c.both.result _ _
-    (λ g told. (told.0, (λ atom. told.1 atom ∙ ap₂ (λ (a b : Bool). a && b) (first.1 atom) (second.1 atom) ∙ sym (ap (λ e. out e atom) (node.ensures.tree ∙ ap (tree_in (nodes_in t)) c.in-Seq.is)))))
+    (λ g given. (given.0, (λ atom. given.1 atom ∙ ap₂ (λ (a b : Bool). a && b) (first.1 atom) (second.1 atom) ∙ sym (ap (λ e. out e atom) (node.ensures.tree ∙ ap (tree_in (nodes_in t)) c.in-Seq.is)))))
     c.both.ensures.values
 
 pub bounds-earlier-x : goal.bounds-earlier-x

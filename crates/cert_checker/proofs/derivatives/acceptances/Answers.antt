@@ -16,12 +16,12 @@ loop-preserved c =
     let items = c.in_ok-push.ensures.items in
     let terms = ap length now.grows.terms in
     let low : length guards < length t.terms = omega (arith, terms, now.count, c.term_count-end.ensures.value) in
-    let told = subst (λ n. HasValues new (out (term_at t n)) c.in_ok-guard.guard) (ap length c.deref.ensures.value) c.in_ok-guard.ensures.values in
+    let given = subst (λ n. HasValues new (out (term_at t n)) c.in_ok-guard.guard) (ap length c.deref.ensures.value) c.in_ok-guard.ensures.values in
     let grows = c.acceptance.ensures.grows.grows in
     record {
       count = ap length items ∙ length_push guards c.in_ok-guard.guard ∙ ap (λ n. n + 1) now.count;
       grows = tests_trans c.args.tables.now t new now.grows c.acceptance.ensures.grows;
-      values = subst (AreAcceptances new) (sym items) (acceptances_more t new grows.was grows guards c.in_ok-guard.guard now.values low told);
+      values = subst (AreAcceptances new) (sym items) (acceptances_more t new grows.was grows guards c.in_ok-guard.guard now.values low given);
     }
 
 pub returns-in_err-guard-clause-grows : goal.returns-in_err-guard-clause-grows

@@ -3,10 +3,10 @@ use Rattle.std.specs.Option.{option_copied, option_map_or}
 use Rattle.kat_model.specs.Steps.{Atom, truth}
 use Rattle.term_nodes.specs.NodeTrees.{test_tree_in}
 use Rattle.cert_checker.specs.NodeTables.{TableParts, TestsGrow, IsTest, nodes_in, term_at, holds_at}
-use Rattle.cert_checker.specs.Targets.{StandFor, chosen, guard_of}
+use Rattle.cert_checker.specs.Targets.{Represent, chosen, guard_of}
 use Rattle.cert_checker.proofs.ChosenTargets.{guard_member}
 use Rattle.cert_checker.proofs.GrowingTables.{tests_itself}
-use Rattle.cert_checker.proofs.TargetSets.{added_stands, never_stands}
+use Rattle.cert_checker.proofs.TargetSets.{added_represents, never_represents}
 use Rattle.cert_checker.proofs.derivatives.add.Goals as goal
 use Rattle.cert_checker.proofs.derivatives.add.Goals.{in-Some+in_ok-joined-in-Some, in-None}
 
@@ -29,7 +29,7 @@ returns-clause-added c =
     let es = c.args.to.now.entries in
     let new = c.match-get.tables in
     let own = c.requires (c.args.term, c.args.guard) (inl refl) in
-    let told : IsJoined t new (guard_of es c.args.term) c.args.guard c.match-get.joined =
+    let given : IsJoined t new (guard_of es c.args.term) c.args.guard c.match-get.joined =
     elim c.match-get.branch [
       | in-Some+in_ok-joined-in-Some w ↦
           let found : guard_of es c.args.term ≡ Some w.in-Some.other.now = sym c.get.ensures.value ∙ ap option_copied w.in-Some.is in
@@ -38,9 +38,9 @@ returns-clause-added c =
           let none : guard_of es c.args.term ≡ None = sym c.get.ensures.value ∙ ap option_copied w.in-None.is in
           rw (w.tables-is, w.joined-is, none) (tests_itself t c.test_node.ensures.tables, own.1, (λ atom. refl))
     ] in
-    subst (λ new'. StandFor new new' (λ atom. chosen t es atom ++ cond (holds_at t c.args.guard atom) (term_at t c.args.term ∷ []) []))
+    subst (λ new'. Represent new new' (λ atom. chosen t es atom ++ cond (holds_at t c.args.guard atom) (term_at t c.args.term ∷ []) []))
     (sym c.in_ok-insert.ensures.entries)
-    (added_stands t new c.test_node.ensures.tables told.0.grows es (λ e h. c.requires e (inr h)) c.args.term c.args.guard c.match-get.joined own.0 told.1 told.2)
+    (added_represents t new c.test_node.ensures.tables given.0.grows es (λ e h. c.requires e (inr h)) c.args.term c.args.guard c.match-get.joined own.0 given.1 given.2)
 
 pub returns-in_err-insert-clause-grows : goal.returns-in_err-insert-clause-grows
 returns-in_err-insert-clause-grows c =
@@ -61,7 +61,7 @@ returns-clause-grows c =
 pub returns-in-False-clause-added : goal.returns-in-False-clause-added
 returns-in-False-clause-added c =
     let t = c.args.tables.now in
-    never_stands t c.args.to.now.entries c.args.guard (λ atom. term_at t c.args.term ∷ []) (λ e h. c.requires e (inr h)) (λ atom. ap (λ b. truth b atom) (c.test_node.ensures.tree ∙ ap (test_tree_in (nodes_in t)) c.in-False.is))
+    never_represents t c.args.to.now.entries c.args.guard (λ atom. term_at t c.args.term ∷ []) (λ e h. c.requires e (inr h)) (λ atom. ap (λ b. truth b atom) (c.test_node.ensures.tree ∙ ap (test_tree_in (nodes_in t)) c.in-False.is))
 
 pub returns-in-False-clause-grows : goal.returns-in-False-clause-grows
 returns-in-False-clause-grows c = tests_itself c.args.tables.now c.test_node.ensures.tables

@@ -6,7 +6,7 @@ use Rattle.term_nodes.specs.NodeTrees.{test_tree_in}
 use Rattle.cert_checker.specs.NodeTables.{nodes_in}
 use Rattle.cert_checker.specs.Targets.{chosen}
 use Rattle.cert_checker.proofs.AddingTargets.{IsAdding, adding_more, adding_ends}
-use Rattle.cert_checker.proofs.TargetSets.{test_within, term_within, entries_kept, entry_added, never_stands}
+use Rattle.cert_checker.proofs.TargetSets.{test_within, term_within, entries_kept, entry_added, never_represents}
 use Rattle.cert_checker.proofs.GrowingTables.{tests_itself, tests_trans}
 use Rattle.cert_checker.proofs.derivatives.add_all.Goals as goal
 
@@ -47,7 +47,7 @@ returns-in_err-add-clause-grows c =
 pub returns-in-False-clause-added : goal.returns-in-False-clause-added
 returns-in-False-clause-added c =
     let t = c.args.tables.now in
-    never_stands t c.args.targets.now.entries c.args.guard (chosen t c.args.more.now.entries) c.requires.entries (λ atom. ap (λ b. truth b atom) (c.test_node.ensures.tree ∙ ap (test_tree_in (nodes_in t)) c.in-False.is))
+    never_represents t c.args.targets.now.entries c.args.guard (chosen t c.args.more.now.entries) c.requires.entries (λ atom. ap (λ b. truth b atom) (c.test_node.ensures.tree ∙ ap (test_tree_in (nodes_in t)) c.in-False.is))
 
 pub returns-in-False-clause-grows : goal.returns-in-False-clause-grows
 returns-in-False-clause-grows c = tests_itself c.args.tables.now c.test_node.ensures.tables

@@ -9,28 +9,28 @@ use Rattle.term_nodes.specs.NodeTrees.{tree_in}
 use Rattle.kat_model.specs.Trees.{Term, one}
 use Rattle.cert_checker.specs.NodeTables.{TableParts, nodes_in, term_at}
 use Rattle.cert_checker.specs.Marks.{IsPart}
-use Rattle.cert_checker.specs.Targets.{StandFor, AreSteps, leads_to}
+use Rattle.cert_checker.specs.Targets.{Represent, AreSteps, leads_to}
 use Rattle.term_nodes.proofs.Parts.{IsOver-part, has_below}
 use Rattle.term_nodes.proofs.TermTrees.{tree_at-node}
 use Rattle.cert_checker.proofs.TargetSets.{test_within, entries_kept}
-use Rattle.cert_checker.proofs.StepLists.{read_map, accept_at, nothing_stands, still, sum_stands, star_stands, product_stands}
+use Rattle.cert_checker.proofs.StepLists.{read_map, accept_at, nothing_represents, still, sum_represents, star_represents, product_represents}
 use Rattle.cert_checker.proofs.GrowingTables.{grows_itself, grows_trans}
 use Rattle.cert_checker.proofs.derivatives.step.Goals as goal
 
 -- targets that stand for the steps of an action, if the action is given
-led : {o : Option ℕ} {a : ℕ} {t : TableParts} {es : List (ℕ × ℕ)} (e : Term) → o ≡ Some a → StandFor t es (λ atom. next e atom a) → StandFor t es (leads_to o e)
-led {t = t} {es = es} e is s = subst (λ o. StandFor t es (leads_to o e)) (sym is) s
+led : {o : Option ℕ} {a : ℕ} {t : TableParts} {es : List (ℕ × ℕ)} (e : Term) → o ≡ Some a → Represent t es (λ atom. next e atom a) → Represent t es (leads_to o e)
+led {t = t} {es = es} e is s = subst (λ o. Represent t es (leads_to o e)) (sym is) s
 
 pub returns-in-Zero-clause-targets : goal.returns-in-Zero-clause-targets
 returns-in-Zero-clause-targets c =
     let t = c.args.tables.now in
     let tree = tree_at-node (nodes_in t) c.term_node.ensures.tables.rules (length c.args.earlier.now) c.term_node.result c.term_node.ensures.node in
-    led _ c.in-Some.is (nothing_stands t c.new.result.entries _ c.new.ensures.empty (λ atom. ap (λ e. next e atom c.in-Some.act) tree ∙ still t c.term_node.result atom c.in-Some.act c.in-Zero.is))
+    led _ c.in-Some.is (nothing_represents t c.new.result.entries _ c.new.ensures.empty (λ atom. ap (λ e. next e atom c.in-Some.act) tree ∙ still t c.term_node.result atom c.in-Some.act c.in-Zero.is))
 
 -- ---- the sum of two nodes
 
 pub of_set-requires-clause-steps : goal.of_set-requires-clause-steps
-of_set-requires-clause-steps c = λ k es m at. subst (λ o. StandFor c.args.tables.now es (leads_to o (term_at c.args.tables.now k))) c.in-Some.is (c.requires.parts k es (c.term_node.result, c.term_node.ensures.node, subst (λ n. Has (term_parts n) k) (sym c.in-Sum.is) m) at)
+of_set-requires-clause-steps c = λ k es m at. subst (λ o. Represent c.args.tables.now es (leads_to o (term_at c.args.tables.now k))) c.in-Some.is (c.requires.parts k es (c.term_node.result, c.term_node.ensures.node, subst (λ n. Has (term_parts n) k) (sym c.in-Sum.is) m) at)
 
 pub of_set-requires-clause-numbers : goal.of_set-requires-clause-numbers
 of_set-requires-clause-numbers c =
@@ -43,8 +43,8 @@ returns-in-Sum-clause-targets c =
     let t = c.args.tables.now in
     let tree = tree_at-node (nodes_in t) c.term_node.ensures.tables.rules (length c.args.earlier.now) c.term_node.result c.term_node.ensures.node ∙ ap (tree_in (nodes_in t)) c.in-Sum.is in
     IfOk-weaker c.of_set.result _ _
-    (λ made s. led _ c.in-Some.is (subst (λ e. StandFor c.of_set.new.tables made.entries (λ atom. next e atom c.in-Some.act)) (sym tree)
-    (sum_stands c.of_set.new.tables made.entries (term_at t c.in-Sum.x) (term_at t c.in-Sum.y) c.in-Some.act s)))
+    (λ made s. led _ c.in-Some.is (subst (λ e. Represent c.of_set.new.tables made.entries (λ atom. next e atom c.in-Some.act)) (sym tree)
+    (sum_represents c.of_set.new.tables made.entries (term_at t c.in-Sum.x) (term_at t c.in-Sum.y) c.in-Some.act s)))
     c.of_set.ensures.targets
 
 -- ---- the product of two nodes
@@ -89,13 +89,13 @@ returns-in_ok-add_all-in-Seq-clause-targets c =
     let parts = subst (IsOver (length c.args.tables.now.tests) (length earlier)) c.in-Seq.is c.term_node.ensures.parts in
     let low : c.in-Seq.x < length earlier = parts.0 in
     let also : c.in-Seq.y < length earlier = parts.1 in
-    let parts_stand = subst (λ o. AreSteps t o (IsPart t (length earlier)) (map (λ t. t.entries) earlier)) c.in-Some.is c.requires.parts in
-    let first = parts_stand c.in-Seq.x c.index-earlier-x.result.entries (c.term_node.result, c.term_node.ensures.node, subst (λ n. Has (term_parts n) c.in-Seq.x) (sym c.in-Seq.is) (inl refl)) (read_map (λ t. t.entries) earlier c.in-Seq.x c.index-earlier-x.result low c.index-earlier-x.is) in
-    let second = parts_stand c.in-Seq.y c.index-earlier-y.result.entries (c.term_node.result, c.term_node.ensures.node, subst (λ n. Has (term_parts n) c.in-Seq.y) (sym c.in-Seq.is) (inr (inl refl))) (read_map (λ t. t.entries) earlier c.in-Seq.y c.index-earlier-y.result also c.index-earlier-y.is) in
+    let parts_represent = subst (λ o. AreSteps t o (IsPart t (length earlier)) (map (λ t. t.entries) earlier)) c.in-Some.is c.requires.parts in
+    let first = parts_represent c.in-Seq.x c.index-earlier-x.result.entries (c.term_node.result, c.term_node.ensures.node, subst (λ n. Has (term_parts n) c.in-Seq.x) (sym c.in-Seq.is) (inl refl)) (read_map (λ t. t.entries) earlier c.in-Seq.x c.index-earlier-x.result low c.index-earlier-x.is) in
+    let second = parts_represent c.in-Seq.y c.index-earlier-y.result.entries (c.term_node.result, c.term_node.ensures.node, subst (λ n. Has (term_parts n) c.in-Seq.y) (sym c.in-Seq.is) (inr (inl refl))) (read_map (λ t. t.entries) earlier c.in-Seq.y c.index-earlier-y.result also c.index-earlier-y.is) in
     let accepts = accept_at t accepting c.in-Seq.x c.requires.accepting (omega (arith, low, c.requires.count)) in
     let tree = tree_at-node (nodes_in t) c.term_node.ensures.tables.rules (length earlier) c.term_node.result c.term_node.ensures.node ∙ ap (tree_in (nodes_in t)) c.in-Seq.is in
-    led _ c.in-Some.is (subst (λ e. StandFor c.add_all.new.tables c.add_all.new.targets.entries (λ atom. next e atom c.in-Some.act)) (sym tree)
-    (product_stands t c.continued.new.tables c.add_all.new.tables c.in-Seq.x c.in-Seq.y c.in-Some.act _ c.index-earlier-x.result.entries c.index-earlier-y.result.entries c.in_ok-targets-in-Seq.targets.entries c.add_all.new.targets.entries
+    led _ c.in-Some.is (subst (λ e. Represent c.add_all.new.tables c.add_all.new.targets.entries (λ atom. next e atom c.in-Some.act)) (sym tree)
+    (product_represents t c.continued.new.tables c.add_all.new.tables c.in-Seq.x c.in-Seq.y c.in-Some.act _ c.index-earlier-x.result.entries c.index-earlier-y.result.entries c.in_ok-targets-in-Seq.targets.entries c.add_all.new.targets.entries
     c.term_node.ensures.tables c.continued.ensures.grows first second accepts.0 accepts.1 c.in_ok-targets-in-Seq.ensures.targets c.in_ok-add_all-in-Seq.ensures.added))
 
 pub returns-in_err-add_all-in-Seq-clause-grows : goal.returns-in_err-add_all-in-Seq-clause-grows
@@ -122,11 +122,11 @@ returns-in-Star-clause-targets c =
     let earlier = c.args.earlier.now in
     let parts = subst (IsOver (length c.args.tables.now.tests) (length earlier)) c.in-Star.is c.term_node.ensures.parts in
     let low : c.in-Star.x < length earlier = parts in
-    let parts_stand = subst (λ o. AreSteps t o (IsPart t (length earlier)) (map (λ t. t.entries) earlier)) c.in-Some.is c.requires.parts in
-    let first = parts_stand c.in-Star.x c.index-earlier-x-in-Star.result.entries (c.term_node.result, c.term_node.ensures.node, subst (λ n. Has (term_parts n) c.in-Star.x) (sym c.in-Star.is) (inl refl)) (read_map (λ t. t.entries) earlier c.in-Star.x c.index-earlier-x-in-Star.result low c.index-earlier-x-in-Star.is) in
+    let parts_represent = subst (λ o. AreSteps t o (IsPart t (length earlier)) (map (λ t. t.entries) earlier)) c.in-Some.is c.requires.parts in
+    let first = parts_represent c.in-Star.x c.index-earlier-x-in-Star.result.entries (c.term_node.result, c.term_node.ensures.node, subst (λ n. Has (term_parts n) c.in-Star.x) (sym c.in-Star.is) (inl refl)) (read_map (λ t. t.entries) earlier c.in-Star.x c.index-earlier-x-in-Star.result low c.index-earlier-x-in-Star.is) in
     let tree = tree_at-node (nodes_in t) c.term_node.ensures.tables.rules (length earlier) c.term_node.result c.term_node.ensures.node ∙ ap (tree_in (nodes_in t)) c.in-Star.is in
     IfOk-weaker c.continued-in-Star.result _ _
-    (λ made s. led _ c.in-Some.is (star_stands t c.continued-in-Star.new.tables c.in-Star.x (length earlier) c.in-Some.act c.index-earlier-x-in-Star.result.entries made.entries tree first s))
+    (λ made s. led _ c.in-Some.is (star_represents t c.continued-in-Star.new.tables c.in-Star.x (length earlier) c.in-Some.act c.index-earlier-x-in-Star.result.entries made.entries tree first s))
     c.continued-in-Star.ensures.targets
 
 -- ---- the action of the step
@@ -146,7 +146,7 @@ returns-in_default-clause-targets c =
     let n = length c.args.earlier.now in
     let accepts = accept_at t c.args.accepting.now n c.requires.accepting c.requires.count in
     IfOk-weaker c.empty_product.result _ _
-    (λ made s. subst (λ o. StandFor new made.entries (leads_to o (term_at t n))) (sym c.in_default.is) (subst (λ (P : Type 0). P) (λ i. StandFor new made.entries (λ atom. cond (accepts.1 atom i) (one ∷ []) [])) s))
+    (λ made s. subst (λ o. Represent new made.entries (leads_to o (term_at t n))) (sym c.in_default.is) (subst (λ (P : Type 0). P) (λ i. Represent new made.entries (λ atom. cond (accepts.1 atom i) (one ∷ []) [])) s))
     c.empty_product.ensures.targets
 
 pub empty_product-requires : goal.empty_product-requires

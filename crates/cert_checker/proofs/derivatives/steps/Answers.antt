@@ -4,7 +4,7 @@ use Rattle.std.proofs.lemmas.List.{length_push, length-map, map_push}
 use Rattle.std.proofs.lemmas.Option.{slice_get-get_or, get_or_from_slice_get}
 use Rattle.cert_checker.specs.NodeTables.{term_at}
 use Rattle.cert_checker.specs.Marks.{IsMarked, IsPart}
-use Rattle.cert_checker.specs.Targets.{AreSteps, StandFor, HasNoneElsewhere, leads_to}
+use Rattle.cert_checker.specs.Targets.{AreSteps, Represent, HasNoneElsewhere, leads_to}
 use Rattle.cert_checker.proofs.GrowingTables.{grows_itself, grows_trans}
 use Rattle.cert_checker.proofs.ClosingMarks.{closed_kept}
 use Rattle.cert_checker.proofs.StepLists.{all_accept, steps_more, none_more, grows_longer}
@@ -45,7 +45,7 @@ loop-is_needed-preserved c =
           let grows = w.step.ensures.grows in
           let items = w.in_ok-push.ensures.items in
           let same : length w.deref.result.now ≡ length (map (λ t. t.entries) list) = ap length w.deref.ensures.value ∙ sym count in
-          let stands = subst (λ n. StandFor new w.in_ok-targets.targets.entries (leads_to c.args.action (term_at t n))) same w.in_ok-targets.ensures.targets in
+          let represents = subst (λ n. Represent new w.in_ok-targets.targets.entries (leads_to c.args.action (term_at t n))) same w.in_ok-targets.ensures.targets in
           rw (w.tables-is, w.list-is)
           (record {
             count = ap length items ∙ length_push list w.in_ok-targets.targets ∙ ap (λ n. n + 1) now.count;
@@ -53,7 +53,7 @@ loop-is_needed-preserved c =
             accepting = all_accept t new grows.was grows c.args.accepting.now low now.accepting;
             steps = subst (λ l. AreSteps new c.args.action (IsMarked marks) (map (λ t. t.entries) l)) (sym items)
                 (subst (AreSteps new c.args.action (IsMarked marks)) (sym (map_push (λ t. t.entries) list w.in_ok-targets.targets))
-                (steps_more t new grows.was grows c.args.action (IsMarked marks) (map (λ t. t.entries) list) w.in_ok-targets.targets.entries now.steps here (λ m. stands)));
+                (steps_more t new grows.was grows c.args.action (IsMarked marks) (map (λ t. t.entries) list) w.in_ok-targets.targets.entries now.steps here (λ m. represents)));
             others = subst (λ l. HasNoneElsewhere marks (map (λ t. t.entries) l)) (sym items)
                 (subst (HasNoneElsewhere marks) (sym (map_push (λ t. t.entries) list w.in_ok-targets.targets))
                 (none_more marks (map (λ t. t.entries) list) w.in_ok-targets.targets.entries now.others (λ m. absurd (is_needed m w.if-is_needed.true))));

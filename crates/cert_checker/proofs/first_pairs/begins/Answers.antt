@@ -50,8 +50,8 @@ returns-in-Some-test-clause-begins c =
     let right : c.as_slice-else-ne-2.result.now ≡ p.right ∷ [] = c.as_slice-else-ne-2.ensures ∙ ap (λ (z : PassParts). z.right ∷ []) c.pass.view_is in
     let left_same : r.left ≡ p.left ∷ [] = sym lefts ∙ (sets_differ _ _ _ c.ne.ensures).1 c.if-ne.false ∙ left in
     let right_same : r.right ≡ p.right ∷ [] = sym rights ∙ (sets_differ _ _ _ c.ne-else-ne.ensures).1 c.if-ne-2.false ∙ right in
-    let told = begins_tested p c.requires r at left_same right_same c.in-Some-test.test test in
-    IfOk-weaker c.holds_throughout.result _ _ (λ b h. ((λ e. told.0 (h.0 e)), (λ g. h.1 (told.1 g)))) c.holds_throughout.ensures.holds
+    let given = begins_tested p c.requires r at left_same right_same c.in-Some-test.test test in
+    IfOk-weaker c.holds_throughout.result _ _ (λ b h. ((λ e. given.0 (h.0 e)), (λ g. h.1 (given.1 g)))) c.holds_throughout.ensures.holds
 
 pub returns-in-None-clause-begins : goal.returns-in-None-clause-begins
 returns-in-None-clause-begins c =

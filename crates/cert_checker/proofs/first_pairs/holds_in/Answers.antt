@@ -8,7 +8,7 @@ use Rattle.cert_checker.specs.LeastFailures.{IsFirstFailure}
 use Rattle.cert_checker.specs.Cases.{undecided}
 use Rattle.cert_checker.specs.Questions.{QuestionParts, MatchAt}
 use Rattle.cert_checker.specs.Passes.{PassParts}
-use Rattle.cert_checker.proofs.FirstPairs.{throughout_entries, throughout_posed, throughout_told}
+use Rattle.cert_checker.proofs.FirstPairs.{throughout_entries, throughout_posed, throughout_given}
 use Rattle.cert_checker.proofs.LeastFailures.{Below, unbounded}
 use Rattle.cert_checker.proofs.PosedQuestions.{narrow}
 use Rattle.cert_checker.proofs.Passes.{passes_itself, grown}
@@ -73,7 +73,7 @@ returns-clause-holds c =
     let q = c.in_ok-question.question in
     let o = option_map (λ v. v.items) c.in_ok-least_failure.field-0 in
     let ds = c.in_ok-case.ensures ∙ ap (λ n. undecided (n + n)) c.width.ensures in
-    throughout_told p p (passes_itself p c.requires.pass) c.requires.pass second third last to_second c.empty_product.ensures.grows c.empty_product-2.ensures.grows c.args.action_pass.now c.requires.action_pass c.requires.outputs c.args.test c.in_ok-always.always c.requires.is_test c.in_ok-always.ensures.values c.in_ok-left.left.entries c.in_ok-right.right.entries c.in_ok-left.ensures.targets c.in_ok-right.ensures.targets
+    throughout_given p p (passes_itself p c.requires.pass) c.requires.pass second third last to_second c.empty_product.ensures.grows c.empty_product-2.ensures.grows c.args.action_pass.now c.requires.action_pass c.requires.outputs c.args.test c.in_ok-always.always c.requires.is_test c.in_ok-always.ensures.values c.in_ok-left.left.entries c.in_ok-right.right.entries c.in_ok-left.ensures.targets c.in_ok-right.ensures.targets
     q c.in_ok-question.ensures.question (λ v. v.items) c.in_ok-least_failure.field-0 c.is_none.result c.is_none.ensures
     (unbounded (MatchAt q.tables q) (undecided (last.width + last.width)) o (subst (λ l. IsFirstFailure (Below (MatchAt q.tables q) None) l o) ds c.in_ok-least_failure.ensures.failure))
 

@@ -30,8 +30,8 @@ returns-clause-holds c =
     let kept = λ (atom : Atom). holds_kept p.tables new.tables grows.tables.was grows.tables c.args.test atom c.requires.is_test in
     IfOk-weaker c.holds_in.result _ _
     (λ b h.
-    let told = subst (λ (z : PassParts). IsTrue b ↔ ((atom : Atom) → length atom ≡ z.problem.tests → IsAllowedAtom (counted_short z.cert.style z.problem) atom → IsTrue (holds_at new.tables c.args.test atom))) grows.same h in
-    ((λ e atom l allowed. sym (kept atom) ∙ told.0 e atom l allowed), (λ all. told.1 (λ atom l allowed. kept atom ∙ all atom l allowed))))
+    let given = subst (λ (z : PassParts). IsTrue b ↔ ((atom : Atom) → length atom ≡ z.problem.tests → IsAllowedAtom (counted_short z.cert.style z.problem) atom → IsTrue (holds_at new.tables c.args.test atom))) grows.same h in
+    ((λ e atom l allowed. sym (kept atom) ∙ given.0 e atom l allowed), (λ all. given.1 (λ atom l allowed. kept atom ∙ all atom l allowed))))
     c.holds_in.ensures.holds
 
 pub returns-clause-grows : goal.returns-clause-grows

@@ -16,5 +16,5 @@ returns-then-joined c = ((λ _. inl (c.in_ok-joined.ensures.0 c.if-joined.true))
 pub returns : goal.returns
 returns c =
     IfOk-weaker c.reach_universal.result _ _
-    (λ b told. ((λ e. inr (told.0 e)), (λ h. ⊎_elim (λ m. absurd (false≢true (sym c.if-joined.false ∙ c.in_ok-joined.ensures.1 m))) told.1 h)))
+    (λ b given. ((λ e. inr (given.0 e)), (λ h. ⊎_elim (λ m. absurd (false≢true (sym c.if-joined.false ∙ c.in_ok-joined.ensures.1 m))) given.1 h)))
     c.reach_universal.ensures

@@ -17,5 +17,5 @@ returns c =
     let ps = counting_in c.args.counted.now in
     let left = reached_as ps c.in_ok-left.left _ s.right.sure.items _ s.left.alone.items c.deref.ensures.value c.deref-2.ensures.value c.in_ok-left.ensures in
     IfOk-weaker c.reaches-2.result _ _
-    (λ b told. let right = reached_as ps b _ s.left.sure.items _ s.right.alone.items c.deref-3.ensures.value c.deref-4.ensures.value told in ((λ e. (left.0 c.if-not-left.false, right.0 e)), (λ m. right.1 m.1)))
+    (λ b given. let right = reached_as ps b _ s.left.sure.items _ s.right.alone.items c.deref-3.ensures.value c.deref-4.ensures.value given in ((λ e. (left.0 c.if-not-left.false, right.0 e)), (λ m. right.1 m.1)))
     c.reaches-2.ensures

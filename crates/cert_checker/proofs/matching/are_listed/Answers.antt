@@ -14,9 +14,9 @@ returns-then-has_sets c =
     let ks : List ℕ = c.args.sides.now.left.sure.items in
     let ls : List ℕ = c.args.sides.now.right.sure.items in
     let j : ℕ = get_or c.shorter-places.result.now c.loop-place.place-index 0 in
-    let told : is_found ps counted.also_open counted.known.now ks ls j ≡ true =
+    let given : is_found ps counted.also_open counted.known.now ks ls j ≡ true =
     sym (λ i. is_found ps counted.also_open counted.known.now (c.as_slice-left.ensures.value i) (c.as_slice-right.ensures.value i) j) ∙ sym c.has_sets.ensures ∙ c.if-has_sets.true in
-    sym (found_listed ps counted.also_open counted.known.now ks ls j told)
+    sym (found_listed ps counted.also_open counted.known.now ks ls j given)
 
 pub loop-place-preserved : goal.loop-place-preserved
 loop-place-preserved c =
@@ -27,9 +27,9 @@ loop-place-preserved c =
     let places : List ℕ = c.shorter-places.result.now in
     let i = c.loop-place.place-index in
     let j : ℕ = get_or places i 0 in
-    let told : is_found ps counted.also_open counted.known.now ks ls j ≡ false =
+    let given : is_found ps counted.also_open counted.known.now ks ls j ≡ false =
     sym (λ i. is_found ps counted.also_open counted.known.now (c.as_slice-left.ensures.value i) (c.as_slice-right.ensures.value i) j) ∙ sym c.has_sets.ensures ∙ c.if-has_sets.false in
-    other_more ps counted.also_open counted.known.now ks ls places i c.loop-place-test.true (other_unfound ps counted.also_open counted.known.now ks ls j told) c.loop-place.invariant
+    other_more ps counted.also_open counted.known.now ks ls places i c.loop-place-test.true (other_unfound ps counted.also_open counted.known.now ks ls j given) c.loop-place.invariant
 
 pub returns : goal.returns
 returns c =

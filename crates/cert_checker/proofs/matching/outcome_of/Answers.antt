@@ -17,7 +17,7 @@ pub returns-in_default : goal.returns-in_default
 returns-in_default c =
     let q = c.args.question.now in
     let case = c.args.case.now in
-    excluded_holds q.tables c.requires.question.tables q c.requires.question.question q.asked c.requires.question.named case.decided.items case c.requires.case c.in_default.ensures
+    excluded_holds q.tables c.requires.question.tables q c.requires.question.question q.queried c.requires.question.named case.decided.items case c.requires.case c.in_default.ensures
 
 pub outcome_by-requires-clause-sides : goal.outcome_by-requires-clause-sides
 outcome_by-requires-clause-sides c = sides_as _ c.args.question.now _ c.args.case.now.begin.items c.in_ok-left.left c.in_ok-right.right c.question.view_is c.as_slice-known.ensures.value c.in_ok-left.ensures c.in_ok-right.ensures

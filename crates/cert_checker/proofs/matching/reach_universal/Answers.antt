@@ -28,5 +28,5 @@ returns c =
     let is : counted.action_pass.now.universal ≡ Some c.in-Some.term = sym (ap (λ (t : ActionPassParts). t.universal) c.action_pass.view_is) ∙ c.in-Some.is in
     let left = reached_as ps c.in_ok-left.left _ s.left.sure.items _ (c.in-Some.term ∷ []) c.deref.ensures.value refl c.in_ok-left.ensures in
     IfOk-weaker c.reaches-2.result _ _
-    (λ b told. both_second ps counted.action_pass.now.universal s.left.sure.items s.right.sure.items c.in-Some.term c.in_ok-left.left b is left c.if-not-left.false (reached_as ps b _ s.right.sure.items _ (c.in-Some.term ∷ []) c.deref-2.ensures.value refl told))
+    (λ b given. both_second ps counted.action_pass.now.universal s.left.sure.items s.right.sure.items c.in-Some.term c.in_ok-left.left b is left c.if-not-left.false (reached_as ps b _ s.right.sure.items _ (c.in-Some.term ∷ []) c.deref-2.ensures.value refl given))
     c.reaches-2.ensures

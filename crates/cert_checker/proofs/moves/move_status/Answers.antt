@@ -4,7 +4,7 @@ use Rattle.std.proofs.lemmas.Bool.{or_left}
 use Rattle.cert_checker.specs.Cases.{falsely, known_test}
 use Rattle.cert_checker.specs.Questions.{ActionPassParts, QuestionParts}
 use Rattle.cert_checker.specs.Waiting.{IsWaited}
-use Rattle.cert_checker.proofs.MoveTurns.{begun, ended, excluded_here, next_told}
+use Rattle.cert_checker.proofs.MoveTurns.{begun, ended, excluded_here, next_given}
 use Rattle.cert_checker.proofs.moves.move_status.Goals as goal
 
 pub returns-then-is_false : goal.returns-then-is_false
@@ -31,7 +31,7 @@ pub loop-from-preserved : goal.loop-from-preserved
 loop-from-preserved c =
     let fs : List (ℕ × ℕ) = c.deref-from-items.result.now in
     let is : fs ≡ c.args.question.now.action_pass.forbidden = c.deref-from-items.ensures.value ∙ ap (λ (t : ActionPassParts). t.forbidden) c.action_pass.view_is ∙ ap (λ (q : QuestionParts). q.action_pass.forbidden) c.question.view_is in
-    next_told c.args.question.now c.args.case.now fs is c.as_slice-begin.result.now c.as_slice-end.result.now c.as_slice-begin.ensures.value c.as_slice-end.ensures.value c.loop-from.from-index _ c.loop-from-test.true
+    next_given c.args.question.now c.args.case.now fs is c.as_slice-begin.result.now c.as_slice-end.result.now c.as_slice-begin.ensures.value c.as_slice-end.ensures.value c.loop-from.from-index _ c.loop-from-test.true
     c.value_of-first.result c.value_of-second.result c.conjunction.result c.value_of-first.ensures c.value_of-second.ensures c.conjunction.ensures c.loop-from.tied c.loop-from.waiting c.or-tied.result c.or-waiting.result c.loop-from.invariant
     (sym c.is_true.ensures ∙ c.if-is_true.false)
     (c.or-tied.ensures ∙ ap (option_or c.loop-from.tied) c.tied_by.ensures) (c.or-waiting.ensures ∙ ap (option_or c.loop-from.waiting) c.loose_by.ensures)

@@ -4,7 +4,7 @@ use Rattle.term_nodes.specs.NumberSets.{terms_of}
 use Rattle.cert_checker.specs.NodeTables.{nodes_in}
 use Rattle.cert_checker.specs.Targets.{AreAcceptances, set_leads_to}
 use Rattle.cert_checker.proofs.GrowingTables.{tests_trans}
-use Rattle.cert_checker.proofs.StepSets.{stand_kept}
+use Rattle.cert_checker.proofs.StepSets.{represent_kept}
 use Rattle.cert_checker.proofs.pass.forbid_moves.Goals as goal
 
 pub forbid_targets-requires : goal.forbid_targets-requires
@@ -22,7 +22,7 @@ returns-clause-added c =
     (λ made. record {
       entries = entries;
       outputs = c.deref.result.now;
-      stand = stand_kept mid last c.acceptances.ensures.grows.grows.was c.acceptances.ensures.grows.grows entries leads c.in_ok-targets.ensures.targets;
+      represent = represent_kept mid last c.acceptances.ensures.grows.grows.was c.acceptances.ensures.grows.grows entries leads c.in_ok-targets.ensures.targets;
       accept = subst (AreAcceptances last) (sym c.deref.ensures.value) c.in_ok-outputs.ensures.values;
       there = λ e h. let own : e.0 < length mid.terms = (c.in_ok-targets.ensures.targets.entries e h).0 in omega (arith, own, c.in_ok-outputs.ensures.count, ap length c.deref.ensures.value);
       pairs = made;

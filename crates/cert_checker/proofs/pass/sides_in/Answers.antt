@@ -4,7 +4,7 @@ use Rattle.kat_model.specs.Trees.{kat_tree}
 use Rattle.kat_model.specs.Problems.{HasTestsBelow}
 use Rattle.goal_forms.specs.ClosedTrees.{closed_trees}
 use Rattle.cert_checker.proofs.GrowingTables.{grows_itself, grows_trans}
-use Rattle.cert_checker.proofs.RootRanges.{universal_told, numbers_made}
+use Rattle.cert_checker.proofs.RootRanges.{universal_given, numbers_made}
 use Rattle.cert_checker.proofs.pass.sides_in.Goals as goal
 
 pub number_of-requires : goal.number_of-requires
@@ -31,9 +31,9 @@ pub returns-in_ok-number_of-in-Some-clause-numbers : goal.returns-in_ok-number_o
 returns-in_ok-number_of-in-Some-clause-numbers c =
     let last = c.number_of-in-Some.new.self in
     let found = c.in_ok-number_of-in-Some in
-    let told = universal_told last found.field-0 (kat_tree c.in-Some.term) found.ensures.is_term found.ensures.tree in
+    let given = universal_given last found.field-0 (kat_tree c.in-Some.term) found.ensures.is_term found.ensures.tree in
     numbers_made (closed_trees c.args.closed.now) c.number_of.new.self c.number_of-2.new.self last c.in_ok-left.left c.in_ok-right.right (Some found.field-0) c.number_of-2.ensures.grows c.number_of-in-Some.ensures.grows c.in_ok-left.ensures.is_term c.in_ok-left.ensures.tree c.in_ok-right.ensures.is_term c.in_ok-right.ensures.tree
-    (told.0, told.1 ∙ sym (ap (option_map kat_tree) c.in-Some.is))
+    (given.0, given.1 ∙ sym (ap (option_map kat_tree) c.in-Some.is))
 
 pub returns-in-None-clause-numbers : goal.returns-in-None-clause-numbers
 returns-in-None-clause-numbers c =

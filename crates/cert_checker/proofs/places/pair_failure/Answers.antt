@@ -7,16 +7,16 @@ use Rattle.kat_model.specs.Members.{Has}
 use Rattle.term_nodes.specs.NumberSets.{are_below, terms_of}
 use Rattle.certificate.specs.PairParts.{PairParts}
 use Rattle.cert_checker.specs.NodeTables.{TablesGrow, nodes_in}
-use Rattle.cert_checker.specs.Targets.{AreSteps, StandFor, set_leads_to}
+use Rattle.cert_checker.specs.Targets.{AreSteps, Represent, set_leads_to}
 use Rattle.cert_checker.proofs.GrowingTables.{grows_trans}
 use Rattle.cert_checker.proofs.TargetSets.{entries_kept}
 use Rattle.cert_checker.specs.LeastFailures.{IsFirstFailure}
 use Rattle.cert_checker.specs.Cases.{undecided}
-use Rattle.cert_checker.specs.Questions.{ActionPassParts, QuestionParts, IsAskedOf, MatchAt}
+use Rattle.cert_checker.specs.Questions.{ActionPassParts, QuestionParts, IsQueriedOf, MatchAt}
 use Rattle.cert_checker.specs.Passes.{PassParts}
 use Rattle.cert_checker.proofs.LeastFailures.{Below, unbounded}
 use Rattle.cert_checker.proofs.Passes.{grown}
-use Rattle.cert_checker.proofs.PairTurns.{by_path, pair_posed, pair_told}
+use Rattle.cert_checker.proofs.PairTurns.{by_path, pair_posed, pair_given}
 use Rattle.cert_checker.proofs.PosedQuestions.{question_of, left_steps, right_steps, left_numbers, right_numbers, own_test}
 use Rattle.cert_checker.proofs.places.pair_failure.Goals as goal
 
@@ -100,12 +100,12 @@ least_failure-requires-clause-question c =
     let to_last = c.of_set-2.ensures.grows.grows in
     let lefts = c.in_ok-left.left.entries in
     let rights = c.in_ok-right.right.entries in
-    let own = (by_path (λ i. StandFor mid lefts (set_leads_to (a i) (terms_of (nodes_in (t i)) (l i))))).0 c.in_ok-left.ensures.targets in
-    let other = (by_path (λ i. StandFor last rights (set_leads_to (a i) (terms_of (nodes_in mid) (k i))))).0 c.in_ok-right.ensures.targets in
+    let own = (by_path (λ i. Represent mid lefts (set_leads_to (a i) (terms_of (nodes_in (t i)) (l i))))).0 c.in_ok-left.ensures.targets in
+    let other = (by_path (λ i. Represent last rights (set_leads_to (a i) (terms_of (nodes_in mid) (k i))))).0 c.in_ok-right.ensures.targets in
     let test : c.pair.inside.test ≡ r.test = ap (λ (z : PairParts). z.test) c.pair.view_is in
     let q = c.in_ok-question.question in
-    let asked : IsAskedOf last action_pass r.test lefts rights q = c.in_ok-question.ensures.question ∙ ap (λ o. question_of last action_pass o lefts rights q.asked) test in
-    pair_posed p mid last c.requires.pass to_mid to_last action_pass c.requires.action_pass r c.requires.pair lefts rights own other q asked c.in_ok-question.ensures.named
+    let queried : IsQueriedOf last action_pass r.test lefts rights q = c.in_ok-question.ensures.question ∙ ap (λ o. question_of last action_pass o lefts rights q.queried) test in
+    pair_posed p mid last c.requires.pass to_mid to_last action_pass c.requires.action_pass r c.requires.pair lefts rights own other q queried c.in_ok-question.ensures.named
 
 pub least_failure-requires-clause-decided : goal.least_failure-requires-clause-decided
 least_failure-requires-clause-decided c =
@@ -130,14 +130,14 @@ returns-clause-failure c =
     let to_last = c.of_set-2.ensures.grows.grows in
     let lefts = c.in_ok-left.left.entries in
     let rights = c.in_ok-right.right.entries in
-    let own = (by_path (λ i. StandFor mid lefts (set_leads_to (a i) (terms_of (nodes_in (t i)) (l i))))).0 c.in_ok-left.ensures.targets in
-    let other = (by_path (λ i. StandFor last rights (set_leads_to (a i) (terms_of (nodes_in mid) (k i))))).0 c.in_ok-right.ensures.targets in
+    let own = (by_path (λ i. Represent mid lefts (set_leads_to (a i) (terms_of (nodes_in (t i)) (l i))))).0 c.in_ok-left.ensures.targets in
+    let other = (by_path (λ i. Represent last rights (set_leads_to (a i) (terms_of (nodes_in mid) (k i))))).0 c.in_ok-right.ensures.targets in
     let test : c.pair.inside.test ≡ r.test = ap (λ (z : PairParts). z.test) c.pair.view_is in
     let q = c.in_ok-question.question in
-    let asked : IsAskedOf last action_pass r.test lefts rights q = c.in_ok-question.ensures.question ∙ ap (λ o. question_of last action_pass o lefts rights q.asked) test in
-    let told = pair_told p mid last c.requires.pass to_mid to_last action_pass c.requires.action_pass r c.requires.pair lefts rights own other q in
+    let queried : IsQueriedOf last action_pass r.test lefts rights q = c.in_ok-question.ensures.question ∙ ap (λ o. question_of last action_pass o lefts rights q.queried) test in
+    let given = pair_given p mid last c.requires.pass to_mid to_last action_pass c.requires.action_pass r c.requires.pair lefts rights own other q in
     IfOk-weaker c.least_failure.result _ _
-    (λ o f. told (option_map (λ v. v.items) o) asked (unbounded (MatchAt q.tables q) (undecided (p.tables.width + p.tables.width)) (option_map (λ v. v.items) o) (subst (λ ds. IsFirstFailure (Below (MatchAt q.tables q) None) ds (option_map (λ v. v.items) o)) c.requires.undecided f)))
+    (λ o f. given (option_map (λ v. v.items) o) queried (unbounded (MatchAt q.tables q) (undecided (p.tables.width + p.tables.width)) (option_map (λ v. v.items) o) (subst (λ ds. IsFirstFailure (Below (MatchAt q.tables q) None) ds (option_map (λ v. v.items) o)) c.requires.undecided f)))
     c.least_failure.ensures.failure
 
 pub returns-clause-grows : goal.returns-clause-grows

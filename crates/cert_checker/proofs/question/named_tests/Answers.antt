@@ -15,8 +15,8 @@ with_parts-requires c = λ k h.
     (λ w. subst (IsTest t) w.2 (c.requires.right w.0 w.1).1)
     ((c.in_ok-add_guards-2.ensures k).0 h)
 
-pub returns-clause-asked : goal.returns-clause-asked
-returns-clause-asked c = c.with_parts.ensures.asked
+pub returns-clause-queried : goal.returns-clause-queried
+returns-clause-queried c = c.with_parts.ensures.queried
 
 pub returns-clause-named : goal.returns-clause-named
 returns-clause-named c =

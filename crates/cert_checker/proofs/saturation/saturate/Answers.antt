@@ -32,16 +32,16 @@ returns-then-len-count c =
     let last = c.in_ok-add_round.ensures.goes_on in
     let same : length d ≡ length a = omega arith in
     let brought = brought_on ps c.args.from.now a d c.loop-reached.invariant (goes_then ps a b d first last) in
-    let never : IsSubset c.args.wanted.now a → ⊥ = iff_false c.has_all.ensures c.loop-reached-test.true in (
+    let never : IsSubset c.args.expected.now a → ⊥ = iff_false c.has_all.ensures c.loop-reached-test.true in (
       (λ e. absurd (false≢true e)),
       (λ reached.
           absurd (⊎_elim
           (λ there. never (λ k h. no_more a d (λ j m e. last.kept j m (first.kept j m e)) same k (there k h)))
-          (λ under. unreached counted.action_pass.now.pairs counted.also_open counted.known.now counted.action_pass.now.index c.requires.indexed a b d first.kept last.kept same c.in_ok-add_pairs.ensures.tended under c.args.from.now c.args.wanted.now brought never reached)
+          (λ under. unreached counted.action_pass.now.pairs counted.also_open counted.known.now counted.action_pass.now.index c.requires.indexed a b d first.kept last.kept same c.in_ok-add_pairs.ensures.tended under c.args.from.now c.args.expected.now brought never reached)
           c.in_ok-add_round.ensures.tended)),
     )
 
 pub returns : goal.returns
 returns c =
     let there = c.has_all.ensures.0 c.loop-reached-test.false in
-    ((λ _. there_reached (counting_in c.args.counted.now) c.args.from.now c.loop-reached.reached.keys c.args.wanted.now c.loop-reached.invariant there), (λ _. refl))
+    ((λ _. there_reached (counting_in c.args.counted.now) c.args.from.now c.loop-reached.reached.keys c.args.expected.now c.loop-reached.invariant there), (λ _. refl))

@@ -15,12 +15,12 @@ returns-in_err-text-clause-answers c =
     subst (Answers c.args.tests c.args.actions c.args.bytes.now) (sym (answer.1 ∙ ap (λ (f : TextFault). Err f) answer.2)) (inr (no_text c.in_err-text.ensures.fault))
 
 pub returns-in_err-text-clause-only : goal.returns-in_err-text-clause-only
-returns-in_err-text-clause-only c chain says =
+returns-in_err-text-clause-only c chain denotes =
     let answer = err_from_is_err_and c.from_residual.result c.from_residual.ensures.1 in
-    subst (λ (r : Result ChainTree TextFault). IfErr r (λ e. e ≡ NoMemory)) (sym (answer.1 ∙ ap (λ (e : TextFault). Err e) answer.2)) (only_memory c.args.tests c.args.actions c.args.bytes.now chain (Err c.in_err-text.field-0.0) says (inr (no_text c.in_err-text.ensures.fault)))
+    subst (λ (r : Result ChainTree TextFault). IfErr r (λ e. e ≡ NoMemory)) (sym (answer.1 ∙ ap (λ (e : TextFault). Err e) answer.2)) (only_memory c.args.tests c.args.actions c.args.bytes.now chain (Err c.in_err-text.field-0.0) denotes (inr (no_text c.in_err-text.ensures.fault)))
 
 pub returns-clause-only : goal.returns-clause-only
-returns-clause-only c chain says = only_memory c.args.tests c.args.actions c.in_ok-text.text.now chain c.read_text.result (subst (λ bytes. Reads c.args.tests c.args.actions bytes chain) (sym c.in_ok-text.ensures.text) says) c.read_text.ensures
+returns-clause-only c chain denotes = only_memory c.args.tests c.args.actions c.in_ok-text.text.now chain c.read_text.result (subst (λ bytes. Reads c.args.tests c.args.actions bytes chain) (sym c.in_ok-text.ensures.text) denotes) c.read_text.ensures
 
 pub returns-clause-in_range : goal.returns-clause-in_range
 returns-clause-in_range c = answered_in_range c.args.tests c.args.actions c.in_ok-text.text.now c.read_text.result c.read_text.ensures

@@ -3,12 +3,12 @@ use Rattle.std.specs.Option.{option_map}
 use Rattle.text_parser.specs.declared.terminal.Terminal.TheVariants.{Separator}
 use Rattle.text_parser.specs.declared.terminal.Separator.TheVariants.{Semicolon, CurlyOpen, CurlyClose}
 use Rattle.text_parser.specs.Lexemes.{lexemes, is_terminal}
-use Rattle.text_parser.specs.Parsed.{wants, place_of}
-use Rattle.text_parser.proofs.NamedFaults.{wants_named}
+use Rattle.text_parser.specs.Parsed.{expects, place_of}
+use Rattle.text_parser.proofs.NamedFaults.{expects_named}
 use Rattle.text_parser.proofs.TokenPlaces.{next_drop}
 use Rattle.while_lang.specs.Blocks.{enter}
 use Rattle.while_lang.proofs.BlockFaults.{enter_named, entered, part_fails, check_fails}
-use Rattle.chain_proofs.specs.ChainWalks.{wants_word, rule_by, whole_chain, lines_after, braces_by, inner_by, line_by, parse_chain}
+use Rattle.chain_proofs.specs.ChainWalks.{expects_word, rule_by, whole_chain, lines_after, braces_by, inner_by, line_by, parse_chain}
 use Rattle.chain_proofs.specs.Working.Reading.{reason_of}
 use Rattle.chain_proofs.proofs.ChainParts.{both_of, word_named, accepted_fails, chain_unread, chain_begun, lines_end, lines_fail, lines_go, line_unread, line_stopped, line_unruled, line_unfilled, line_unended, line_made, inner_fails, inner_made, braces_unopened, braces_deep, braces_fail, braces_unclosed, braces_made}
 use Rattle.chain_proofs.proofs.walk.+chains.Goals as goal
@@ -79,7 +79,7 @@ line-returns-in_err-end-clause-value g t c =
     let v = g.R.ChainReading.chain c.args.list in
     let z = g.R.ChainReading.size c.args.known in
     let whole = line_by a (parse_chain a) v z c.args.depth ts in
-    check_fails g.R.ChainReading.memory (both_of g.R.ChainReading.chain g.R.ChainReading.size) all whole c.in_err-end.field-0.0 c.from_residual-in_err-end.result c.from_residual-in_err-end.ensures.1 (wants_word (codes "by") (drop c.in_ok-next.end all)) (word_named (codes "by") (drop c.in_ok-next.end all)) c.in_err-end.ensures.value
+    check_fails g.R.ChainReading.memory (both_of g.R.ChainReading.chain g.R.ChainReading.size) all whole c.in_err-end.field-0.0 c.from_residual-in_err-end.result c.from_residual-in_err-end.ensures.1 (expects_word (codes "by") (drop c.in_ok-next.end all)) (word_named (codes "by") (drop c.in_ok-next.end all)) c.in_err-end.ensures.value
     (line_stopped a c.args.depth ts (parse_chain a) v z ((g.R.ChainReading.term c.in_ok-next.next, g.R.ChainReading.size c.in_ok-next.size), drop c.in_ok-next.end all) c.in_ok-next.ensures.value c.in_err-end.field-0.0 c.in_err-end.ensures.value)
 
 pub line-returns-in_err-rule-clause-value : goal.line-returns-in_err-rule-clause-value
@@ -113,7 +113,7 @@ line-returns-in_err-end-2-clause-value g t c =
     let v = g.R.ChainReading.chain c.args.list in
     let z = g.R.ChainReading.size c.args.known in
     let whole = line_by a (parse_chain a) v z c.args.depth ts in
-    check_fails g.R.ChainReading.memory (both_of g.R.ChainReading.chain g.R.ChainReading.size) all whole c.in_err-end-2.field-0.0 c.from_residual-in_err-end-2.result c.from_residual-in_err-end-2.ensures.1 (wants (is_terminal (Separator Semicolon)) (drop c.in_ok-inner.end all)) (wants_named (is_terminal (Separator Semicolon)) (drop c.in_ok-inner.end all)) c.in_err-end-2.ensures.value
+    check_fails g.R.ChainReading.memory (both_of g.R.ChainReading.chain g.R.ChainReading.size) all whole c.in_err-end-2.field-0.0 c.from_residual-in_err-end-2.result c.from_residual-in_err-end-2.ensures.1 (expects (is_terminal (Separator Semicolon)) (drop c.in_ok-inner.end all)) (expects_named (is_terminal (Separator Semicolon)) (drop c.in_ok-inner.end all)) c.in_err-end-2.ensures.value
     (line_unended a c.args.depth ts (parse_chain a) v z ((g.R.ChainReading.term c.in_ok-next.next, g.R.ChainReading.size c.in_ok-next.size), drop c.in_ok-next.end all) c.in_ok-next.ensures.value (drop c.in_ok-end.end all) c.in_ok-end.ensures.value
     (reason_of g.R.ChainReading.rule g.R.ChainReading.path c.in_ok-rule.field-0-0, drop c.in_ok-rule.end all) c.in_ok-rule.ensures.value
     ((option_map g.R.ChainReading.chain c.in_ok-inner.inner, g.R.ChainReading.size c.in_ok-inner.size), drop c.in_ok-inner.end all) c.in_ok-inner.ensures.value c.in_err-end-2.field-0.0 c.in_err-end-2.ensures.value)
@@ -166,7 +166,7 @@ braces-returns-in_err-next-clause-value g t c =
     let ts = drop c.args.from all in
     let z = g.R.ChainReading.size c.args.known in
     let whole = braces_by (parse_chain a) z c.args.depth ts in
-    check_fails g.R.ChainReading.memory (both_of g.R.ChainReading.chain g.R.ChainReading.size) all whole c.in_err-next.field-0.0 c.from_residual.result c.from_residual.ensures.1 (wants (is_terminal (Separator CurlyOpen)) ts) (wants_named (is_terminal (Separator CurlyOpen)) ts) c.in_err-next.ensures.value (braces_unopened (parse_chain a) z c.args.depth ts c.in_err-next.field-0.0 c.in_err-next.ensures.value)
+    check_fails g.R.ChainReading.memory (both_of g.R.ChainReading.chain g.R.ChainReading.size) all whole c.in_err-next.field-0.0 c.from_residual.result c.from_residual.ensures.1 (expects (is_terminal (Separator CurlyOpen)) ts) (expects_named (is_terminal (Separator CurlyOpen)) ts) c.in_err-next.ensures.value (braces_unopened (parse_chain a) z c.args.depth ts c.in_err-next.field-0.0 c.in_err-next.ensures.value)
 
 pub braces-returns-in_err-inside-clause-value : goal.braces-returns-in_err-inside-clause-value
 braces-returns-in_err-inside-clause-value g t c =
@@ -175,8 +175,8 @@ braces-returns-in_err-inside-clause-value g t c =
     let ts = drop c.args.from all in
     let z = g.R.ChainReading.size c.args.known in
     let whole = braces_by (parse_chain a) z c.args.depth ts in
-    let told = entered c.args.depth (place_of ts) c.place_at.result (Err c.in_err-inside.field-0.0) c.place_at.ensures c.in_err-inside.ensures in
-    check_fails g.R.ChainReading.memory (both_of g.R.ChainReading.chain g.R.ChainReading.size) all whole c.in_err-inside.field-0.0 c.from_residual-in_err-inside.result c.from_residual-in_err-inside.ensures.1 (enter c.args.depth (place_of ts)) (enter_named c.args.depth (place_of ts)) told (braces_deep (parse_chain a) z c.args.depth ts (drop c.in_ok-next.next all) c.in_ok-next.ensures.value c.in_err-inside.field-0.0 told)
+    let given = entered c.args.depth (place_of ts) c.place_at.result (Err c.in_err-inside.field-0.0) c.place_at.ensures c.in_err-inside.ensures in
+    check_fails g.R.ChainReading.memory (both_of g.R.ChainReading.chain g.R.ChainReading.size) all whole c.in_err-inside.field-0.0 c.from_residual-in_err-inside.result c.from_residual-in_err-inside.ensures.1 (enter c.args.depth (place_of ts)) (enter_named c.args.depth (place_of ts)) given (braces_deep (parse_chain a) z c.args.depth ts (drop c.in_ok-next.next all) c.in_ok-next.ensures.value c.in_err-inside.field-0.0 given)
 
 pub braces-returns-in_err-inner-clause-value : goal.braces-returns-in_err-inner-clause-value
 braces-returns-in_err-inner-clause-value g t c =
@@ -195,7 +195,7 @@ braces-returns-in_err-end-clause-value g t c =
     let ts = drop c.args.from all in
     let z = g.R.ChainReading.size c.args.known in
     let whole = braces_by (parse_chain a) z c.args.depth ts in
-    check_fails g.R.ChainReading.memory (both_of g.R.ChainReading.chain g.R.ChainReading.size) all whole c.in_err-end.field-0.0 c.from_residual-in_err-end.result c.from_residual-in_err-end.ensures.1 (wants (is_terminal (Separator CurlyClose)) (drop c.in_ok-inner.end all)) (wants_named (is_terminal (Separator CurlyClose)) (drop c.in_ok-inner.end all)) c.in_err-end.ensures.value
+    check_fails g.R.ChainReading.memory (both_of g.R.ChainReading.chain g.R.ChainReading.size) all whole c.in_err-end.field-0.0 c.from_residual-in_err-end.result c.from_residual-in_err-end.ensures.1 (expects (is_terminal (Separator CurlyClose)) (drop c.in_ok-inner.end all)) (expects_named (is_terminal (Separator CurlyClose)) (drop c.in_ok-inner.end all)) c.in_err-end.ensures.value
     (braces_unclosed (parse_chain a) z c.args.depth ts (drop c.in_ok-next.next all) c.in_ok-next.ensures.value c.in_ok-inside.inside (entered c.args.depth (place_of ts) c.place_at.result (Ok c.in_ok-inside.inside) c.place_at.ensures c.in_ok-inside.ensures)
     ((g.R.ChainReading.chain c.in_ok-inner.inner.0, g.R.ChainReading.size c.in_ok-inner.inner.1), drop c.in_ok-inner.end all) c.in_ok-inner.ensures.value c.in_err-end.field-0.0 c.in_err-end.ensures.value)
 

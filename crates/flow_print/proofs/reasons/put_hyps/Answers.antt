@@ -1,6 +1,6 @@
 use Rattle.std.proofs.Common.{◌+◌, ◌++◌, map, drop, refl}
 use Rattle.kat_model.specs.Trees.{kat_tree}
-use Rattle.flow_questions.specs.HypothesisViews.{flow_rule}
+use Rattle.flow_abstraction.specs.HypothesisViews.{flow_rule}
 use Rattle.flow_print.proofs.WrittenLists.{all_written}
 use Rattle.flow_print.proofs.WrittenTexts.{hyps_text, hyps_left, hyp_written}
 use Rattle.flow_print.proofs.reasons.put_hyps.Goals as goal

@@ -1,7 +1,7 @@
 use Rattle.std.proofs.Common.{◌≡◌, ◌++◌, map, drop}
 use Rattle.kat_model.specs.Trees.{kat_tree}
 use Rattle.kat_model.specs.Problems.{AreInRange}
-use Rattle.flow_questions.specs.HypothesisViews.{flow_rule}
+use Rattle.flow_abstraction.specs.HypothesisViews.{flow_rule}
 use Rattle.flow_print.proofs.WrittenTexts.{hyps_text}
 use Rattle.flow_print.proofs.reasons.put_hyps.Given as goal
 

@@ -1,7 +1,7 @@
 use Rattle.std.proofs.Common.{map, refl}
 use Rattle.std.specs.List.{enumerate_from}
 use Rattle.problem_file.specs.CommentedTexts.{comments_text}
-use Rattle.flow_tables.specs.EdgeViews.{flow_action}
+use Rattle.flow_edges.specs.EdgeViews.{flow_action}
 use Rattle.flow_print.specs.NameTables.{names_of}
 use Rattle.flow_print.specs.FlowTexts.{action_comment}
 use Rattle.flow_print.proofs.WrittenLists.{all_written, comment_written}

@@ -1,8 +1,8 @@
 use Rattle.std.proofs.Common.{map, refl}
 use Rattle.kat_model.specs.Trees.{kat_tree}
 use Rattle.flow_forms.specs.Comparisons.{comparison_tree}
-use Rattle.flow_tables.specs.EdgeViews.{flow_action}
-use Rattle.flow_questions.specs.HypothesisViews.{flow_rule}
+use Rattle.flow_edges.specs.EdgeViews.{flow_action}
+use Rattle.flow_abstraction.specs.HypothesisViews.{flow_rule}
 use Rattle.flow_print.specs.NameTables.{names_of}
 use Rattle.flow_print.proofs.WrittenTexts.{flow_written}
 use Rattle.flow_print.proofs.text.text_in.Goals as goal

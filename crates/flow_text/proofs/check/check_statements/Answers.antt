@@ -17,7 +17,7 @@ use Rattle.flow_text.proofs.check.check_statements.Goals as goal
 
 pub statements-preserved : goal.statements-preserved
 statements-preserved c =
-    let s = sight_parts c.args.sight.now in
+    let s = sight_parts c.args.visible_names.now in
     let made = c.statements.checked.items in
     let rest = c.statements.rest.now in
     let before = c.in-Some.field-0-1.now in
@@ -29,7 +29,7 @@ statements-preserved c =
 
 pub returns-in_err-statement : goal.returns-in_err-statement
 returns-in_err-statement c =
-    let s = sight_parts c.args.sight.now in
+    let s = sight_parts c.args.visible_names.now in
     let made = map statement_of c.statements.checked.items in
     let before = c.in-Some.field-0-1.now in
     let fault = c.in_err-statement.field-0.0 in
@@ -41,5 +41,5 @@ returns-in_err-statement c =
 
 pub returns : goal.returns
 returns c =
-    let s = sight_parts c.args.sight.now in
+    let s = sight_parts c.args.visible_names.now in
     ended (statements_after s) statements_syntax (map statement_of c.statements.checked.items) c.statements.rest.now (statements_after s [] (statements_syntax c.args.statements.now)) c.in_default.ensures.cases statements_none c.statements.invariant

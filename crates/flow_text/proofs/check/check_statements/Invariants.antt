@@ -7,7 +7,7 @@ use Rattle.flow_text.proofs.check.check_statements.Given as goal
 
 -- the statements so far, and those that are left
 abbrev pub invariant-statements : goal.invariant-statements
-invariant-statements l = statements_after (sight_parts l.sight) (map statement_of l.checked.items) (statements_syntax l.rest) ≡ statements_after (sight_parts l.sight) [] (statements_syntax l.fn.statements)
+invariant-statements l = statements_after (sight_parts l.visible_names) (map statement_of l.checked.items) (statements_syntax l.rest) ≡ statements_after (sight_parts l.visible_names) [] (statements_syntax l.fn.statements)
 
 abbrev pub decreases-statements : goal.decreases-statements
 decreases-statements l = length l.rest

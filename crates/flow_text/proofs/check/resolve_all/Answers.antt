@@ -17,7 +17,7 @@ use Rattle.flow_text.proofs.check.resolve_all.Goals as goal
 
 pub loop-sort-preserved : goal.loop-sort-preserved
 loop-sort-preserved c =
-    let s = sight_parts c.args.sight.now in
+    let s = sight_parts c.args.visible_names.now in
     let sorts = c.args.sorts.now in
     let i = c.loop-sort.sort-index in
     let made = c.loop-sort.values.items in
@@ -29,7 +29,7 @@ loop-sort-preserved c =
 
 pub returns-in_err-value : goal.returns-in_err-value
 returns-in_err-value c =
-    let s = sight_parts c.args.sight.now in
+    let s = sight_parts c.args.visible_names.now in
     let sorts = c.args.sorts.now in
     let i = c.loop-sort.sort-index in
     let made = values_of c.loop-sort.values.items in
@@ -43,10 +43,10 @@ returns-in_err-value c =
 
 pub returns-in_default : goal.returns-in_default
 returns-in_default c =
-    let s = sight_parts c.args.sight.now in
+    let s = sight_parts c.args.visible_names.now in
     no_more s (values_of c.loop-sort.values.items) (drop c.loop-sort.sort-index c.args.sorts.now) c.loop-sort.rest.now (expressions_of s c.args.sorts.now (exprs_syntax c.args.exprs.now)) c.in_default.ensures.cases c.loop-sort.invariant
 
 pub returns : goal.returns
 returns c =
-    let s = sight_parts c.args.sight.now in
+    let s = sight_parts c.args.visible_names.now in
     no_sort s (values_of c.loop-sort.values.items) c.args.sorts.now c.loop-sort.sort-index c.loop-sort.rest.now (expressions_of s c.args.sorts.now (exprs_syntax c.args.exprs.now)) c.loop-sort-test.false c.loop-sort.invariant

@@ -8,5 +8,5 @@ use Rattle.flow_text.proofs.check.resolve_all.Given as goal
 -- the expressions so far, and those of the sorts that are left
 abbrev pub invariant-loop-sort : goal.invariant-loop-sort
 invariant-loop-sort l =
-    expressions_after (sight_parts l.sight) (values_of l.values.items) (drop l.sort-index l.sorts) (exprs_syntax l.rest)
-    ≡ expressions_of (sight_parts l.sight) l.sorts (exprs_syntax l.fn.exprs)
+    expressions_after (sight_parts l.visible_names) (values_of l.values.items) (drop l.sort-index l.sorts) (exprs_syntax l.rest)
+    ≡ expressions_of (sight_parts l.visible_names) l.sorts (exprs_syntax l.fn.exprs)

@@ -16,7 +16,7 @@ use Rattle.flow_text.proofs.check.targets.Goals as goal
 
 pub names-preserved : goal.names-preserved
 names-preserved c =
-    let s = sight_parts c.args.sight.now in
+    let s = sight_parts c.args.visible_names.now in
     let made = c.names.targets.items in
     let rest = c.names.rest.now in
     let before = c.in-Some.field-0-1.now in
@@ -27,7 +27,7 @@ names-preserved c =
 
 pub returns-in_err-target : goal.returns-in_err-target
 returns-in_err-target c =
-    let s = sight_parts c.args.sight.now in
+    let s = sight_parts c.args.visible_names.now in
     let made = c.names.targets.items in
     let before = c.in-Some.field-0-1.now in
     let fault = c.in_err-target.field-0.0 in
@@ -39,5 +39,5 @@ returns-in_err-target c =
 
 pub returns : goal.returns
 returns c =
-    let s = sight_parts c.args.sight.now in
+    let s = sight_parts c.args.visible_names.now in
     ended (targets_after s) tokens_syntax c.names.targets.items c.names.rest.now (targets_after s [] (tokens_syntax c.args.names.now)) c.in_default.ensures.cases tokens_none c.names.invariant

@@ -19,7 +19,7 @@ use Rattle.flow_text.proofs.check_blocks.check_blocks.Goals as goal
 
 pub each-preserved : goal.each-preserved
 each-preserved c =
-    let s = sight_parts c.args.sight.now in
+    let s = sight_parts c.args.visible_names.now in
     let results = option_map (λ (r : Bor (List Sort)). r.now) c.args.results in
     let find = get_by_text c.args.names.now in
     let made = c.each.checked.items in
@@ -34,7 +34,7 @@ each-preserved c =
 
 pub returns-in_err-block : goal.returns-in_err-block
 returns-in_err-block c =
-    let s = sight_parts c.args.sight.now in
+    let s = sight_parts c.args.visible_names.now in
     let results = option_map (λ (r : Bor (List Sort)). r.now) c.args.results in
     let find = get_by_text c.args.names.now in
     let made = c.each.checked.items in
@@ -49,7 +49,7 @@ returns-in_err-block c =
 
 pub returns : goal.returns
 returns c =
-    let s = sight_parts c.args.sight.now in
+    let s = sight_parts c.args.visible_names.now in
     let results = option_map (λ (r : Bor (List Sort)). r.now) c.args.results in
     let find = get_by_text c.args.names.now in
     ended (blocks_after s results find) blocks_syntax (graph_of c.each.checked.items) c.each.rest.now (blocks_after s results find [] (blocks_syntax c.args.blocks.now)) c.in_default.ensures.cases blocks_none c.each.invariant

@@ -1,7 +1,7 @@
 use Rattle.std.proofs.Common.{◌≡◌, ◌++◌, drop, map, ap, ◌∙◌, arith}
 use Rattle.flow_text.specs.Resolving.{operand}
-use Rattle.flow_text.specs.Working.Wanting.{wanted_stack}
-use Rattle.flow_text.proofs.WantedStacks.{operand_before}
+use Rattle.flow_text.specs.Working.Wanting.{expected_stack}
+use Rattle.flow_text.proofs.ExpectedStacks.{operand_before}
 use Rattle.flow_text.proofs.resolve.push_operands.Goals as goal
 
 pub sorts-preserved : goal.sorts-preserved
@@ -10,4 +10,4 @@ sorts-preserved c = (omega arith, operand_before c.args.sorts.now c.sorts.left _
 pub returns : goal.returns
 returns c =
     let none : c.sorts.left ≡ 0 = omega arith in
-    c.sorts.invariant.1 ∙ ap (λ n. map operand (drop n c.args.sorts.now) ++ wanted_stack c.args.stack.now.items) none
+    c.sorts.invariant.1 ∙ ap (λ n. map operand (drop n c.args.sorts.now) ++ expected_stack c.args.stack.now.items) none

@@ -16,7 +16,7 @@ use Rattle.flow_text.proofs.resolve_cond.resolve_nodes.Goals as goal
 
 pub nodes-preserved : goal.nodes-preserved
 nodes-preserved c =
-    let s = sight_parts c.args.sight.now in
+    let s = sight_parts c.args.visible_names.now in
     let made = c.nodes.nodes.items in
     let rest = c.nodes.rest.now in
     let before = c.in-Some.field-0-1.now in
@@ -28,7 +28,7 @@ nodes-preserved c =
 
 pub returns-in_err-node : goal.returns-in_err-node
 returns-in_err-node c =
-    let s = sight_parts c.args.sight.now in
+    let s = sight_parts c.args.visible_names.now in
     let made = map cond_part c.nodes.nodes.items in
     let before = c.in-Some.field-0-1.now in
     let fault = c.in_err-node.field-0.0 in
@@ -40,5 +40,5 @@ returns-in_err-node c =
 
 pub returns : goal.returns
 returns c =
-    let s = sight_parts c.args.sight.now in
+    let s = sight_parts c.args.visible_names.now in
     ended (parts_after s) cond_syntax (map cond_part c.nodes.nodes.items) c.nodes.rest.now (parts_after s [] (cond_syntax c.args.cond.now)) c.in_default.ensures.cases cond_none c.nodes.invariant

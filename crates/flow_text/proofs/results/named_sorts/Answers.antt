@@ -14,7 +14,7 @@ use Rattle.flow_text.proofs.results.named_sorts.Goals as goal
 
 pub exprs-preserved : goal.exprs-preserved
 exprs-preserved c =
-    let s = sight_parts c.args.sight.now in
+    let s = sight_parts c.args.visible_names.now in
     let made = c.exprs.known.items in
     let rest = c.exprs.rest.now in
     let before = c.in-Some.field-0-1.now in
@@ -26,6 +26,6 @@ exprs-preserved c =
 
 pub returns : goal.returns
 returns c =
-    let s = sight_parts c.args.sight.now in
+    let s = sight_parts c.args.visible_names.now in
     sym (append-nil c.exprs.known.items)
     ∙ sym (ended (λ (l : List (Option Sort)) (es : List ExprSyntax). l ++ named_sorts s es) exprs_syntax c.exprs.known.items c.exprs.rest.now (named_sorts s (exprs_syntax c.args.exprs.now)) c.in_default.ensures.cases exprs_none c.exprs.invariant)

@@ -6,7 +6,7 @@ use Rattle.flow_text.proofs.results.named_sorts.Given as goal
 
 -- the sorts so far, and those of the expressions that are left
 abbrev pub invariant-exprs : goal.invariant-exprs
-invariant-exprs l = l.known.items ++ named_sorts (sight_parts l.sight) (exprs_syntax l.rest) ≡ named_sorts (sight_parts l.sight) (exprs_syntax l.fn.exprs)
+invariant-exprs l = l.known.items ++ named_sorts (sight_parts l.visible_names) (exprs_syntax l.rest) ≡ named_sorts (sight_parts l.visible_names) (exprs_syntax l.fn.exprs)
 
 abbrev pub decreases-exprs : goal.decreases-exprs
 decreases-exprs l = length l.rest

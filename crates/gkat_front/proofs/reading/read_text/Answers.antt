@@ -6,29 +6,29 @@ use Rattle.text_parser.specs.TokenParts.{parts_of_tokens}
 use Rattle.text_parser.specs.Lexemes.{lexemes}
 use Rattle.text_parser.specs.Parsed.{Makes}
 use Rattle.problem_file.specs.Tokens.{AreTokens}
-use Rattle.problem_file.proofs.TextAnswers.{bad_told, fault_told}
+use Rattle.problem_file.proofs.TextAnswers.{bad_given, fault_given}
 use Rattle.problem_file.proofs.ReadTexts.{lexed_tokens}
 use Rattle.gkat_front.specs.FileViews.{file_parts}
 use Rattle.gkat_front.specs.Making.{tested}
 use Rattle.gkat_front.specs.Reads.{FirstFault, Answers}
-use Rattle.gkat_front.proofs.ReadTexts.{read_told}
+use Rattle.gkat_front.proofs.ReadTexts.{read_given}
 use Rattle.gkat_front.proofs.reading.read_text.Goals as goal
 
 pub returns-in_err-toks : goal.returns-in_err-toks
 returns-in_err-toks c =
     let answer = err_from_is_err_and c.from_residual.result c.from_residual.ensures.1 in
-    subst (Answers c.args.text.now) (sym (answer.1 ∙ ap (λ (f : TextFault). Err f) answer.2)) (bad_told tested c.args.text.now c.in_err-toks.field-0.0 c.in_err-toks.ensures.bad)
+    subst (Answers c.args.text.now) (sym (answer.1 ∙ ap (λ (f : TextFault). Err f) answer.2)) (bad_given tested c.args.text.now c.in_err-toks.field-0.0 c.in_err-toks.ensures.bad)
 
 pub test-requires : goal.test-requires
 test-requires c = record { tokens = subst AreTokens (sym c.deref.ensures.value) (lexed_tokens c.args.text.now c.in_ok-toks.toks.items c.in_ok-toks.ensures.read) }
 
 pub returns-in-Ok : goal.returns-in-Ok
 returns-in-Ok c =
-    read_told c.args.text.now (parts_of_tokens c.in_ok-toks.toks.items) (file_parts c.in-Ok.file) c.in_ok-toks.ensures.read
+    read_given c.args.text.now (parts_of_tokens c.in_ok-toks.toks.items) (file_parts c.in-Ok.file) c.in_ok-toks.ensures.read
     (subst (λ ts. tested (lexemes ts) ≡ Ok (file_parts c.in-Ok.file)) c.deref.ensures.value c.in-Ok.ensures)
 
 pub returns : goal.returns
 returns c =
     subst (λ (e : TextFault). (e ≡ NoMemory) ⊎ FirstFault c.args.text.now e) (sym c.fault_in_text.ensures)
-    (fault_told tested c.args.text.now file_parts (parts_of_tokens c.in_ok-toks.toks.items) c.in-Err.fault c.in_ok-toks.ensures.read
+    (fault_given tested c.args.text.now file_parts (parts_of_tokens c.in_ok-toks.toks.items) c.in-Err.fault c.in_ok-toks.ensures.read
     (subst (λ ts. Makes (Unit {0}) file_parts (Err c.in-Err.fault) (tested (lexemes ts))) c.deref.ensures.value c.in-Err.ensures))

@@ -1,8 +1,8 @@
 use Rattle.std.proofs.Common.{◌≡◌, ◌+◌, length, drop, Ok, Err, refl, sym, subst, arith}
 use Rattle.text_parser.specs.declared.terminal.Terminal.TheVariants.{RoundOpen, RoundClose}
 use Rattle.text_parser.specs.Lexemes.{lexemes, is_terminal}
-use Rattle.text_parser.specs.Parsed.{Reads, wants, place_of}
-use Rattle.text_parser.proofs.NamedFaults.{wants_named}
+use Rattle.text_parser.specs.Parsed.{Reads, expects, place_of}
+use Rattle.text_parser.proofs.NamedFaults.{expects_named}
 use Rattle.text_parser.proofs.PartFaults.{end_made, end_goes, memory_lacks}
 use Rattle.text_parser.proofs.TokenPlaces.{next_drop}
 use Rattle.while_lang.specs.Blocks.{enter}
@@ -16,15 +16,15 @@ round-returns-in_err-next-clause-value g t c =
     let a = g.R.GkatReading.actions c.args.reading.now in
     let all = lexemes c.args.toks.now in
     let ts = drop c.args.from all in
-    check_fails g.R.GkatReading.memory g.R.GkatReading.expr all (round_by (parse_gkat a) c.args.depth ts) c.in_err-next.field-0.0 c.from_residual.result c.from_residual.ensures.1 (wants (is_terminal RoundOpen) ts) (wants_named (is_terminal RoundOpen) ts) c.in_err-next.ensures.value (rw (c.in_err-next.ensures.value) refl)
+    check_fails g.R.GkatReading.memory g.R.GkatReading.expr all (round_by (parse_gkat a) c.args.depth ts) c.in_err-next.field-0.0 c.from_residual.result c.from_residual.ensures.1 (expects (is_terminal RoundOpen) ts) (expects_named (is_terminal RoundOpen) ts) c.in_err-next.ensures.value (rw (c.in_err-next.ensures.value) refl)
 
 pub round-returns-in_err-inside-clause-value : goal.round-returns-in_err-inside-clause-value
 round-returns-in_err-inside-clause-value g t c =
     let a = g.R.GkatReading.actions c.args.reading.now in
     let all = lexemes c.args.toks.now in
     let ts = drop c.args.from all in
-    let told = entered c.args.depth (place_of ts) c.place_at.result (Err c.in_err-inside.field-0.0) c.place_at.ensures c.in_err-inside.ensures in
-    check_fails g.R.GkatReading.memory g.R.GkatReading.expr all (round_by (parse_gkat a) c.args.depth ts) c.in_err-inside.field-0.0 c.from_residual-in_err-inside.result c.from_residual-in_err-inside.ensures.1 (enter c.args.depth (place_of ts)) (enter_named c.args.depth (place_of ts)) told (rw (c.in_ok-next.ensures.value, told) refl)
+    let given = entered c.args.depth (place_of ts) c.place_at.result (Err c.in_err-inside.field-0.0) c.place_at.ensures c.in_err-inside.ensures in
+    check_fails g.R.GkatReading.memory g.R.GkatReading.expr all (round_by (parse_gkat a) c.args.depth ts) c.in_err-inside.field-0.0 c.from_residual-in_err-inside.result c.from_residual-in_err-inside.ensures.1 (enter c.args.depth (place_of ts)) (enter_named c.args.depth (place_of ts)) given (rw (c.in_ok-next.ensures.value, given) refl)
 
 pub round-returns-in_err-expr-clause-value : goal.round-returns-in_err-expr-clause-value
 round-returns-in_err-expr-clause-value g t c =
@@ -41,7 +41,7 @@ round-returns-in_err-end-clause-value g t c =
     let ts = drop c.args.from all in
     let inside = entered c.args.depth (place_of ts) c.place_at.result (Ok c.in_ok-inside.inside) c.place_at.ensures c.in_ok-inside.ensures in
     let us = drop c.in_ok-expr.end all in
-    check_fails g.R.GkatReading.memory g.R.GkatReading.expr all (round_by (parse_gkat a) c.args.depth ts) c.in_err-end.field-0.0 c.from_residual-in_err-end.result c.from_residual-in_err-end.ensures.1 (wants (is_terminal RoundClose) us) (wants_named (is_terminal RoundClose) us) c.in_err-end.ensures.value (rw (c.in_ok-next.ensures.value, inside, c.in_ok-expr.ensures.value, c.in_err-end.ensures.value) refl)
+    check_fails g.R.GkatReading.memory g.R.GkatReading.expr all (round_by (parse_gkat a) c.args.depth ts) c.in_err-end.field-0.0 c.from_residual-in_err-end.result c.from_residual-in_err-end.ensures.1 (expects (is_terminal RoundClose) us) (expects_named (is_terminal RoundClose) us) c.in_err-end.ensures.value (rw (c.in_ok-next.ensures.value, inside, c.in_ok-expr.ensures.value, c.in_err-end.ensures.value) refl)
 
 pub round-returns-clause-value : goal.round-returns-clause-value
 round-returns-clause-value g t c =

@@ -6,7 +6,7 @@ use Rattle.kat_c.proofs.Replies.{given_reply}
 use Rattle.kat_c.proofs.checking.kat_check.Goals as goal
 
 pub returns-clause-headline : goal.returns-clause-headline
-returns-clause-headline c q asks = given_reply (CheckHeadline c.args.evidence.now q) c.check_bytes.result _ (c.check_bytes.ensures.headline q asks) c.give.ensures
+returns-clause-headline c q poses = given_reply (CheckHeadline c.args.evidence.now q) c.check_bytes.result _ (c.check_bytes.ensures.headline q poses) c.give.ensures
 
 pub returns-clause-programs : goal.returns-clause-programs
 returns-clause-programs c w v p q printable same = given_reply (λ status output. status ≡ 0 → AlwaysEndAlike w v p q) c.check_bytes.result _ (c.check_bytes.ensures.programs w v p q printable same) c.give.ensures

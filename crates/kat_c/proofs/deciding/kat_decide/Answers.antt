@@ -15,7 +15,7 @@ pub returns-clause-triples : goal.returns-clause-triples
 returns-clause-triples c w v b p d printable same = given_reply (StoreHeadline (triple_abstraction w v b p d) (AlwaysMeets w v b p d)) c.decide_bytes.result _ (c.decide_bytes.ensures.triples w v b p d printable same) c.give.ensures
 
 pub returns-clause-headline : goal.returns-clause-headline
-returns-clause-headline c q asks = given_reply (Headline q) c.decide_bytes.result _ (c.decide_bytes.ensures.headline q asks) c.give.ensures
+returns-clause-headline c q poses = given_reply (Headline q) c.decide_bytes.result _ (c.decide_bytes.ensures.headline q poses) c.give.ensures
 
 pub returns-clause-stores : goal.returns-clause-stores
 returns-clause-stores c f reads concrete = given_reply (λ status output. status ≡ 0 → Agrees f) c.decide_bytes.result _ (c.decide_bytes.ensures.stores f reads concrete) c.give.ensures

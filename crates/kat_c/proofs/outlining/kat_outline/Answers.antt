@@ -5,7 +5,7 @@ use Rattle.kat_c.proofs.Replies.{given_reply}
 use Rattle.kat_c.proofs.outlining.kat_outline.Goals as goal
 
 pub returns-clause-headline : goal.returns-clause-headline
-returns-clause-headline c q asks = given_reply (OutlineHeadline asks.file q) c.outline_bytes.result _ (c.outline_bytes.ensures.headline q asks) c.give.ensures
+returns-clause-headline c q poses = given_reply (OutlineHeadline poses.file q) c.outline_bytes.result _ (c.outline_bytes.ensures.headline q poses) c.give.ensures
 
 pub returns-clause-stores : goal.returns-clause-stores
 returns-clause-stores c f reads concrete = given_reply (λ status output. status ≡ 0 → Agrees f) c.outline_bytes.result _ (c.outline_bytes.ensures.stores f reads concrete) c.give.ensures

@@ -15,7 +15,7 @@ none_from n e = grind (arith, nat_tests)
 
 pub returns-in_default : goal.returns-in_default
 returns-in_default g c =
-    g.met.T.LineDraft.is_told c.truncated.result _
+    g.met.T.LineDraft.is_given c.truncated.result _
     (sym c.loop-line.invariant.same ∙ scan_none g.T.LineDraft.format (g.T.LineDraft.parts c.loop-line.draft) c.loop-line.number c.loop-line.rest.now c.in_default.ensures.none ∙ ap (λ f. Err f) (sym c.truncated.ensures))
 
 pub returns-then-is_empty : goal.returns-then-is_empty
@@ -30,7 +30,7 @@ pub returns-then-eq : goal.returns-then-eq
 returns-then-eq g c =
     let is_end : bytes_eq c.in-Some.line.now (codes "end") ≡ true = ap (bytes_eq c.in-Some.line.now) (sym c.as_slice.ensures) ∙ sym c.eq.ensures ∙ c.if-eq.true in
     let some = some_from (length c.in-Some.after.now) c.if-is_empty.ensures in
-    g.met.T.LineDraft.is_told c.trailing.result _
+    g.met.T.LineDraft.is_given c.trailing.result _
     (sym c.loop-line.invariant.same
     ∙ scan_trailing g.T.LineDraft.format (g.T.LineDraft.parts c.loop-line.draft) c.loop-line.number c.loop-line.rest.now c.in-Some.line.now c.in-Some.after.now c.in-Some.ensures.line.parts is_end some
     ∙ ap (λ k. Err k) (sym c.trailing.ensures))

@@ -9,8 +9,8 @@ keeps-requires-clause-cond c = rw c.in_ok-opposite.ensures c.requires.cond
 
 pub returns : goal.returns
 returns c =
-    let turned = c.in_ok-opposite.ensures in
+    let converse = c.in_ok-opposite.ensures in
     let cond = negation (cond_tree c.args.cond.now) in
     IfOk-weaker c.keeps.result _ _
-    (λ b d. valid_alike c.args.file.now (cond_tree c.in_ok-opposite.opposite) cond c.args.body.now c.args.body.now (cond_tree c.in_ok-opposite.opposite) cond b turned refl turned d)
+    (λ b d. valid_alike c.args.file.now (cond_tree c.in_ok-opposite.opposite) cond c.args.body.now c.args.body.now (cond_tree c.in_ok-opposite.opposite) cond b converse refl converse d)
     c.keeps.ensures

@@ -6,7 +6,7 @@ use Rattle.outline_rules.specs.Tasks.{task_parts}
 use Rattle.outline_rules.specs.Reasons.{IsOutOfRange}
 use Rattle.outline_rules.specs.Working.Checks.{condition_of}
 use Rattle.outline_rules.proofs.TaskRanges.{task_in_range, checks_in_range}
-use Rattle.outline_rules.proofs.CheckedNotes.{tests_known, places_counted, all_checked, all_conditions, least_told, none_told}
+use Rattle.outline_rules.proofs.CheckedNotes.{tests_known, places_counted, all_checked, all_conditions, least_given, none_given}
 use Rattle.outline_rules.proofs.checking.check_notes.Goals as goal
 
 pub least_unmet-requires-clause-in_range : goal.least_unmet-requires-clause-in_range
@@ -42,7 +42,7 @@ returns-in-None c =
     record {
       tests = tests_known c.tests.result q.tests c.nodes.result.now c.args.notes.now.nodes c.tests.ensures.value c.nodes.ensures.value c.in_default.ensures.none;
       count = ap length (sym c.notes.ensures.value) ∙ c.if-notes-count.false ∙ places_counted t.flow tree c.in_ok-last.last c.in_ok-count.count same c.in_ok-last.ensures.place c.in_ok-count.ensures;
-      met = none_told q (note_holds c.args.notes.now) _ _ c.in_ok-least_unmet.field-0 all c.in_ok-least_unmet.ensures c.in-None.is;
+      met = none_given q (note_holds c.args.notes.now) _ _ c.in_ok-least_unmet.field-0 all c.in_ok-least_unmet.ensures c.in-None.is;
     }
 
 pub returns : goal.returns
@@ -55,5 +55,5 @@ returns c =
     let all = all_conditions t tree c.in_ok-last.last (map condition_of c.deref-2.result.now) same c.in_ok-last.ensures.place checks in (
       tests_known c.tests.result q.tests c.nodes.result.now c.args.notes.now.nodes c.tests.ensures.value c.nodes.ensures.value c.in_default.ensures.none,
       ap length (sym c.notes.ensures.value) ∙ c.if-notes-count.false ∙ places_counted t.flow tree c.in_ok-last.last c.in_ok-count.count same c.in_ok-last.ensures.place c.in_ok-count.ensures,
-      least_told q (note_holds c.args.notes.now) _ _ c.in_ok-least_unmet.field-0 all c.in_ok-least_unmet.ensures c.in-Some-2.target c.in-Some-2.is,
+      least_given q (note_holds c.args.notes.now) _ _ c.in_ok-least_unmet.field-0 all c.in_ok-least_unmet.ensures c.in-Some-2.target c.in-Some-2.is,
     )

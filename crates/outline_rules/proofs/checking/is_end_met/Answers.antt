@@ -6,7 +6,7 @@ use Rattle.outline_rules.proofs.StepSets.{IsStepId-kept, IsStepDiagram-kept, Kee
 use Rattle.outline_rules.specs.NoteLists.{note_holds}
 use Rattle.goal_forms.specs.HypothesisForms.{allows}
 use Rattle.outline_rules.proofs.NodeSets.{sets_kept}
-use Rattle.outline_rules.proofs.Entailments.{entails_implied, implied_tests, ends_implied, told_same, then_same}
+use Rattle.outline_rules.proofs.Entailments.{entails_implied, implied_tests, ends_implied, given_same, then_same}
 use Rattle.outline_rules.proofs.checking.is_end_met.Goals as goal
 
 pub implies-requires-clause-from : goal.implies-requires-clause-from
@@ -25,7 +25,7 @@ returns-clause-met c =
     let kept = c.in_ok-post.ensures.kept in
     let last = c.note_set-last.ensures Before (sets_kept c.args.diagrams.now d Before kept _ _ c.requires.before.nodes) in
     let allowed = IsStepDiagram-kept c.args.diagrams.now d kept _ _ c.requires.before.allowed in
-    told_same c.implies.result c.implies.ensures.implies
+    given_same c.implies.result c.implies.ensures.implies
     (then_same
     (entails_implied d c.args.before.now.allowed c.note_set-last.result c.constant-always.result c.in_ok-post.post
     (λ (x y : Atom). allows q.hyps x) (λ (x y : Atom). note_holds c.args.notes.now c.args.last x) (λ (x y : Atom). true) (λ (x y : Atom). truth (test_tree c.args.post.now) x) allowed last c.constant-always.ensures.function c.in_ok-post.ensures.function)

@@ -6,7 +6,7 @@ use Rattle.outline_rules.specs.NoteLists.{note_holds}
 use Rattle.goal_forms.specs.HypothesisForms.{allows}
 use Rattle.outline_rules.specs.Working.Checks.{guard_tree}
 use Rattle.outline_rules.proofs.NodeSets.{sets_kept}
-use Rattle.outline_rules.proofs.Entailments.{entails_implied, implied_tests, implies_implied, leads_met, told_same, then_same}
+use Rattle.outline_rules.proofs.Entailments.{entails_implied, implied_tests, implies_implied, leads_met, given_same, then_same}
 use Rattle.outline_rules.proofs.checking.is_met.Goals as goal
 
 pub implies-requires-clause-from : goal.implies-requires-clause-from
@@ -50,7 +50,7 @@ returns-in_ok-guard-in-Implies-clause-met c =
     let allowed = IsStepDiagram-kept c.args.diagrams.now d kept _ _ c.requires.before.allowed in
     let note = note_holds c.args.notes.now in
     rw c.in-Implies.is
-    (told_same c.implies.result c.implies.ensures.implies
+    (given_same c.implies.result c.implies.ensures.implies
     (then_same
     (entails_implied d c.args.before.now.allowed c.note_set-from.result c.in_ok-guard-in-Implies.guard c.note_set-to.result
     (λ (x y : Atom). allows q.hyps x) (λ (x y : Atom). note c.in-Implies.from x) (λ (x y : Atom). truth (guard_tree c.in-Implies.guard) x) (λ (x y : Atom). note c.in-Implies.to x)
@@ -68,6 +68,6 @@ returns-in_ok-ends-in-Leads-clause-met c =
     let ends = c.in_ok-ends-in-Leads.ensures.ends (allows q.hyps) (note c.in-Leads.from) c.requires.before.allowed from in
     let to = c.note_set-to-in-Leads.ensures Before (sets_kept old d Before kept _ _ c.requires.before.nodes) in
     rw c.in-Leads.is
-    (told_same c.implies-in-Leads.result c.implies-in-Leads.ensures.implies
+    (given_same c.implies-in-Leads.result c.implies-in-Leads.ensures.implies
     (leads_met q note c.requires.simple c.in-Leads.from c.in-Leads.action c.in-Leads.to d c.args.before.now.allowed c.in_ok-ends-in-Leads.ends c.constant-always.result c.note_set-to-in-Leads.result
     (kept.tests ∙ c.requires.tests) (IsStepDiagram-kept old d kept _ _ c.requires.before.allowed) ends (IsStepDiagram-kept old d kept _ _ c.constant-always.ensures.function) to))

@@ -6,7 +6,7 @@ use Rattle.outline_rules.proofs.StepSets.{IsStepId-kept, IsStepDiagram-kept, Kee
 use Rattle.outline_rules.specs.NoteLists.{note_holds}
 use Rattle.goal_forms.specs.HypothesisForms.{allows}
 use Rattle.outline_rules.proofs.NodeSets.{sets_kept}
-use Rattle.outline_rules.proofs.Entailments.{entails_implied, implied_tests, starts_implied, told_same, then_same}
+use Rattle.outline_rules.proofs.Entailments.{entails_implied, implied_tests, starts_implied, given_same, then_same}
 use Rattle.outline_rules.proofs.checking.is_start_met.Goals as goal
 
 pub implies-requires-clause-to : goal.implies-requires-clause-to
@@ -25,7 +25,7 @@ returns-clause-met c =
     let kept = c.in_ok-pre.ensures.kept in
     let first = c.note_set-first.ensures Before (sets_kept c.args.diagrams.now d Before kept _ _ c.requires.before.nodes) in
     let allowed = IsStepDiagram-kept c.args.diagrams.now d kept _ _ c.requires.before.allowed in
-    told_same c.implies.result c.implies.ensures.implies
+    given_same c.implies.result c.implies.ensures.implies
     (then_same
     (entails_implied d c.args.before.now.allowed c.in_ok-pre.pre c.constant-always.result c.note_set-first.result
     (λ (x y : Atom). allows q.hyps x) (λ (x y : Atom). truth (test_tree c.args.pre.now) x) (λ (x y : Atom). true) (λ (x y : Atom). note_holds c.args.notes.now 0 x) allowed c.in_ok-pre.ensures.function c.constant-always.ensures.function first)

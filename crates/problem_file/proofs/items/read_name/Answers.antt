@@ -12,8 +12,8 @@ returns-in_err-name-clause-value g c =
     let s = g.R.ItemReading.state c.args.reading.now in
     let all = lexemes c.args.toks.now in
     let ts = drop c.args.from all in
-    let told = named_fault (name_at ts) c.in_err-name.field-0.0 (name_at_named ts) c.in_err-name.ensures.fault in
-    fault_ends g.R.ItemReading.memory all s (at_name (a.declare c.args.what s) ts) c.in_err-name.field-0.0 c.from_residual.result c.from_residual.ensures.1 told.0 (rw (told.1) refl)
+    let given = named_fault (name_at ts) c.in_err-name.field-0.0 (name_at_named ts) c.in_err-name.ensures.fault in
+    fault_ends g.R.ItemReading.memory all s (at_name (a.declare c.args.what s) ts) c.in_err-name.field-0.0 c.from_residual.result c.from_residual.ensures.1 given.0 (rw (given.1) refl)
 
 pub returns-clause-value : goal.returns-clause-value
 returns-clause-value g c =

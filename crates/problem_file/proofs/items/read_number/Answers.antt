@@ -12,8 +12,8 @@ returns-in_err-number-clause-value g c =
     let s = g.R.ItemReading.state c.args.reading.now in
     let all = lexemes c.args.toks.now in
     let ts = drop c.args.from all in
-    let told = named_fault (number_at ts) c.in_err-number.field-0.0 (number_at_named ts) (sym c.in_err-number.ensures.value) in
-    fault_ends g.R.ItemReading.memory all s (at_number (a.set c.args.what s) ts) c.in_err-number.field-0.0 c.from_residual.result c.from_residual.ensures.1 told.0 (rw (told.1) refl)
+    let given = named_fault (number_at ts) c.in_err-number.field-0.0 (number_at_named ts) (sym c.in_err-number.ensures.value) in
+    fault_ends g.R.ItemReading.memory all s (at_number (a.set c.args.what s) ts) c.in_err-number.field-0.0 c.from_residual.result c.from_residual.ensures.1 given.0 (rw (given.1) refl)
 
 pub returns-clause-value : goal.returns-clause-value
 returns-clause-value g c =

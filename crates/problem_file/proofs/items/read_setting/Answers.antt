@@ -12,8 +12,8 @@ returns-in_err-begin_setting-clause-value g c =
     let s = g.R.ItemReading.state c.args.reading.now in
     let all = lexemes c.args.toks.now in
     let ts = drop c.args.from all in
-    let told = check_fault (a.begin_setting c.args.what s c.args.at) c.in_err-begin_setting.field-0.0 c.in_err-begin_setting.ensures in
-    fault_ends g.R.ItemReading.memory all s (setting_by a c.args.what s c.args.at ts) c.in_err-begin_setting.field-0.0 c.from_residual.result c.from_residual.ensures.1 told.0 (rw (told.1) refl)
+    let given = check_fault (a.begin_setting c.args.what s c.args.at) c.in_err-begin_setting.field-0.0 c.in_err-begin_setting.ensures in
+    fault_ends g.R.ItemReading.memory all s (setting_by a c.args.what s c.args.at ts) c.in_err-begin_setting.field-0.0 c.from_residual.result c.from_residual.ensures.1 given.0 (rw (given.1) refl)
 
 pub returns-in_err-end-clause-value : goal.returns-in_err-end-clause-value
 returns-in_err-end-clause-value g c =

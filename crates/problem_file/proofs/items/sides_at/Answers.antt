@@ -2,7 +2,7 @@ use Rattle.std.proofs.Common.{◌≡◌, drop, Ok, Err, refl, arith}
 use Rattle.text_parser.specs.declared.terminal.Terminal.TheVariants.{Separator}
 use Rattle.text_parser.specs.declared.terminal.Separator.TheVariants.{Comma}
 use Rattle.text_parser.specs.Lexemes.{lexemes, is_terminal}
-use Rattle.text_parser.specs.Parsed.{then_wants}
+use Rattle.text_parser.specs.Parsed.{then_expects}
 use Rattle.while_lang.proofs.BlockFaults.{part_fails}
 use Rattle.problem_file.specs.Items.{side_by, sides_by}
 use Rattle.problem_file.specs.Working.Walks.{measured_of, sides_of}
@@ -18,7 +18,7 @@ returns-in_err-left-clause-value g c =
     let e = c.in_err-left.field-0.0 in
     let p = is_terminal (Separator Comma) in
     let m = side_by a s ts in
-    part_fails ⊥ (sides_of all) all (sides_by a s ts) e c.from_residual.result c.from_residual.ensures.1 (measured_of all) (then_wants p m)
+    part_fails ⊥ (sides_of all) all (sides_by a s ts) e c.from_residual.result c.from_residual.ensures.1 (measured_of all) (then_expects p m)
     (followed_reads (measured_of all) all p c.side_at-left.result (Err e) m c.side_at-left.ensures.value c.in_err-left.ensures.value) (λ h. rw (h) refl)
 
 pub returns-in_err-right-clause-value : goal.returns-in_err-right-clause-value
@@ -31,7 +31,7 @@ returns-in_err-right-clause-value g c =
     let end = c.in_ok-left.end in
     let p = is_terminal (Separator Comma) in
     let m = side_by a s ts in
-    let first : then_wants p m ≡ Ok (measured_of all c.in_ok-left.left, drop end all) = followed_reads (measured_of all) all p c.side_at-left.result (Ok (c.in_ok-left.left, end)) m c.side_at-left.ensures.value c.in_ok-left.ensures.value in
+    let first : then_expects p m ≡ Ok (measured_of all c.in_ok-left.left, drop end all) = followed_reads (measured_of all) all p c.side_at-left.result (Ok (c.in_ok-left.left, end)) m c.side_at-left.ensures.value c.in_ok-left.ensures.value in
     part_fails ⊥ (sides_of all) all (sides_by a s ts) e c.from_residual-in_err-right.result c.from_residual-in_err-right.ensures.1 (measured_of all) (side_by a s (drop end all)) c.in_err-right.ensures.value (λ h. rw (first, h) refl)
 
 pub returns-clause-value : goal.returns-clause-value
@@ -43,7 +43,7 @@ returns-clause-value g c =
     let end = c.in_ok-left.end in
     let p = is_terminal (Separator Comma) in
     let m = side_by a s ts in
-    let first : then_wants p m ≡ Ok (measured_of all c.in_ok-left.left, drop end all) = followed_reads (measured_of all) all p c.side_at-left.result (Ok (c.in_ok-left.left, end)) m c.side_at-left.ensures.value c.in_ok-left.ensures.value in
+    let first : then_expects p m ≡ Ok (measured_of all c.in_ok-left.left, drop end all) = followed_reads (measured_of all) all p c.side_at-left.result (Ok (c.in_ok-left.left, end)) m c.side_at-left.ensures.value c.in_ok-left.ensures.value in
     rw (first, c.in_ok-right.ensures.value) refl
 
 pub returns-clause-goes : goal.returns-clause-goes

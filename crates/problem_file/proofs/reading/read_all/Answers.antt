@@ -6,4 +6,4 @@ pub returns-clause-answers : goal.returns-clause-answers
 returns-clause-answers c = all_answered c.args.bytes.now c.read_files.result c.read_files.ensures
 
 pub returns-clause-only : goal.returns-clause-only
-returns-clause-only c f more reads = only_memory Batch c.args.bytes.now reads.says c.read_files.result c.read_files.ensures
+returns-clause-only c f more reads = only_memory Batch c.args.bytes.now reads.denotes c.read_files.result c.read_files.ensures

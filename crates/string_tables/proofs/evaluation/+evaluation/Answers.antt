@@ -3,9 +3,9 @@ use Rattle.std.proofs.lemmas.List.{get_or_append_left, get_or_default}
 use Rattle.kat_model.specs.Trees.{kat_tree, term_height, zero, one, act, sum, product, star, test, test_tree}
 use Rattle.kat_model.specs.Relations.{Table}
 use Rattle.kat_model.specs.Working.Decided.{computes_relation}
-use Rattle.string_tables.specs.Working.Matrices.{Square, Tells, level}
+use Rattle.string_tables.specs.Working.Matrices.{Square, Represents, level}
 use Rattle.string_tables.proofs.Rooms.{term_height_positive, same_room, room_first, room_rest, room_at_first}
-use Rattle.string_tables.proofs.Told.{union_told, product_told, closure_told}
+use Rattle.string_tables.proofs.Reported.{union_given, product_given, closure_given}
 use Rattle.string_tables.proofs.evaluation.+evaluation.Goals as goal
 
 pub evaluate-put_test-requires-clause-tests : goal.evaluate-put_test-requires-clause-tests
@@ -98,8 +98,8 @@ evaluate-returns-in-Act-clause-sizes t c = refl
 pub evaluate-returns-in-Act-clause-width : goal.evaluate-returns-in-Act-clause-width
 evaluate-returns-in-Act-clause-width t c = refl
 
-pub evaluate-returns-in-Sum-clause-told : goal.evaluate-returns-in-Sum-clause-told
-evaluate-returns-in-Sum-clause-told t c =
+pub evaluate-returns-in-Sum-clause-given : goal.evaluate-returns-in-Sum-clause-given
+evaluate-returns-in-Sum-clause-given t c =
     let tree : kat_tree c.args.term.now ≡ sum (kat_tree c.deref.result.now) (kat_tree c.deref-in-Sum.result.now) = rw (c.in-Sum.is, c.deref.ensures, c.deref-in-Sum.ensures) refl in
     let height = ap term_height tree in
     let n = c.args.table.now.states in
@@ -109,9 +109,9 @@ evaluate-returns-in-Sum-clause-told t c =
     let some : 0 < length below = omega (arith, term_height_positive (kat_tree c.deref.result.now)) in
     let second : Square = get_or below 0 c.index-below-0.result in
     let same : level below 0 ≡ second = get_or_default below 0 _ c.index-below-0.result some in
-    let second_told : Tells n second right = rw (← same) c.evaluate_both.ensures.second in
+    let second_given : Represents n second right = rw (← same) c.evaluate_both.ensures.second in
     let states = ap (λ (t : Table). t.states) c.table.view_is in
-    rw tree (union_told n left right c.evaluate_both.new.top second c.join.new.m c.evaluate_both.ensures.first second_told (rw states at c.join.ensures.told))
+    rw tree (union_given n left right c.evaluate_both.new.top second c.join.new.m c.evaluate_both.ensures.first second_given (rw states at c.join.ensures.given))
 
 pub evaluate-returns-in-Sum-clause-size : goal.evaluate-returns-in-Sum-clause-size
 evaluate-returns-in-Sum-clause-size t c = c.join.ensures.size ∙ c.evaluate_both.ensures.size
@@ -122,8 +122,8 @@ evaluate-returns-in-Sum-clause-sizes t c = c.evaluate_both.ensures.sizes
 pub evaluate-returns-in-Sum-clause-width : goal.evaluate-returns-in-Sum-clause-width
 evaluate-returns-in-Sum-clause-width t c = c.evaluate_both.ensures.width
 
-pub evaluate-returns-in-Seq-clause-told : goal.evaluate-returns-in-Seq-clause-told
-evaluate-returns-in-Seq-clause-told t c =
+pub evaluate-returns-in-Seq-clause-given : goal.evaluate-returns-in-Seq-clause-given
+evaluate-returns-in-Seq-clause-given t c =
     let tree : kat_tree c.args.term.now ≡ product (kat_tree c.deref-in-Seq.result.now) (kat_tree c.deref-in-Seq-2.result.now) = rw (c.in-Seq.is, c.deref-in-Seq.ensures, c.deref-in-Seq-2.ensures) refl in
     let height = ap term_height tree in
     let n = c.args.table.now.states in
@@ -133,9 +133,9 @@ evaluate-returns-in-Seq-clause-told t c =
     let some : 0 < length below = omega (arith, term_height_positive (kat_tree c.deref-in-Seq.result.now)) in
     let second : Square = get_or below 0 c.index-below-0-in-Seq.result in
     let same : level below 0 ≡ second = get_or_default below 0 _ c.index-below-0-in-Seq.result some in
-    let second_told : Tells n second right = rw (← same) c.evaluate_both-in-Seq.ensures.second in
+    let second_given : Represents n second right = rw (← same) c.evaluate_both-in-Seq.ensures.second in
     let states = ap (λ (t : Table). t.states) c.table.view_is in
-    rw tree (product_told n left right c.evaluate_both-in-Seq.new.top second c.multiply.new.m c.evaluate_both-in-Seq.ensures.first second_told (rw states at c.multiply.ensures.told))
+    rw tree (product_given n left right c.evaluate_both-in-Seq.new.top second c.multiply.new.m c.evaluate_both-in-Seq.ensures.first second_given (rw states at c.multiply.ensures.given))
 
 pub evaluate-returns-in-Seq-clause-size : goal.evaluate-returns-in-Seq-clause-size
 evaluate-returns-in-Seq-clause-size t c = c.multiply.ensures.size ∙ c.evaluate_both-in-Seq.ensures.size
@@ -146,11 +146,11 @@ evaluate-returns-in-Seq-clause-sizes t c = c.evaluate_both-in-Seq.ensures.sizes
 pub evaluate-returns-in-Seq-clause-width : goal.evaluate-returns-in-Seq-clause-width
 evaluate-returns-in-Seq-clause-width t c = c.multiply.ensures.width ∙ c.evaluate_both-in-Seq.ensures.width
 
-pub evaluate-returns-in-Star-clause-told : goal.evaluate-returns-in-Star-clause-told
-evaluate-returns-in-Star-clause-told t c =
+pub evaluate-returns-in-Star-clause-given : goal.evaluate-returns-in-Star-clause-given
+evaluate-returns-in-Star-clause-given t c =
     let tree : kat_tree c.args.term.now ≡ star (kat_tree c.deref-in-Star.result.now) = rw (c.in-Star.is, c.deref-in-Star.ensures) refl in
     let states = ap (λ (t : Table). t.states) c.table.view_is in
-    rw tree (closure_told c.args.table.now.states (computes_relation c.args.table.now (kat_tree c.deref-in-Star.result.now)) c.evaluate.new.top c.close.new.m c.evaluate.ensures.told (rw states at c.close.ensures.told))
+    rw tree (closure_given c.args.table.now.states (computes_relation c.args.table.now (kat_tree c.deref-in-Star.result.now)) c.evaluate.new.top c.close.new.m c.evaluate.ensures.given (rw states at c.close.ensures.given))
 
 pub evaluate-returns-in-Star-clause-size : goal.evaluate-returns-in-Star-clause-size
 evaluate-returns-in-Star-clause-size t c = c.close.ensures.size ∙ c.evaluate.ensures.size
@@ -181,7 +181,7 @@ evaluate_both-returns-clause-second t c =
     let room : 0 < length next = omega (arith, c.split_at_mut-next.ensures.front_len) in
     let longer : 0 < length (set next 0 top) = rw length-set room in
     let written : level (set next 0 top ++ c.evaluate-2.new.below) 0 ≡ top = get_or_append_left (set next 0 top) c.evaluate-2.new.below _ 0 longer ∙ get_or-set_same next 0 top _ room in
-    rw written c.evaluate-2.ensures.told
+    rw written c.evaluate-2.ensures.given
 
 pub evaluate-clear-requires : goal.evaluate-clear-requires
 evaluate-clear-requires t c = same_room _ _ _ _ (ap (λ (t : Table). t.states) c.table.view_is) refl c.requires.top
@@ -222,7 +222,7 @@ evaluate-close-requires-clause-spare t c =
     same_room _ _ _ _ (ap (λ (t : Table). t.states) c.table.view_is) c.evaluate.ensures.width c.requires.spare
 
 pub evaluate_both-returns-clause-first : goal.evaluate_both-returns-clause-first
-evaluate_both-returns-clause-first t c = c.evaluate.ensures.told
+evaluate_both-returns-clause-first t c = c.evaluate.ensures.given
 
 pub evaluate_both-returns-clause-size : goal.evaluate_both-returns-clause-size
 evaluate_both-returns-clause-size t c = c.evaluate.ensures.size
@@ -230,24 +230,24 @@ evaluate_both-returns-clause-size t c = c.evaluate.ensures.size
 pub evaluate_both-returns-clause-width : goal.evaluate_both-returns-clause-width
 evaluate_both-returns-clause-width t c = c.evaluate-2.ensures.width ∙ c.evaluate.ensures.width
 
-pub evaluate-returns-in-Zero-clause-told : goal.evaluate-returns-in-Zero-clause-told
-evaluate-returns-in-Zero-clause-told t c =
+pub evaluate-returns-in-Zero-clause-given : goal.evaluate-returns-in-Zero-clause-given
+evaluate-returns-in-Zero-clause-given t c =
     let tree : kat_tree c.args.term.now ≡ zero = rw c.in-Zero.is refl in
     let states = ap (λ (t : Table). t.states) c.table.view_is in
     rw tree (rw states at c.clear.ensures.cleared)
 
-pub evaluate-returns-in-One-clause-told : goal.evaluate-returns-in-One-clause-told
-evaluate-returns-in-One-clause-told t c =
+pub evaluate-returns-in-One-clause-given : goal.evaluate-returns-in-One-clause-given
+evaluate-returns-in-One-clause-given t c =
     let tree : kat_tree c.args.term.now ≡ one = rw c.in-One.is refl in
     let states = ap (λ (t : Table). t.states) c.table.view_is in
-    rw tree (rw states at c.put_identity.ensures.told)
+    rw tree (rw states at c.put_identity.ensures.given)
 
-pub evaluate-returns-in-Test-clause-told : goal.evaluate-returns-in-Test-clause-told
-evaluate-returns-in-Test-clause-told t c =
+pub evaluate-returns-in-Test-clause-given : goal.evaluate-returns-in-Test-clause-given
+evaluate-returns-in-Test-clause-given t c =
     let tree : kat_tree c.args.term.now ≡ test (test_tree c.in-Test.b) = rw c.in-Test.is refl in
-    rw tree c.put_test.ensures.told
+    rw tree c.put_test.ensures.given
 
-pub evaluate-returns-in-Act-clause-told : goal.evaluate-returns-in-Act-clause-told
-evaluate-returns-in-Act-clause-told t c =
+pub evaluate-returns-in-Act-clause-given : goal.evaluate-returns-in-Act-clause-given
+evaluate-returns-in-Act-clause-given t c =
     let tree : kat_tree c.args.term.now ≡ act c.in-Act.a = rw c.in-Act.is refl in
-    rw tree c.put_action.ensures.told
+    rw tree c.put_action.ensures.given

@@ -3,7 +3,7 @@ use Rattle.std.specs.Option.{MatchOption}
 use Rattle.kat_model.specs.Relations.{Keeps}
 use Rattle.string_tables.specs.Tables.{table_of}
 use Rattle.string_tables.specs.Working.Breaks.{BreaksFirst}
-use Rattle.string_tables.proofs.Asking.{hyps_read, left_read, right_read}
+use Rattle.string_tables.proofs.Querying.{hyps_read, left_read, right_read}
 use Rattle.string_tables.proofs.Ends.{broken_first}
 use Rattle.string_tables.proofs.finding.verdict.Goals as goal
 

@@ -65,8 +65,8 @@ returns-then-is_late-2 c =
     let ended : c.loop-k.k ≡ last = omega (arith, c.loop-k.invariant.within, c.loop-k-test.false) in
     let at = subst (λ n. AreMarksAt x e from to n marks) ended c.loop-k.invariant.at in
     let none = subst (λ n. (j : ℕ) → after ≤ j → j < n → ends_at x e from to j ≡ false) ended c.loop-k.invariant.none in
-    let told = c.reach-is_reached.ensures in
-    let ends = run_ends x e from to last marks _ c.reach-is_reached.result _ c.is_between-starts.ensures c.atom_at-final_atom.ensures told at in
+    let given = c.reach-is_reached.ensures in
+    let ends = run_ends x e from to last marks _ c.reach-is_reached.result _ c.is_between-starts.ensures c.atom_at-final_atom.ensures given at in
     let late = late_end x e from to after last c.reach-is_reached.result _ ends c.is_late-2.ensures c.if-is_late-2.true in
     record { late = late.0; within = omega (arith, ap length shown); is = late.1; first = none }
 
@@ -83,6 +83,6 @@ returns c =
     let ended : c.loop-k.k ≡ last = omega (arith, c.loop-k.invariant.within, c.loop-k-test.false) in
     let at = subst (λ n. AreMarksAt x e from to n marks) ended c.loop-k.invariant.at in
     let none = subst (λ n. (j : ℕ) → after ≤ j → j < n → ends_at x e from to j ≡ false) ended c.loop-k.invariant.none in
-    let told = c.reach-is_reached.ensures in
-    let ends = run_ends x e from to last marks _ c.reach-is_reached.result _ c.is_between-starts.ensures c.atom_at-final_atom.ensures told at in
+    let given = c.reach-is_reached.ensures in
+    let ends = run_ends x e from to last marks _ c.reach-is_reached.result _ c.is_between-starts.ensures c.atom_at-final_atom.ensures given at in
     no_end x e from to after last (ap length shown) none (no_late_end x e from to after last c.reach-is_reached.result _ ends c.is_late-2.ensures c.if-is_late-2.false)

@@ -3,10 +3,10 @@ use Rattle.kat_model.specs.Trees.{kat_tree, term_height, zero, one, act, test, s
 use Rattle.kat_model.specs.Steps.{truth}
 use Rattle.kat_model.specs.Relations.{Table, atom_at}
 use Rattle.kat_model.specs.Working.Decided.{computes_relation, warshall}
-use Rattle.string_tables.specs.Working.Matrices.{Tells, entry, IsImage}
+use Rattle.string_tables.specs.Working.Matrices.{Represents, entry, IsImage}
 use Rattle.string_tables.proofs.Rooms.{term_height_positive, same_room, body_fits, room_first, room_rest}
-use Rattle.string_tables.proofs.Told.{closure_told}
-use Rattle.string_tables.proofs.Images.{image_empty, image_identity, image_test, image_composition, image_union, image_told}
+use Rattle.string_tables.proofs.Reported.{closure_given}
+use Rattle.string_tables.proofs.Images.{image_empty, image_identity, image_test, image_composition, image_union, image_given}
 use Rattle.string_tables.proofs.following.+follow.Goals as goal
 
 pub keep_true-requires-clause-tests : goal.keep_true-requires-clause-tests
@@ -114,10 +114,10 @@ returns-in-Star-clause-image t c =
     let n = c.args.table.now.states in
     let body = computes_relation c.args.table.now (kat_tree c.deref-in-Star.result.now) in
     let states = ap (λ (t : Table). t.states) c.table.view_is in
-    let closed : Tells n c.close.new.m (warshall body n) = closure_told n body c.evaluate.new.top c.close.new.m c.evaluate.ensures.told (rw states at c.close.ensures.told) in
-    let product : IsImage n c.args.row.now (entry c.close.new.m) c.row_product.new.to = rw states at c.row_product.ensures.told in
+    let closed : Represents n c.close.new.m (warshall body n) = closure_given n body c.evaluate.new.top c.close.new.m c.evaluate.ensures.given (rw states at c.close.ensures.given) in
+    let product : IsImage n c.args.row.now (entry c.close.new.m) c.row_product.new.to = rw states at c.row_product.ensures.given in
     let copied = rw states at c.copy_from-in-Star.ensures.copied in
-    rw tree (image_told n c.args.row.now (warshall body n) c.close.new.m c.copy_from-in-Star.new.self closed (λ j lj. copied j lj ∙ product j lj))
+    rw tree (image_given n c.args.row.now (warshall body n) c.close.new.m c.copy_from-in-Star.new.self closed (λ j lj. copied j lj ∙ product j lj))
 
 pub returns-in-Zero-clause-row : goal.returns-in-Zero-clause-row
 returns-in-Zero-clause-row t c = c.clear.ensures.width

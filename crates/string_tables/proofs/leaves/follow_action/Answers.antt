@@ -23,6 +23,6 @@ returns-clause-image c j lj =
     let moves = c.args.table.now.moves in
     let shown = c.as_slice-step-items.ensures ∙ ap (λ (t : Table). t.moves) c.table.view_is in
     let all : take c.loop-step.step-index moves ≡ moves = take_all c.loop-step.step-index moves (omega (arith, ap length shown)) in
-    c.loop-step.invariant.told j lj
+    c.loop-step.invariant.given j lj
     ∙ ap (list_any (goes c.args.table.now.states c.args.row.now c.args.act j)) all
     ∙ in_moves c.args.table.now.states c.args.row.now c.args.act j moves (λ m h. (c.requires.whole.moves m h).0)

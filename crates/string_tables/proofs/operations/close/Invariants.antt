@@ -5,7 +5,7 @@ use Rattle.string_tables.proofs.operations.close.Given as goal
 
 abbrev pub invariant-loop-k : goal.invariant-loop-k
 invariant-loop-k l = record {
-  told : (a b : ℕ) → a < l.n → b < l.n → entry l.m a b ≡ warshall (entry l.fn.m) l.k a b;
+  given : (a b : ℕ) → a < l.n → b < l.n → entry l.m a b ≡ warshall (entry l.fn.m) l.k a b;
   size : l.m.size ≡ l.initial.m.size;
   width : length l.spare ≡ length l.initial.spare;
 }

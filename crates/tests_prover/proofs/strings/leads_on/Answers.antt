@@ -4,8 +4,8 @@ use Rattle.string_tables.specs.Tables.{Room, IsWhole}
 use Rattle.string_tables.proofs.Counterexamples.{whole_table}
 use Rattle.tests_prover.proofs.strings.leads_on.Goals as goal
 
-pub relates-requires-clause-asked : goal.relates-requires-clause-asked
-relates-requires-clause-asked c =
+pub relates-requires-clause-queried : goal.relates-requires-clause-queried
+relates-requires-clause-queried c =
     record {
       whole = subst IsWhole (sym c.in_ok-table.ensures) (whole_table _);
       states = omega (arith, ap (λ (r : Room). r.states) c.in_ok-bench.ensures, ap (λ (t : Table). t.states) c.table.view_is);

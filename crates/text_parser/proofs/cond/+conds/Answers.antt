@@ -63,14 +63,14 @@ literal-returns-then-begins_expr-2-clause-value g t c =
     let x = (g.R.Reading.actions c.args.reading.now).conds in
     let ts = lexemes c.args.toks.now in
     let us = drop c.args.from ts in
-    subst (λ (m : Parsed _). Reads g.R.Reading.memory g.R.Reading.cond ts c.comparison-then-begins_expr-2.result m) (sym (round_compared x c.args.context us c.in-Some.terminal c.in-Some.at (text_at c.args.toks.now c.args.from) (drop (c.args.from + 1) ts) c.in-Some.ensures.0 c.in-RoundOpen.is (ap begins_expr (sym c.after_close.ensures) ∙ sym c.begins_expr-in-RoundOpen.ensures ∙ c.if-begins_expr-2.true))) c.comparison-then-begins_expr-2.ensures.value
+    subst (λ (m : Parsed _). Reads g.R.Reading.memory g.R.Reading.cond ts c.comparison-then-begins_expr-2.result m) (sym (round_compared x c.args.context us c.in-Some.terminal c.in-Some.at (text_at c.args.toks.now c.args.from) (drop (c.args.from + 1) ts) c.in-Some.ensures.0 c.in-RoundOpen.is (ap begins_expr (sym c.index_after_matching.ensures) ∙ sym c.begins_expr-in-RoundOpen.ensures ∙ c.if-begins_expr-2.true))) c.comparison-then-begins_expr-2.ensures.value
 
 pub literal-returns-else-begins_expr-2-clause-value : goal.literal-returns-else-begins_expr-2-clause-value
 literal-returns-else-begins_expr-2-clause-value g t c =
     let x = (g.R.Reading.actions c.args.reading.now).conds in
     let ts = lexemes c.args.toks.now in
     let us = drop c.args.from ts in
-    subst (λ (m : Parsed _). Reads g.R.Reading.memory g.R.Reading.cond ts c.parenthesis.result m) (sym (round_alone x c.args.context us c.in-Some.terminal c.in-Some.at (text_at c.args.toks.now c.args.from) (drop (c.args.from + 1) ts) c.in-Some.ensures.0 c.in-RoundOpen.is (ap begins_expr (sym c.after_close.ensures) ∙ sym c.begins_expr-in-RoundOpen.ensures ∙ c.if-begins_expr-2.false))) c.parenthesis.ensures.value
+    subst (λ (m : Parsed _). Reads g.R.Reading.memory g.R.Reading.cond ts c.parenthesis.result m) (sym (round_alone x c.args.context us c.in-Some.terminal c.in-Some.at (text_at c.args.toks.now c.args.from) (drop (c.args.from + 1) ts) c.in-Some.ensures.0 c.in-RoundOpen.is (ap begins_expr (sym c.index_after_matching.ensures) ∙ sym c.begins_expr-in-RoundOpen.ensures ∙ c.if-begins_expr-2.false))) c.parenthesis.ensures.value
 
 pub literal-returns-in-Zero-clause-value : goal.literal-returns-in-Zero-clause-value
 literal-returns-in-Zero-clause-value g t c =

@@ -2,7 +2,7 @@ use Rattle.std.proofs.Common.{drop}
 use Rattle.text_parser.specs.Lexemes.{lexemes}
 use Rattle.text_parser.specs.Exprs.{parse_expr, sums}
 use Rattle.text_parser.specs.Conds.{relation, comparison}
-use Rattle.text_parser.proofs.PartFaults.{fault_read, fault_told}
+use Rattle.text_parser.proofs.PartFaults.{fault_read, fault_given}
 use Rattle.text_parser.proofs.CondSteps.{comparison_left, comparison_relation, comparison_right, comparison_made}
 use Rattle.text_parser.proofs.cond.comparison.Goals as goal
 
@@ -19,7 +19,7 @@ returns-in_err-relation-clause-value g c =
     let x = (g.R.Reading.actions c.args.reading.now).conds in
     let ts = lexemes c.args.toks.now in
     let us = drop c.args.from ts in
-    fault_told g.R.Reading.memory (λ r. r) g.R.Reading.cond ts c.from_residual-in_err-relation.result c.in_err-relation.field-0.0 (relation (drop c.in_ok-left.next ts)) (comparison x c.args.context us) c.from_residual-in_err-relation.ensures.1 c.in_err-relation.ensures.value
+    fault_given g.R.Reading.memory (λ r. r) g.R.Reading.cond ts c.from_residual-in_err-relation.result c.in_err-relation.field-0.0 (relation (drop c.in_ok-left.next ts)) (comparison x c.args.context us) c.from_residual-in_err-relation.ensures.1 c.in_err-relation.ensures.value
     (comparison_relation x c.args.context us (g.R.Reading.expr c.in_ok-left.left, drop c.in_ok-left.next ts) c.in_err-relation.field-0.0 c.in_ok-left.ensures.value)
 
 pub returns-in_err-right-clause-value : goal.returns-in_err-right-clause-value

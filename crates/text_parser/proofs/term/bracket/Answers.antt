@@ -5,7 +5,7 @@ use Rattle.text_parser.specs.Lexemes.{lexemes, is_terminal}
 use Rattle.text_parser.specs.Actions.{context}
 use Rattle.text_parser.specs.Conds.{parse_cond, disjunction}
 use Rattle.text_parser.specs.Terms.{bracket}
-use Rattle.text_parser.proofs.PartFaults.{end_made, fault_read, fault_known, enter_keeps_memory, wants_keeps_memory}
+use Rattle.text_parser.proofs.PartFaults.{end_made, fault_read, fault_known, enter_keeps_memory, expects_keeps_memory}
 use Rattle.text_parser.proofs.TermSteps.{bracket_refused, bracket_fault, bracket_open, bracket_closed}
 use Rattle.text_parser.proofs.term.bracket.Goals as goal
 
@@ -33,7 +33,7 @@ returns-in_err-end-clause-value g c =
     let ts = lexemes c.args.toks.now in
     let us = drop c.args.from ts in
     let missing = c.in_err-end.ensures.value in
-    fault_known g.R.Reading.memory g.R.Reading.term ts c.from_residual-in_err-end.result c.in_err-end.field-0.0 (bracket x c.args.context c.args.at us) c.from_residual-in_err-end.ensures.1 (wants_keeps_memory (is_terminal SquareClose) (drop c.in_ok-cond.end ts) c.in_err-end.field-0.0 missing)
+    fault_known g.R.Reading.memory g.R.Reading.term ts c.from_residual-in_err-end.result c.in_err-end.field-0.0 (bracket x c.args.context c.args.at us) c.from_residual-in_err-end.ensures.1 (expects_keeps_memory (is_terminal SquareClose) (drop c.in_ok-cond.end ts) c.in_err-end.field-0.0 missing)
     (bracket_open x c.args.context c.in_ok-inside.inside c.args.at us (g.R.Reading.cond c.in_ok-cond.cond, drop c.in_ok-cond.end ts) c.in_err-end.field-0.0 (sym c.in_ok-inside.ensures) c.in_ok-cond.ensures.value missing)
 
 pub returns-clause-value : goal.returns-clause-value

@@ -1,7 +1,7 @@
 use Rattle.std.proofs.Common.{map, inl, inr, refl, sym, subst, ap, ◌∙◌, ◌++◌, arith}
 use Rattle.abstraction.specs.Abstracts.{HasNumbersInRange}
 use Rattle.while_lang.specs.Trees.{goal_tree}
-use Rattle.tool_decide.specs.Batch.{AsksSome, goal_line, IsGoalAnswer, AnswersFrom}
+use Rattle.tool_decide.specs.Batch.{PosesSome, goal_line, IsGoalAnswer, AnswersFrom}
 use Rattle.tool_decide.specs.Working.GoalLists.{own_goal, goal_at, other_has, all_first}
 use Rattle.tool_decide.specs.Working.BatchReplies.{first_answered, next_answered}
 use Rattle.tool_decide.proofs.batch.answers_in.Goals as goal
@@ -9,8 +9,8 @@ use Rattle.tool_decide.proofs.batch.answers_in.Goals as goal
 pub goal_reply-requires-clause-numbers : goal.goal_reply-requires-clause-numbers
 goal_reply-requires-clause-numbers c = subst HasNumbersInRange (sym (own_goal c.args.file.now _ c.file.view_is)) (c.requires.numbers c.args.file.now (inl refl))
 
-pub goal_reply-requires-clause-asks : goal.goal_reply-requires-clause-asks
-goal_reply-requires-clause-asks c = subst AsksSome (sym (own_goal c.args.file.now _ c.file.view_is)) (c.requires.asks c.args.file.now (inl refl))
+pub goal_reply-requires-clause-poses : goal.goal_reply-requires-clause-poses
+goal_reply-requires-clause-poses c = subst PosesSome (sym (own_goal c.args.file.now _ c.file.view_is)) (c.requires.poses c.args.file.now (inl refl))
 
 pub loop-k-init : goal.loop-k-init
 loop-k-init c =
@@ -24,10 +24,10 @@ goal_reply-requires-in-loop-k-clause-numbers c =
     let e = goal_at c.args.more.now c.loop-k.k c.index-more-k.result c.loop-k-test.true c.index-more-k.is in
     c.requires.numbers _ (inr (other_has c.args.file.now (map goal_tree c.args.more.now) c.loop-k.k (goal_tree c.index-more-k.result) e))
 
-pub goal_reply-requires-in-loop-k-clause-asks : goal.goal_reply-requires-in-loop-k-clause-asks
-goal_reply-requires-in-loop-k-clause-asks c =
+pub goal_reply-requires-in-loop-k-clause-poses : goal.goal_reply-requires-in-loop-k-clause-poses
+goal_reply-requires-in-loop-k-clause-poses c =
     let e = goal_at c.args.more.now c.loop-k.k c.index-more-k.result c.loop-k-test.true c.index-more-k.is in
-    c.requires.asks _ (inr (other_has c.args.file.now (map goal_tree c.args.more.now) c.loop-k.k (goal_tree c.index-more-k.result) e))
+    c.requires.poses _ (inr (other_has c.args.file.now (map goal_tree c.args.more.now) c.loop-k.k (goal_tree c.index-more-k.result) e))
 
 pub loop-k-preserved : goal.loop-k-preserved
 loop-k-preserved c =

@@ -4,7 +4,7 @@ use Rattle.abstraction.specs.Abstracts.{HasNumbersInRange, with_goal}
 use Rattle.while_lang.specs.Trees.{goal_tree}
 use Rattle.tool_inputs.specs.TextProblem.{HasNoAbstraction}
 use Rattle.tool_inputs.specs.Steps.{IsRefusal}
-use Rattle.tool_decide.specs.Batch.{with_each, AsksSome, IsFirstRefused}
+use Rattle.tool_decide.specs.Batch.{with_each, PosesSome, IsFirstRefused}
 use Rattle.tool_inputs.specs.ReplySpecs.{Yields}
 use Rattle.tool_inputs.proofs.ReplySpecs.{Yields-refused}
 use Rattle.tool_decide.specs.Working.GoalLists.{own_goal, goal_at, other_has, all_first, some_next, refused_at}
@@ -20,7 +20,7 @@ test_goal-requires-in-loop-goal c =
     c.requires _ (inr (other_has f (map goal_tree c.args.more.now) c.loop-goal.goal-index (goal_tree c.goal-item.result) e))
 
 pub loop-goal-init : goal.loop-goal-init
-loop-goal-init c g (inl is) = subst AsksSome is (subst AsksSome (own_goal c.args.file.now _ c.file.view_is) c.in_ok-test_goal.ensures)
+loop-goal-init c g (inl is) = subst PosesSome is (subst PosesSome (own_goal c.args.file.now _ c.file.view_is) c.in_ok-test_goal.ensures)
 loop-goal-init c g (inr has) = elim has [ ]
 
 pub returns-in_err-test_goal-2 : goal.returns-in_err-test_goal-2

@@ -9,4 +9,4 @@ returns-in-Err c =
     let bytes = c.args.bytes.now in
     EndsWith-weaker _ (IsRefusal (IsNoNotes bytes))
     (λ status output h. (h.0, record { fault = c.in-Err.fault; first = fault_is bytes c.in-Err.fault h.1.0 c.in-Err.ensures.fault; printed = h.1.1 }))
-    c.fault_stop.result c.fault_stop.ensures
+    c.fault_end.result c.fault_end.ensures

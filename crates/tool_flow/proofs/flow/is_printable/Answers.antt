@@ -2,7 +2,7 @@ use Rattle.std.proofs.Common.{◌≤◌, ℕ, List, length, sym, subst, ◌∙�
 use Rattle.std.proofs.lemmas.Bool.{false≢true}
 use Rattle.kat_model.specs.declared.limits.TheConstants.{MAX_TEXT_BYTES}
 use Rattle.flow_text.specs.FileViews.{file_parts}
-use Rattle.flow_questions.specs.Abstracts.{flow_problem_of}
+use Rattle.flow_abstraction.specs.Abstracts.{flow_problem_of}
 use Rattle.tool_flow.proofs.Printability.{is_printable, printed_shallow}
 use Rattle.tool_flow.proofs.flow.is_printable.Goals as goal
 

@@ -1,6 +1,6 @@
 use Rattle.std.proofs.Common.{◌≡◌}
 use Rattle.flow_text.specs.FileViews.{file_parts}
-use Rattle.flow_questions.specs.declared.fault.FlowFault.TheVariants.{NoMemory}
+use Rattle.flow_abstraction.specs.declared.fault.FlowFault.TheVariants.{NoMemory}
 use Rattle.tool_inputs.specs.Steps.{IsRefusal}
 use Rattle.tool_inputs.proofs.ReplySpecs.{EndsWith-weaker}
 use Rattle.tool_flow.specs.FlowFaults.{flow_fault_line}
@@ -24,4 +24,4 @@ returns-in-Err c =
     let has = has_blocks f before after (rw c.deref.ensures.value at c.graph_at-before.ensures) (rw c.deref-2.ensures.value at c.graph_at-after.ensures) c.requires in
     EndsWith-weaker (λ status output. (status ≡ 2) × ((c.in-Err.fault ≡ NoMemory → ⊥) × (output ≡ flow_fault_line c.in-Err.fault))) (IsRefusal (HasNoFlowProblem f))
     (λ status output h. (h.0, none_of f before after has c.in-Err.fault output (rw c.deref-3.ensures.value at c.in-Err.ensures.refused) h.1.0 h.1.1))
-    c.fault_stop.result c.fault_stop.ensures
+    c.fault_end.result c.fault_end.ensures

@@ -16,5 +16,5 @@ returns-in-Ok c =
 
 pub returns-in-Err : goal.returns-in-Err
 returns-in-Err c =
-    subst (λ (f : FileParts). EndsWith (IsRefusal (HasNoForm f c.args.prog.now)) c.fault_stop.result) c.file.view_is
-    (fault_refused _ c.args.prog.now c.one_loop.result c.one_loop.ensures.too_many_vars c.one_loop.ensures.too_many_statements c.in-Err.fault c.fault_stop.result c.in-Err.is c.fault_stop.ensures)
+    subst (λ (f : FileParts). EndsWith (IsRefusal (HasNoForm f c.args.prog.now)) c.fault_end.result) c.file.view_is
+    (fault_refused _ c.args.prog.now c.one_loop.result c.one_loop.ensures.too_many_vars c.one_loop.ensures.too_many_statements c.in-Err.fault c.fault_end.result c.in-Err.is c.fault_end.ensures)

@@ -33,9 +33,9 @@ loop-item-preserved c =
     let step = c.in_ok-apart.ensures in
     record {
       kept = KeepsFunctions-trans a b d before.kept step.kept;
-      is_id = step.told.is_id;
+      is_id = step.given.is_id;
       alike = front_more (AreAlike a d c.in_ok-apart.apart) items k item c.loop-item-test.true c.item-item.is
-          (alike_more a b d before.kept step.kept (take k items) item c.loop-item.apart c.in_ok-apart.apart (c.requires.items.lefts item member) (c.requires.items.rights item member) step.told before.alike);
+          (alike_more a b d before.kept step.kept (take k items) item c.loop-item.apart c.in_ok-apart.apart (c.requires.items.lefts item member) (c.requires.items.rights item member) step.given before.alike);
     }
 
 pub and-requires-clause-left : goal.and-requires-clause-left

@@ -66,8 +66,8 @@ returns-in-None-clause-end c =
     let begun = c.in_ok-begin_counted.ensures.begun in
     let answer = rw c.in-Found.is at c.in_ok-end.ensures.answer in
     let found = answer begun.0 (with_hyps q (long_hyps q)) c.actions-actions.ensures.value begun.2 in
-    let told = c.in_ok-answer-in-Found.ensures in
-    (rw c.in-None.is at told.answer, may_begin q c.run.new.store c.run.new.self c.string_of.new.walk told.derivatives told.kept found.0.tests found.0.right)
+    let given = c.in_ok-answer-in-Found.ensures in
+    (rw c.in-None.is at given.answer, may_begin q c.run.new.store c.run.new.self c.string_of.new.walk given.derivatives given.kept found.0.tests found.0.right)
 
 pub returns-in_err-end-clause-kept : goal.returns-in_err-end-clause-kept
 returns-in_err-end-clause-kept c = Grows-trans _ _ _ c.in_ok-begin_counted.ensures.kept c.in_err-end.ensures.kept

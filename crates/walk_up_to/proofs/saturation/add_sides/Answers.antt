@@ -15,16 +15,16 @@ loop-pair_side-init c = record {
 pub loop-pair_side-preserved : goal.loop-pair_side-preserved
 loop-pair_side-preserved c =
     let now = c.loop-pair_side.invariant in
-    let told = c.in_ok-is_new.ensures in
+    let given = c.in_ok-is_new.ensures in
     let pair_sides : List PairSide = c.args.pair_sides.now in
     let i = c.loop-pair_side.pair_side-index in
     let pair_side : PairSide = c.pair_side-item.result in
     let read : slice_get pair_sides i ≡ Some pair_side = at_read pair_sides i pair_side c.loop-pair_side-test.true c.pair_side-item.is in
     record {
-      made = made_then c.args.listed.now.pairs c.args.marked.now.marks c.loop-pair_side.marked.marks c.add_at.new.marked.marks now.made told.made;
-      closed = all_next (λ n j. (s : PairSide) → slice_get pair_sides j ≡ Some s → IsClosedAt c.args.listed.now.pairs n.marks s) c.loop-pair_side.marked c.add_at.new.marked i c.loop-pair_side.grew c.in_ok-is_new.is_new c.either-grew.result c.either-grew.ensures told.more now.closed
-          (λ _ f s at. subst (IsClosedAt c.args.listed.now.pairs c.add_at.new.marked.marks) (same_Some pair_side s (sym read ∙ at)) (told.closed f));
-      more = subst (IsMore c.args.marked.now c.add_at.new.marked) (sym c.either-grew.ensures) (more_then c.args.marked.now c.loop-pair_side.marked c.add_at.new.marked c.loop-pair_side.grew c.in_ok-is_new.is_new now.more told.more);
+      made = made_then c.args.listed.now.pairs c.args.marked.now.marks c.loop-pair_side.marked.marks c.add_at.new.marked.marks now.made given.made;
+      closed = all_next (λ n j. (s : PairSide) → slice_get pair_sides j ≡ Some s → IsClosedAt c.args.listed.now.pairs n.marks s) c.loop-pair_side.marked c.add_at.new.marked i c.loop-pair_side.grew c.in_ok-is_new.is_new c.either-grew.result c.either-grew.ensures given.more now.closed
+          (λ _ f s at. subst (IsClosedAt c.args.listed.now.pairs c.add_at.new.marked.marks) (same_Some pair_side s (sym read ∙ at)) (given.closed f));
+      more = subst (IsMore c.args.marked.now c.add_at.new.marked) (sym c.either-grew.ensures) (more_then c.args.marked.now c.loop-pair_side.marked c.add_at.new.marked c.loop-pair_side.grew c.in_ok-is_new.is_new now.more given.more);
     }
 
 pub returns-clause-closed : goal.returns-clause-closed

@@ -3,8 +3,8 @@ use Rattle.text_parser.specs.declared.terminal.Terminal.TheVariants.{Separator}
 use Rattle.text_parser.specs.declared.terminal.Keyword.TheVariants as word
 use Rattle.text_parser.specs.declared.terminal.Separator.TheVariants.{CurlyOpen}
 use Rattle.text_parser.specs.Lexemes.{lexemes, text_at, is_terminal}
-use Rattle.text_parser.specs.Parsed.{Reads, wants, place_of}
-use Rattle.text_parser.proofs.NamedFaults.{wants_named}
+use Rattle.text_parser.specs.Parsed.{Reads, expects, place_of}
+use Rattle.text_parser.proofs.NamedFaults.{expects_named}
 use Rattle.text_parser.proofs.TokenPlaces.{next_drop}
 use Rattle.while_lang.specs.Blocks.{enter, block, stmts_after, stmt_after, branch_after, cond_by, loop_by, else_by, parse_block}
 use Rattle.while_lang.specs.Working.Appending.{Appends}
@@ -19,7 +19,7 @@ read_block-returns-in_err-next-clause-value g t c =
     let all = lexemes c.args.toks.now in
     let ts = drop c.args.from all in
     let p = is_terminal (Separator CurlyOpen) in
-    check_fails g.R.BlockReading.memory g.R.BlockReading.stmts all (parse_block a block c.args.depth ts) c.in_err-next.field-0.0 c.from_residual.result c.from_residual.ensures.1 (wants p ts) (wants_named p ts) c.in_err-next.ensures.value
+    check_fails g.R.BlockReading.memory g.R.BlockReading.stmts all (parse_block a block c.args.depth ts) c.in_err-next.field-0.0 c.from_residual.result c.from_residual.ensures.1 (expects p ts) (expects_named p ts) c.in_err-next.ensures.value
     (block_closed a c.args.depth ts c.in_err-next.field-0.0 c.in_err-next.ensures.value)
 
 pub read_block-returns-in_err-inside-clause-value : goal.read_block-returns-in_err-inside-clause-value
@@ -27,9 +27,9 @@ read_block-returns-in_err-inside-clause-value g t c =
     let a = g.R.BlockReading.actions c.args.reading.now in
     let all = lexemes c.args.toks.now in
     let ts = drop c.args.from all in
-    let told = entered c.args.depth (place_of ts) c.place_at.result (Err c.in_err-inside.field-0.0) c.place_at.ensures c.in_err-inside.ensures in
-    check_fails g.R.BlockReading.memory g.R.BlockReading.stmts all (parse_block a block c.args.depth ts) c.in_err-inside.field-0.0 c.from_residual-in_err-inside.result c.from_residual-in_err-inside.ensures.1 (enter c.args.depth (place_of ts)) (enter_named c.args.depth (place_of ts)) told
-    (block_deep a c.args.depth ts (drop c.in_ok-next.next all) c.in_ok-next.ensures.value c.in_err-inside.field-0.0 told)
+    let given = entered c.args.depth (place_of ts) c.place_at.result (Err c.in_err-inside.field-0.0) c.place_at.ensures c.in_err-inside.ensures in
+    check_fails g.R.BlockReading.memory g.R.BlockReading.stmts all (parse_block a block c.args.depth ts) c.in_err-inside.field-0.0 c.from_residual-in_err-inside.result c.from_residual-in_err-inside.ensures.1 (enter c.args.depth (place_of ts)) (enter_named c.args.depth (place_of ts)) given
+    (block_deep a c.args.depth ts (drop c.in_ok-next.next all) c.in_ok-next.ensures.value c.in_err-inside.field-0.0 given)
 
 pub read_block-returns-in_err-list-clause-value : goal.read_block-returns-in_err-list-clause-value
 read_block-returns-in_err-list-clause-value g t c =
@@ -150,9 +150,9 @@ otherwise-returns-in_err-inside-clause-value g t c =
     let all = lexemes c.args.toks.now in
     let ts = drop c.args.from all in
     let us = drop (c.args.from + 1) all in
-    let told = entered c.args.depth (place_of us) c.place_at.result (Err c.in_err-inside.field-0.0) c.place_at.ensures c.in_err-inside.ensures in
-    check_fails g.R.BlockReading.memory g.R.BlockReading.stmts all (else_by a (parse_block a) c.args.depth ts) c.in_err-inside.field-0.0 c.from_residual.result c.from_residual.ensures.1 (enter c.args.depth (place_of us)) (enter_named c.args.depth (place_of us)) told
-    (else_deep a c.args.depth ts (sym c.if-not-is_at.ensures.value) us (next_drop c.args.from all) (sym c.if-not-is_at-2.ensures.value) c.in_err-inside.field-0.0 told)
+    let given = entered c.args.depth (place_of us) c.place_at.result (Err c.in_err-inside.field-0.0) c.place_at.ensures c.in_err-inside.ensures in
+    check_fails g.R.BlockReading.memory g.R.BlockReading.stmts all (else_by a (parse_block a) c.args.depth ts) c.in_err-inside.field-0.0 c.from_residual.result c.from_residual.ensures.1 (enter c.args.depth (place_of us)) (enter_named c.args.depth (place_of us)) given
+    (else_deep a c.args.depth ts (sym c.if-not-is_at.ensures.value) us (next_drop c.args.from all) (sym c.if-not-is_at-2.ensures.value) c.in_err-inside.field-0.0 given)
 
 pub otherwise-returns-in_err-end-clause-value : goal.otherwise-returns-in_err-end-clause-value
 otherwise-returns-in_err-end-clause-value g t c =

@@ -7,7 +7,7 @@ use Rattle.while_lang.specs.Working.Running.{run_end}
 use Rattle.while_lang.specs.contracts.outcome.Outcome.{the_type}
 use Rattle.while_lang.specs.declared.outcome.Outcome.TheVariants.{Done}
 use Rattle.while_lang.proofs.StoreValues.{set_is_store}
-use Rattle.while_lang.proofs.Turns.{turned, stopped, passed, run_less, left_over, left_stopped, listed_more, listed_stop}
+use Rattle.while_lang.proofs.Turns.{converse, stopped, passed, run_less, left_over, left_stopped, listed_more, listed_stop}
 use Rattle.while_lang.proofs.runs.+runs.Goals as goal
 
 pub run_list-loop-stmt-preserved : goal.run_list-loop-stmt-preserved
@@ -33,7 +33,7 @@ run_stmt-turns-preserved t c =
     let holds : b c.turns.store ≡ true = rw (← c.store-in-turns.view_is, ← c.deref-in-turns.ensures.value) (sym c.holds-in-turns.ensures ∙ c.turns-test.true) in
     record {
       fewer = omega (arith, c.turns.invariant.fewer, c.run_list-outcome.ensures.fewer);
-      whole = c.turns.invariant.whole ∙ turned b body (run_less c.args.width (list_tree c.p-in-While.inside.list.items)) c.turns.store c.turns.turns c.run_list-outcome.result c.run_list-outcome.new.store c.run_list-outcome.new.turns
+      whole = c.turns.invariant.whole ∙ converse b body (run_less c.args.width (list_tree c.p-in-While.inside.list.items)) c.turns.store c.turns.turns c.run_list-outcome.result c.run_list-outcome.new.store c.run_list-outcome.new.turns
           holds (omega (arith, c.if-turns-eq0.false)) (rw (← c.deref-in-turns-2.ensures.value) c.run_list-outcome.ensures.ended) (search rules);
       length = c.run_list-outcome.ensures.length ∙ c.turns.invariant.length;
       within = c.run_list-outcome.ensures.within;

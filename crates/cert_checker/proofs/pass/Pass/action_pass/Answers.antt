@@ -7,7 +7,7 @@ use Rattle.certificate.specs.PairParts.{PairParts}
 use Rattle.cert_checker.specs.NodeTables.{IsTest}
 use Rattle.cert_checker.specs.Marks.{IsMarked}
 use Rattle.cert_checker.specs.Targets.{AreSteps}
-use Rattle.cert_checker.specs.Cases.{AreAsked}
+use Rattle.cert_checker.specs.Cases.{AreQueried}
 use Rattle.cert_checker.specs.Passes.{PassParts, IsPass, AreForbidden, StepsOf}
 use Rattle.cert_checker.proofs.Passes.{pass_with, pass_kept, steps_stay, passes_trans, grown}
 use Rattle.cert_checker.proofs.CertPairs.{test_in_tables, listed_in}
@@ -22,9 +22,9 @@ forbidden-requires-clause-steps c =
     let marks : c.deref-2.result.now ≡ c.self.inside.parts.needed_terms.items = c.deref-2.ensures.value in
     let made = map (λ e. e.entries) c.in_ok-steps.steps.items in
     let all : length made ≡ length c.self.inside.parts.needed_terms.items = length-map c.in_ok-steps.steps.items (λ e. e.entries) ∙ c.in_ok-steps.ensures.all ∙ ap length marks in
-    let stand : StepsOf t c.args.action c.self.inside.parts.needed_terms.items made =
+    let represent : StepsOf t c.args.action c.self.inside.parts.needed_terms.items made =
     record { steps = subst (λ m. AreSteps t c.args.action (IsMarked m) made) marks c.in_ok-steps.ensures.steps; count = all } in
-    subst (λ l. StepsOf t c.args.action c.self.inside.parts.needed_terms.items (map (λ e. e.entries) l)) (sym c.deref-3.ensures.value) stand
+    subst (λ l. StepsOf t c.args.action c.self.inside.parts.needed_terms.items (map (λ e. e.entries) l)) (sym c.deref-3.ensures.value) represent
 
 pub begin_tests-requires : goal.begin_tests-requires
 begin_tests-requires c =
@@ -61,7 +61,7 @@ returns-clause-action_pass c =
     let marks : c.deref-2.result.now ≡ c.self.inside.parts.needed_terms.items = c.deref-2.ensures.value in
     let made = map (λ e. e.entries) c.in_ok-steps.steps.items in
     let all : length made ≡ length c.self.inside.parts.needed_terms.items = length-map c.in_ok-steps.steps.items (λ e. e.entries) ∙ c.in_ok-steps.ensures.all ∙ ap length marks in
-    let stand : StepsOf t c.args.action c.self.inside.parts.needed_terms.items made =
+    let represent : StepsOf t c.args.action c.self.inside.parts.needed_terms.items made =
     record { steps = subst (λ m. AreSteps t c.args.action (IsMarked m) made) marks c.in_ok-steps.ensures.steps; count = all } in
     let begun = pass_with _ c.steps.new.tables c.steps.ensures.grows (subst IsPass (sym c.self.view_is) c.requires) in
     let p = c.forbidden.new.self in
@@ -71,14 +71,14 @@ returns-clause-action_pass c =
     let forbids = subst (λ (z : PassParts). AreForbidden p.tables z.cert z.problem c.args.action fs) (sym grows.same) c.in_ok-forbidden.ensures.forbidden in
     let low : length c.self.inside.parts.needed_terms.items ≤ length t.terms = omega (arith, begun.marks, begun.there) in
     record {
-      steps = subst (λ (z : PassParts). StepsOf p.tables c.args.action z.needed_terms made) (sym grows.same) (steps_stay t p.tables grows.tables c.args.action c.self.inside.parts.needed_terms.items made low stand);
+      steps = subst (λ (z : PassParts). StepsOf p.tables c.args.action z.needed_terms made) (sym grows.same) (steps_stay t p.tables grows.tables c.args.action c.self.inside.parts.needed_terms.items made low represent);
       style = c.style_for.ensures ∙ ap (λ (z : PassParts). option_map_or (λ a. z.cert.style) c.args.action UpTo) c.self-2.view_is;
       pairs = c.pairs_for-pairs.ensures ∙ ap (λ (z : PassParts). option_map_or (λ a. z.cert.pairs) c.args.action []) c.self-2.view_is;
       index = ap (λ (z : PassParts). z.index) c.self-2.view_is;
       universal = c.universal_for.ensures ∙ ap (λ (z : PassParts). option_map_or (λ a. z.universal) c.args.action None) c.self-2.view_is;
       forbidden = forbids;
-      begin = subst (λ z. AreAsked z c.in_ok-begin.begin.items) tables c.in_ok-begin.ensures.asked;
-      end = subst (λ z. AreAsked z c.in_ok-end.end.items) tables c.in_ok-end.ensures.asked;
+      begin = subst (λ z. AreQueried z c.in_ok-begin.begin.items) tables c.in_ok-begin.ensures.queried;
+      end = subst (λ z. AreQueried z c.in_ok-end.end.items) tables c.in_ok-end.ensures.queried;
       by_moves = λ f h. (
         c.in_ok-begin.ensures.named f (subst (λ (l : List (ℕ × ℕ)). Has l f) (sym c.deref-4.ensures.value) h),
         c.in_ok-end.ensures.by_moves f (subst (λ (l : List (ℕ × ℕ)). Has l f) (sym c.deref-5.ensures.value) h),

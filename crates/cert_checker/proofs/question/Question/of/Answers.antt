@@ -1,7 +1,7 @@
 use Rattle.cert_checker.proofs.question.Question.of.Goals as goal
 
 pub returns-clause-named : goal.returns-clause-named
-returns-clause-named c = record { asked = c.in_ok-asked.ensures.asked; named = c.in_ok-asked.ensures.named }
+returns-clause-named c = record { queried = c.in_ok-queried.ensures.queried; named = c.in_ok-queried.ensures.named }
 
 pub named_tests-requires-clause-pair_test : goal.named_tests-requires-clause-pair_test
 named_tests-requires-clause-pair_test c = c.requires.pair_test

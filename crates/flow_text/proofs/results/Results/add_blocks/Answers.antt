@@ -10,7 +10,7 @@ use Rattle.flow_text.proofs.results.Results.add_blocks.Goals as goal
 
 pub each-preserved : goal.each-preserved
 each-preserved c =
-    let s = sight_parts c.args.sight.now in
+    let s = sight_parts c.args.visible_names.now in
     let xs = result_sorts c.each.self in
     let now = result_sorts c.add_block.new.self in
     let before = c.in-Some.field-0-1.now in
@@ -19,5 +19,5 @@ each-preserved c =
 
 pub returns : goal.returns
 returns c =
-    let s = sight_parts c.args.sight.now in
+    let s = sight_parts c.args.visible_names.now in
     sym (ended (with_all_results s) blocks_syntax (result_sorts c.each.self) c.each.rest.now (with_all_results s (result_sorts c.args.self.now) (blocks_syntax c.args.blocks.now)) c.in_default.ensures.cases blocks_none c.each.invariant)

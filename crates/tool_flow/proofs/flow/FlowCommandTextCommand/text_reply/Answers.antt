@@ -1,10 +1,10 @@
 use Rattle.std.proofs.Common.{◌≡◌, inl, inr, refl, rules}
 use Rattle.flow_text.specs.FileViews.{file_parts}
 use Rattle.flow_text.specs.Texts.{FirstFault}
-use Rattle.flow_sorts.proofs.NamedLines.{names_lines}
-use Rattle.flow_sorts.proofs.SortedFiles.{flow_pairs_sorted}
-use Rattle.flow_questions.specs.declared.fault.FlowFault.TheVariants.{NoMemory, ProblemTooLarge}
-use Rattle.flow_questions.specs.Abstracts.{flow_problem_of}
+use Rattle.flow_laws.proofs.NamedLines.{names_lines}
+use Rattle.flow_laws.proofs.SortedFiles.{flow_pairs_sorted}
+use Rattle.flow_abstraction.specs.declared.fault.FlowFault.TheVariants.{NoMemory, ProblemTooLarge}
+use Rattle.flow_abstraction.specs.Abstracts.{flow_problem_of}
 use Rattle.tool_inputs.specs.TextProblem.{IsFaultOf}
 use Rattle.tool_inputs.specs.Steps.{IsRefusal}
 use Rattle.tool_inputs.specs.ReplySpecs.{RepliesWith}
@@ -47,7 +47,7 @@ returns-then-not-is_printable c =
     } in
     EndsWith-weaker (λ status output. (status ≡ 2) × ((ProblemTooLarge ≡ NoMemory → ⊥) × (output ≡ flow_fault_line ProblemTooLarge))) (FlowReply text)
     (λ status output h. flow_reply text status output (inr (f, c.in_ok-file.ensures, inl (h.0, record { fault = ProblemTooLarge; reason = none.reason; printed = h.1.1 }))))
-    c.fault_stop.result c.fault_stop.ensures
+    c.fault_end.result c.fault_end.ensures
 
 pub returns : goal.returns
 returns c =

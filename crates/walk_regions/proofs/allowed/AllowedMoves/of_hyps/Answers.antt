@@ -5,7 +5,7 @@ use Rattle.partial_derivs.specs.Moves.{AreGuards, AreTargets}
 use Rattle.partial_derivs.proofs.Kept.{Keeps-itself, Keeps-trans, Keeps-functions, AreGuards-kept, AreTargets-kept}
 use Rattle.partial_derivs.proofs.Tables.{AreRight-kept}
 use Rattle.walk_regions.specs.declared.bars.Bars.{Bars}
-use Rattle.walk_regions.specs.Working.Asking.{AreBarsOf}
+use Rattle.walk_regions.specs.Working.Querying.{AreBarsOf}
 use Rattle.walk_regions.proofs.Allowances.{AreActionBars, action_bars_none, action_bars_more, allowance}
 use Rattle.walk_regions.proofs.allowed.AllowedMoves.of_hyps.Goals as goal
 

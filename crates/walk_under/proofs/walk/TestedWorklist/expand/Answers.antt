@@ -11,7 +11,7 @@ use Rattle.walk_pairs.specs.Items.{AreItemsOf, AreLedTo}
 use Rattle.walk_under.specs.declared.walk.TestedWorklist.{TestedWorklist}
 use Rattle.walk_under.specs.declared.walk.StepSource.{StepSource}
 use Rattle.walk_under.specs.Working.Walking.{AreNextItems, HasStepped}
-use Rattle.walk_under.proofs.Taking.{items_next, stepped_none, stepped_stands, stepped_more}
+use Rattle.walk_under.proofs.Taking.{items_next, stepped_none, stepped_represents, stepped_more}
 use Rattle.walk_under.proofs.walk.TestedWorklist.expand.Goals as goal
 
 pub loop-act-init : goal.loop-act-init
@@ -44,8 +44,8 @@ items_of-requires-clause-right_merged c = subst AreMerged (sym c.deref-in-loop-a
 pub visit-requires-clause-level : goal.visit-requires-clause-level
 visit-requires-clause-level c = c.requires.level
 
-pub visit-requires-clause-stands : goal.visit-requires-clause-stands
-visit-requires-clause-stands c =
+pub visit-requires-clause-represents : goal.visit-requires-clause-represents
+visit-requires-clause-represents c =
     let r = c.requires.taking in
     let s = r.0 in
     let from = r.1 in
@@ -71,7 +71,7 @@ visit-requires-clause-stands c =
     are led in (
       s,
       from,
-      stepped_stands s old mid taken_pair from (take i acts) inv act own,
+      stepped_represents s old mid taken_pair from (take i acts) inv act own,
       subst (AreNextItems s mid source from) (sym c.deref-in-loop-act-3.ensures.value) next,
     )
 
@@ -98,8 +98,8 @@ loop-act-preserved c s from t same count =
     (IsStepsBy-kept s.store s.store old.diagrams mid.diagrams more (set_out (terms_of s.store from.left)) (set_next (terms_of s.store from.left)) steps.left t.left)
     (IsStepsBy-kept s.store s.store old.diagrams mid.diagrams more (set_out (terms_of s.store from.right)) (set_next (terms_of s.store from.right)) steps.right t.right)
     are led in
-    let stands = stepped_stands s old mid taken_pair from (take i acts) inv act own in
-    let visited = c.in_ok-visit.ensures s from stands (subst (AreNextItems s mid source from) (sym c.deref-in-loop-act-3.ensures.value) next) in
+    let represents = stepped_represents s old mid taken_pair from (take i acts) inv act own in
+    let visited = c.in_ok-visit.ensures s from represents (subst (AreNextItems s mid source from) (sym c.deref-in-loop-act-3.ensures.value) next) in
     subst (HasStepped s old new taken_pair from) (sym (take_more acts i 0 c.loop-act-test.true))
     (stepped_more s old mid taken_pair from (take i acts) inv act own new same.atoms.is_id visited)
 

@@ -36,10 +36,10 @@ returns c =
     let w : TestedWorklist = c.args.self.now in
     let x : TestedWorklist = record { listing = w.listing; moves = c.image.new.self; diagrams = c.open_part.new.diagrams; derivatives = w.derivatives } in
     IfOk-weaker c.open_part.result _ _
-    (λ id is s from stands next.
-    open_at s w x c.args.source.now from c.args.part.now stands next c.image.new.diagrams c.unlisted_part.new.diagrams c.in_ok-image.ensures.kept c.in_ok-fresh.ensures.kept c.open_part.ensures.kept
-    refl refl c.in_ok-image.ensures.allowed (c.in_ok-image.ensures.moves s.shorts s.problem.actions stands.under_way.allowance) c.in_ok-image.image c.in_ok-fresh.fresh id
-    (c.in_ok-image.ensures.image s.shorts s.problem.actions stands.under_way.allowance (region_within s w c.args.source.now from c.args.part.now stands next))
+    (λ id is s from represents next.
+    open_at s w x c.args.source.now from c.args.part.now represents next c.image.new.diagrams c.unlisted_part.new.diagrams c.in_ok-image.ensures.kept c.in_ok-fresh.ensures.kept c.open_part.ensures.kept
+    refl refl c.in_ok-image.ensures.allowed (c.in_ok-image.ensures.moves s.shorts s.problem.actions represents.under_way.allowance) c.in_ok-image.image c.in_ok-fresh.fresh id
+    (c.in_ok-image.ensures.image s.shorts s.problem.actions represents.under_way.allowance (region_within s w c.args.source.now from c.args.part.now represents next))
     (rw (c.deref.ensures.value, c.deref-2.ensures.value) at c.in_ok-fresh.ensures.part)
     (rw (c.deref-3.ensures.value, c.deref-4.ensures.value, c.deref-5.ensures.value, c.deref-6.ensures.value) at is))
     c.open_part.ensures.part

@@ -1,0 +1,11 @@
+pub mod ArcViews
+pub mod CappedLists
+pub mod HypothesisViews
+pub mod Completions
+pub mod IntervalViews
+pub mod FactLists
+pub mod LiteralsWith
+pub mod ActionLists
+pub mod PosedQuestion
+pub mod Abstracts
+pub mod Working

@@ -1,0 +1,10 @@
+pub mod Rows
+pub mod Shapes
+pub mod Walks
+pub mod Places
+pub mod Loops
+pub mod Live
+pub mod Reads
+pub mod Tables
+pub mod Laws
+pub mod Elimination

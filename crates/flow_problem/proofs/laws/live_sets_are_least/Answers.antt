@@ -1,5 +1,0 @@
-use Rattle.flow_problem.proofs.LiveTests.{live_exactly}
-use Rattle.flow_problem.proofs.laws.live_sets_are_least.Goals as goal
-
-pub returns : goal.returns
-returns c = live_exactly

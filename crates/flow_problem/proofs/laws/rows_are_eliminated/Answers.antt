@@ -1,5 +1,0 @@
-use Rattle.flow_problem.proofs.RowTerms.{rows_are_eliminated}
-use Rattle.flow_problem.proofs.laws.rows_are_eliminated.Goals as goal
-
-pub returns : goal.returns
-returns c = rows_are_eliminated

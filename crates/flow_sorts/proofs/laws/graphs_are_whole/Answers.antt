@@ -1,5 +1,0 @@
-use Rattle.flow_sorts.proofs.WholeFiles.{flow_graphs_whole}
-use Rattle.flow_sorts.proofs.laws.graphs_are_whole.Goals as goal
-
-pub returns : goal.returns
-returns c = flow_graphs_whole

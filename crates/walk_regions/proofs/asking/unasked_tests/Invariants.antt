@@ -1,7 +1,0 @@
-use Rattle.std.proofs.Common.{ℕ}
-use Rattle.kat_model.specs.Members.{Has}
-use Rattle.walk_regions.specs.Working.Asking.{IsUnaskedTest}
-use Rattle.walk_regions.proofs.asking.unasked_tests.Given as goal
-
-abbrev pub invariant-loop-test : goal.invariant-loop-test
-invariant-loop-test l = (t : ℕ) → Has l.unasked.items t → IsUnaskedTest l.asked t
