@@ -1,4 +1,5 @@
 #!/usr/bin/env python3
+# SPDX-License-Identifier: MIT OR Apache-2.0
 """Measures commands that `families.py` and `texts.py` do not: `kat optimise` on families of programs, `kat bench`,
 `kat batch` beside `kat decide` on each goal alone, and `kat decide --json` beside `kat decide`.
 

@@ -1,4 +1,5 @@
 #!/usr/bin/env python3
+# SPDX-License-Identifier: MIT OR Apache-2.0
 """Measures `kat decide`, and `kat check` on what it prints, on families of problems, and prints a table; and
 `kat outline`, and `kat outline` on its own notes, on families of triples of programs, and prints another.
 

@@ -1,4 +1,5 @@
 #!/usr/bin/env python3
+# SPDX-License-Identifier: MIT OR Apache-2.0
 """Tries `kat flow` and `kat decide` on random pairs of flow graphs, and compares their answers with runs of the graphs.
 
     python3 bench/flows.py [--kat PROGRAM] [--pairs N] [--seed K] [--keep FOLDER]

@@ -1,4 +1,5 @@
 #!/usr/bin/env python3
+# SPDX-License-Identifier: MIT OR Apache-2.0
 """Measures the gate, at the top of the repository.
 
     python3 bench/gate.py [--anew]         runs `rt ci` and prints, for each crate, the processor seconds of its proof,

@@ -1,4 +1,5 @@
 #!/usr/bin/env python3
+# SPDX-License-Identifier: MIT OR Apache-2.0
 """Measures how the families of bench/families.py grow, and draws it.
 
     python3 bench/plot.py [--kat PROGRAM] [--runs N] [--seconds N] [--points FILE] [-o growth.svg] [FAMILY ..]

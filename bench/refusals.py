@@ -1,4 +1,5 @@
 #!/usr/bin/env python3
+# SPDX-License-Identifier: MIT OR Apache-2.0
 """Refuses each request for memory in turn, in some calls of the program.
 
     python3 bench/refusals.py [--kat PROGRAM] [CALL ..]

@@ -1,4 +1,5 @@
 #!/usr/bin/env python3
+# SPDX-License-Identifier: MIT OR Apache-2.0
 """Measures what long texts cost: problems under `kat decide`, programs under `kat run` and `kat show`, guarded programs
 under `kat gkat`, flow graphs under `kat flow`, evidence under `kat check` and `kat replay`, proofs under `kat chain`, and
 notes under `kat outline`.

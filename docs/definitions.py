@@ -1,4 +1,5 @@
 #!/usr/bin/env python3
+# SPDX-License-Identifier: MIT OR Apache-2.0
 """Prints the definitions of the crates' specs/, or checks the names on docs/definitions.md.
 
     docs/definitions.py [CRATE..]    for each crate (all, without a name) and each file of its specs/: the first comment

@@ -1,4 +1,5 @@
 #!/usr/bin/env python3
+# SPDX-License-Identifier: MIT OR Apache-2.0
 """Draws the rooms of crates.txt: boxes with their crates, and an arrow from each room to those that it stands on.
 
     docs/rooms.py            writes docs/rooms.dot, and docs/rooms.svg if Graphviz is installed

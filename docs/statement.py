@@ -1,4 +1,5 @@
 #!/usr/bin/env python3
+# SPDX-License-Identifier: MIT OR Apache-2.0
 """Writes docs/statement.md: the clauses that carry the claim, with every definition behind them.
 
     docs/statement.py            writes the page, which has the first five parts

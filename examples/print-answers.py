@@ -1,4 +1,5 @@
 #!/usr/bin/env python3
+# SPDX-License-Identifier: MIT OR Apache-2.0
 """Reads reports of `kat decide FILE --json`: prints the answer and the size of the evidence for each file.
 
     examples/print-answers.py FILE..

@@ -1,4 +1,5 @@
 #!/usr/bin/env python3
+# SPDX-License-Identifier: MIT OR Apache-2.0
 """Compares the calls of a shared object with the examples.
 
     compare.py SHARED_OBJECT

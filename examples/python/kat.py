@@ -1,3 +1,4 @@
+# SPDX-License-Identifier: MIT OR Apache-2.0
 """The calls of kat for Python, by ctypes over a shared object made of the library's archive.
 
     import kat
