@@ -13,45 +13,41 @@ rooms of tests.
 import shutil
 import subprocess
 import sys
-from pathlib import Path
 
-TOP = Path(__file__).resolve().parent.parent
+import crates
+from crates import TOP
+
 DOT, SVG = TOP / "docs/rooms.dot", TOP / "docs/rooms.svg"
+# The crates of each room, and the crates that each crate stands on.
+Rooms, Below = dict[str, list[str]], dict[str, list[str]]
 
 
-def read_rooms():
+def tables_of(found: list[crates.Crate]) -> tuple[Rooms, Below]:
     """The rooms with their crates in order, and what each crate stands on."""
-    rooms, stands_on = {}, {}
-    for block in (TOP / "crates.txt").read_text().split("\n\n")[1:]:
-        title, *lines = block.strip().split("\n")
-        # A library for C has its kind after its name.
-        below = {line.split(":")[0].split()[0]: line.partition(":")[2].split() for line in lines}
-        rooms[title.lstrip("# ")] = list(below)
-        stands_on.update(below)
-    return rooms, stands_on
+    return crates.by_room(found), {it.name: list(it.below) for it in found}
 
 
-def early(rooms, stands_on):
+def early(rooms: Rooms, stands_on: Below) -> list[str]:
     """The crates that are listed before one that they stand on."""
-    order = [name for crates in rooms.values() for name in crates]
+    order = [name for names in rooms.values() for name in names]
     place = {name: at for at, name in enumerate(order)}
     return [name for name in order if any(place.get(it, -1) > place[name] for it in stands_on[name])]
 
 
-def arrows(rooms, stands_on):
+def arrows(rooms: Rooms, stands_on: Below) -> dict[str, list[str]]:
     """For each room the rooms that it stands on, without those that another of them stands on."""
-    room_of = {name: room for room, crates in rooms.items() for name in crates}
-    below = {room: {room_of[it] for name in crates for it in stands_on[name] if it in room_of} - {room}
-             for room, crates in rooms.items()}
+    room_of = {name: room for room, names in rooms.items() for name in names}
+    below = {room: {room_of[it] for name in names for it in stands_on[name] if it in room_of} - {room}
+             for room, names in rooms.items()}
 
-    def reached(room):
+    def reached(room: str) -> set[str]:
         return below[room].union(*(reached(it) for it in below[room]))
 
     return {room: sorted(it for it in found if not any(it in reached(other) for other in found - {it}))
             for room, found in below.items()}
 
 
-def dot(rooms, stands_on):
+def dot(rooms: Rooms, stands_on: Below) -> str:
     lines = ["digraph rooms {", "  rankdir=BT;", '  node [shape=box, fontname="Helvetica", fontsize=11];']
     drawn = [room for room in rooms if not room.startswith("Tests")]
     for room in drawn:
@@ -62,8 +58,8 @@ def dot(rooms, stands_on):
     return "\n".join([*lines, "}"]) + "\n"
 
 
-def main(words):
-    rooms, stands_on = read_rooms()
+def main(words: list[str]) -> int:
+    rooms, stands_on = tables_of(crates.read())
     text = dot(rooms, stands_on)
     if words == ["--check"]:
         wrong = early(rooms, stands_on)
