@@ -15,61 +15,63 @@ import random
 import sys
 import tempfile
 from pathlib import Path
+from typing import Callable
 
 from families import TOP, block, built, declared, names, peak, seconds
 
 LETTERS = declared("test", names("t", 8)) + declared("action", names("a", 8))
 
 
-# A case gives texts by their names, and calls that are measured: what is said of them, and the words of each.
+# A case gives texts by their names, and calls that are measured: what they are called, and the words of each.
+Case = tuple[dict[str, str], list[tuple[str, list[list[str]]]]]
 
-def optimised(text, prog="P"):
+def optimised(text: str, prog: str = "P") -> Case:
     return {"f": text}, [("optimise", [["optimise", "f", prog]])]
 
 
-def program(before, statements):
+def program(before: str, statements: str) -> Case:
     return optimised(f"{before}prog P {{ {statements} }}\ngoal equal P, P;\n")
 
 
-def ordinary(_):
+def ordinary(_: int) -> Case:
     """An ordinary program with three dead branches."""
     return optimised((TOP / "examples/holds/program-unswitched.kat").read_text(), "before")
 
 
-def loops(n):
+def loops(n: int) -> Case:
     """n times a loop and a branch on the test of that loop."""
     return program("test b;\naction p, q;\n", " ".join(["while b { p; } if b { q; }"] * n))
 
 
-def branches(n):
+def branches(n: int) -> Case:
     """n branches on eight tests, to which no step applies."""
     return program(LETTERS, " ".join(f"if t{k % 8} {{ a{k % 8}; }} else {{ a{(k + 1) % 8}; }}" for k in range(n)))
 
 
-def skips(n):
+def skips(n: int) -> Case:
     """n statements that do nothing."""
     return program("", " ".join(["skip;"] * n))
 
 
-def untouched(n):
+def untouched(n: int) -> Case:
     """A loop that asks n comparisons which no assignment touches, and a branch on the test of the loop."""
     body = " ".join(f"if y{i} == 0 {{ z := z + 1; }} else {{ z := z + 2; }}" for i in range(n))
     return program(f"var z, {', '.join(names('y', n))};\n", f"while z < 1000 {{ {body} }} if z < 1000 {{ z := 0; }}")
 
 
-def unswitched(n):
+def unswitched(n: int) -> Case:
     """A loop over n such comparisons whose body is one branch, on the first of them."""
     body = " ".join(f"if y{i} == 0 {{ z := z + 1; }} else {{ z := z + 2; }}" for i in range(1, n))
     loop = f"while z < 1000 {{ if y0 == 0 {{ z := z + 3; {body} }} else {{ z := z + 4; {body} z := z + 5; }} }}"
     return program(f"var z, {', '.join(names('y', n))};\n", loop)
 
 
-def generated(n):
+def generated(n: int) -> Case:
     """n generated problems."""
     return {}, [("bench", [["bench", str(n)]])]
 
 
-def goals(n):
+def goals(n: int) -> Case:
     """n goals over one file: random programs of some 300 statements, and the same with each loop unrolled once."""
     programs, asked = "", []
     for k in range(n):
@@ -83,13 +85,13 @@ def goals(n):
     ]
 
 
-def grouped(actions, size):
+def grouped(actions: list[str], size: int) -> str:
     """A product of groups of so many actions, each with its brackets from the left."""
     groups = [actions[k : k + size] for k in range(0, len(actions), size)]
     return ".".join("(" * (len(it) - 1) + it[0] + "".join(f".{a})" for a in it[1:]) for it in groups)
 
 
-def report(n):
+def report(n: int) -> Case:
     """n actions at random, and the same in other brackets, whose certificate is long."""
     pick, letters = random.Random(1), names("a", 48)
     actions = [pick.choice(letters) for _ in range(n)]
@@ -100,7 +102,7 @@ def report(n):
     ]
 
 
-CASES = {
+CASES: dict[str, tuple[Callable[[int], Case], int]] = {
     "ordinary": (ordinary, 1),
     "loops": (loops, 50),
     "branches": (branches, 1_000),
@@ -115,7 +117,7 @@ CASES = {
 
 # Measuring
 
-def outcome(words, status, printed):
+def outcome(words: list[str], status: int, printed: bytes) -> str:
     """What is told of one run beside its time: how a log ends, the line of `bench`, or nothing but its length."""
     lines = printed.splitlines()
     steps = sum(line.startswith(b"S") for line in lines)
@@ -124,7 +126,7 @@ def outcome(words, status, printed):
     return lines[0].decode() if words[0] == "bench" and lines else ""
 
 
-def measure(program, calls, out, runs):
+def measure(program: str, calls: list[list[str]], out: Path, runs: int) -> tuple[list[int], str, float, float]:
     """The statuses, what is told of the calls, and the seconds and the peak of all of them."""
     statuses, told, length, time, most = set(), "", 0, 0.0, 0.0
     for words in calls:
@@ -140,7 +142,7 @@ def measure(program, calls, out, runs):
 HEADS = ["case", "n", "bytes", "call", "status", "what is printed", "s", "MB"]
 
 
-def main():
+def main() -> None:
     reader = argparse.ArgumentParser(description="Measures kat optimise, bench, batch and decide --json.")
     reader.add_argument("--kat", default=str(TOP / "kat"))
     reader.add_argument("--runs", type=int, default=3)

@@ -22,9 +22,15 @@ import sys
 import tempfile
 from dataclasses import dataclass, field, replace
 from pathlib import Path
+from typing import Any, Callable, Iterator, Optional
 
 from families import TOP, built
 
+# An expression or a condition, what puts another in its place, a change of one, and a change of a graph.
+Term = tuple[Any, ...]
+Put = Callable[[Term], Term]
+Change = Callable[[random.Random, Term], Term]
+Step = Callable[[random.Random, "Graph"], "Graph"]
 WIDTHS = {"u8": 8, "u16": 16}
 SORTS = ["u8", "u8", "u16"]
 FUNCTIONS = {"f": ("u8", ["u8"]), "g": ("u16", ["u16", "u8"]), "load": ("u8", ["mem", "u8"]), "store": ("mem", ["mem", "u8", "u8"])}
@@ -50,25 +56,25 @@ class Block:
 class Graph:
     blocks: list = field(default_factory=list)
 
-    def named(self, name):
+    def named(self, name: str) -> Block:
         return next(block for block in self.blocks if block.name == name)
 
 
 class Maker:
     """Makes random graphs over its variables."""
 
-    def __init__(self, chance):
+    def __init__(self, chance: random.Random) -> None:
         self.chance = chance
         self.sorts = {"x": "u8", "y": "u8", "z": chance.choice(SORTS), "m": "mem"}
 
-    def variables(self, sort):
+    def variables(self, sort: str) -> list[str]:
         return [name for name, own in self.sorts.items() if own == sort]
 
-    def number(self, sort):
+    def number(self, sort: str) -> Term:
         top = (1 << WIDTHS[sort]) - 1
         return ("number", self.chance.choice([0, 1, 2, 3, top, top // 2, top // 2 + 1]))
 
-    def expression(self, sort, depth):
+    def expression(self, sort: str, depth: int) -> Term:
         chance = self.chance
         if sort == "mem":
             if depth and chance.random() < 0.4:
@@ -86,14 +92,14 @@ class Maker:
         own = chance.choice(list(WIDTHS))
         return ("convert", chance.choice("us") + sort[1:], own, self.named(own, depth - 1))
 
-    def named(self, sort, depth):
+    def named(self, sort: str, depth: int) -> Term:
         """An expression of the sort whose first name has this sort, or a number under a conversion to it."""
         known = self.variables(sort)
         if known:
             return ("variable", self.chance.choice(known)) if not depth else ("+", ("variable", self.chance.choice(known)), self.expression(sort, depth - 1))
         return ("convert", sort, "u8", ("variable", "x"))
 
-    def condition(self, depth):
+    def condition(self, depth: int) -> Term:
         chance = self.chance
         kind = chance.random()
         if depth and kind < 0.25:
@@ -106,13 +112,13 @@ class Maker:
         relation = chance.choice(["==", "!=", "<", "<=", ">", ">=", "slt", "sge"])
         return (relation, sort, self.named(sort, 0), self.expression(sort, 1))
 
-    def statement(self):
+    def statement(self) -> Term:
         if self.chance.random() < 0.12:
             return ("assert", self.condition(0))
         targets = self.chance.sample(list(self.sorts), self.chance.choice([1, 1, 1, 2]))
         return ("set", targets, [self.expression(self.sorts[it], 2) for it in targets])
 
-    def jump(self, names):
+    def jump(self, names: list[str]) -> Term:
         kind = self.chance.random()
         if kind < 0.35:
             return ("goto", self.chance.choice(names))
@@ -122,10 +128,10 @@ class Maker:
             return self.returning()
         return ("abort",)
 
-    def returning(self):
+    def returning(self) -> Term:
         return ("return", [self.named("u8", 1), ("variable", "m")])
 
-    def graph(self):
+    def graph(self) -> Graph:
         names = [f"b{k}" for k in range(self.chance.randint(2, 5))]
         blocks = [Block(it, [self.statement() for _ in range(self.chance.randint(0, 2))], self.jump(names)) for it in names]
         blocks[-1].jump = self.returning()
@@ -135,7 +141,7 @@ class Maker:
 # Changes
 
 
-def parts(term):
+def parts(term: Term) -> Iterator[tuple[Term, Put]]:
     """The expressions in a term, outermost first, with a function that puts another in the place of each."""
     yield term, lambda other: other
     for at, it in enumerate(term):
@@ -148,7 +154,7 @@ def parts(term):
                     yield inner, lambda other, at=at, it=it, place=place, put=put: term[:at] + ([*it[:place], put(other), *it[place + 1:]],) + term[at + 1:]
 
 
-def another_form(chance, term):
+def another_form(chance: random.Random, term: Term) -> Term:
     """The term with one part written in another way that has the same value."""
     places = [(it, put) for it, put in parts(term) if it[0] in ("+", "*", "-", "number")]
     if not places:
@@ -161,7 +167,7 @@ def another_form(chance, term):
     return put(("-", ("number", it[1]), ("number", 0)))
 
 
-def another_value(chance, term):
+def another_value(chance: random.Random, term: Term) -> Term:
     """The term with one number, operator or relation replaced."""
     places = [(it, put) for it, put in parts(term) if it[0] in ("+", "-", "*", "number", "==", "<", "slt", "<=")]
     if not places:
@@ -171,21 +177,21 @@ def another_value(chance, term):
     return put((other, *it[1:]) if other else ("number", it[1] ^ 1))
 
 
-def renamed(graph, names):
+def renamed(graph: Graph, names: dict[str, str]) -> Graph:
     """The graph with other names of blocks."""
     renamed_jump = lambda jump: tuple(names.get(it, it) if at and isinstance(it, str) else it for at, it in enumerate(jump))
     return Graph([replace(it, name=names.get(it.name, it.name), jump=renamed_jump(it.jump)) for it in graph.blocks])
 
 
-def fresh(graph):
+def fresh(graph: Graph) -> str:
     return next(f"c{k}" for k in itertools.count() if all(it.name != f"c{k}" for it in graph.blocks))
 
 
-def with_block(graph, at, *blocks):
+def with_block(graph: Graph, at: int, *blocks: Block) -> Graph:
     return Graph([*graph.blocks[:at], *blocks, *graph.blocks[at + 1:]])
 
 
-def split_block(chance, graph):
+def split_block(chance: random.Random, graph: Graph) -> Graph:
     """Parts a block in two."""
     at = chance.randrange(len(graph.blocks))
     block, name = graph.blocks[at], fresh(graph)
@@ -194,7 +200,7 @@ def split_block(chance, graph):
                       Block(name, block.statements[place:], block.jump))
 
 
-def threaded(chance, graph):
+def threaded(chance: random.Random, graph: Graph) -> Graph:
     """Copies a block into one that goes to it."""
     places = [at for at, it in enumerate(graph.blocks) if it.jump[0] == "goto"]
     if not places:
@@ -205,7 +211,7 @@ def threaded(chance, graph):
     return with_block(graph, at, replace(block, statements=block.statements + target.statements, jump=target.jump))
 
 
-def turned(chance, graph):
+def turned(chance: random.Random, graph: Graph) -> Graph:
     """Exchanges the targets of a branch, on the opposite condition."""
     places = [at for at, it in enumerate(graph.blocks) if it.jump[0] == "if"]
     if not places:
@@ -215,7 +221,7 @@ def turned(chance, graph):
     return with_block(graph, at, replace(graph.blocks[at], jump=("if", ("!", b), l, k)))
 
 
-def in_turn(chance, graph):
+def in_turn(chance: random.Random, graph: Graph) -> Graph:
     """Writes an assignment of two variables as two, where the second does not read the first; or sets a variable twice."""
     places = [(at, place) for at, it in enumerate(graph.blocks) for place, s in enumerate(it.statements) if s[0] == "set"]
     if not places:
@@ -233,8 +239,8 @@ def in_turn(chance, graph):
     return with_block(graph, at, replace(block, statements=[*block.statements[:place], *made, *block.statements[place + 1:]]))
 
 
-def rewritten(change):
-    def call(chance, graph):
+def rewritten(change: Change) -> Step:
+    def call(chance: random.Random, graph: Graph) -> Graph:
         at = chance.randrange(len(graph.blocks))
         block = graph.blocks[at]
         places = [k for k, it in enumerate(block.statements) if it[0] == "set"]
@@ -251,7 +257,7 @@ def rewritten(change):
     return call
 
 
-def without_statement(chance, graph):
+def without_statement(chance: random.Random, graph: Graph) -> Graph:
     """Drops a statement."""
     places = [(at, k) for at, it in enumerate(graph.blocks) for k in range(len(it.statements))]
     if not places:
@@ -261,7 +267,7 @@ def without_statement(chance, graph):
     return with_block(graph, at, replace(block, statements=block.statements[:k] + block.statements[k + 1:]))
 
 
-def retargeted(chance, graph):
+def retargeted(chance: random.Random, graph: Graph) -> Graph:
     """Sends a jump elsewhere."""
     at = chance.randrange(len(graph.blocks))
     block, names = graph.blocks[at], [it.name for it in graph.blocks]
@@ -272,11 +278,11 @@ def retargeted(chance, graph):
     return graph
 
 
-KEEPING = [split_block, threaded, turned, in_turn, rewritten(another_form)]
-BREAKING = [rewritten(another_value), without_statement, retargeted]
+KEEPING: list[Step] = [split_block, threaded, turned, in_turn, rewritten(another_form)]
+BREAKING: list[Step] = [rewritten(another_value), without_statement, retargeted]
 
 
-def changed(chance, graph):
+def changed(chance: random.Random, graph: Graph) -> Graph:
     for _ in range(chance.randint(1, 3)):
         graph = chance.choice(KEEPING)(chance, graph)
     if chance.random() < 0.35:
@@ -287,7 +293,7 @@ def changed(chance, graph):
 # Texts
 
 
-def expression_text(term):
+def expression_text(term: Term) -> str:
     kind = term[0]
     if kind in ("number", "variable"):
         return str(term[1])
@@ -298,7 +304,7 @@ def expression_text(term):
     return f"({expression_text(term[1])} {kind} {expression_text(term[2])})"
 
 
-def condition_text(b):
+def condition_text(b: Term) -> str:
     kind = b[0]
     if kind == "!":
         return f"!({condition_text(b[1])})"
@@ -308,13 +314,13 @@ def condition_text(b):
     return f"{kind}({left}, {right})" if kind.startswith("s") else f"{left} {kind} {right}"
 
 
-def statement_text(it):
+def statement_text(it: Term) -> str:
     if it[0] == "assert":
         return f"assert {condition_text(it[1])};"
     return f"{', '.join(it[1])} := {', '.join(expression_text(value) for value in it[2])};"
 
 
-def jump_text(it):
+def jump_text(it: Term) -> str:
     if it[0] == "if":
         return f"if {condition_text(it[1])} goto {it[2]} else {it[3]};"
     if it[0] == "return":
@@ -322,12 +328,12 @@ def jump_text(it):
     return f"{' '.join(it)};"
 
 
-def graph_text(name, graph):
+def graph_text(name: str, graph: Graph) -> str:
     lines = [f"  {'cut ' if it.cut else ''}block {it.name} {{ {' '.join([*map(statement_text, it.statements), jump_text(it.jump)])} }}" for it in graph.blocks]
     return "\n".join([f"graph {name} {{", *lines, "}"])
 
 
-def file_text(sorts, before, after, words):
+def file_text(sorts: dict[str, str], before: Graph, after: Graph, words: list[str]) -> str:
     functions = [f"fun {result} {name}({', '.join(own)});" for name, (result, own) in FUNCTIONS.items()]
     variables = [f"var {sort} {name};" for name, sort in sorts.items()]
     return "\n".join(["sort mem;", *functions, *variables, graph_text("before", before), graph_text("after", after), *words, "equal before, after;", ""])
@@ -339,16 +345,16 @@ def file_text(sorts, before, after, words):
 class Interpretation:
     """Gives each function a function: a value is the sum of a seed and of what it is of. Opaque values are few, so that some are equal."""
 
-    def __init__(self, seed):
+    def __init__(self, seed: float) -> None:
         self.seed = seed
 
-    def call(self, name, values):
+    def call(self, name: str, values: list[int]) -> int:
         result = FUNCTIONS[name][0]
         drawn = hashlib.blake2b(repr((self.seed, name, values)).encode(), digest_size=2).digest()
         return int.from_bytes(drawn, "big") % (1 << WIDTHS[result] if result in WIDTHS else 3)
 
 
-def value_of(world, state, sorts, sort, term):
+def value_of(world: Interpretation, state: dict[str, int], sorts: dict[str, str], sort: str, term: Term) -> int:
     kind = term[0]
     if kind == "number":
         return term[1]
@@ -364,12 +370,12 @@ def value_of(world, state, sorts, sort, term):
     return {"+": left + right, "-": left - right, "*": left * right}[kind] % (1 << WIDTHS[sort])
 
 
-def signed(value, sort):
+def signed(value: int, sort: str) -> int:
     half = 1 << WIDTHS[sort] - 1
     return value - 2 * half if value >= half else value
 
 
-def holds(world, state, sorts, b):
+def holds(world: Interpretation, state: dict[str, int], sorts: dict[str, str], b: Term) -> bool:
     kind = b[0]
     if kind == "!":
         return not holds(world, state, sorts, b[1])
@@ -383,7 +389,7 @@ def holds(world, state, sorts, b):
     return {"==": left == right, "!=": left != right, "<": left < right, "<=": left <= right, ">": left > right, ">=": left >= right}[kind]
 
 
-def run(world, state, sorts, graph, most=BLOCKS_OF_A_RUN):
+def run(world: Interpretation, state: dict[str, int], sorts: dict[str, str], graph: Graph, most: int = BLOCKS_OF_A_RUN) -> Optional[tuple]:
     """Returns ("returns", values), ("stuck",), or None for a run that does not end within some blocks."""
     state, block = dict(state), graph.blocks[0]
     for _ in range(most):
@@ -402,7 +408,7 @@ def run(world, state, sorts, graph, most=BLOCKS_OF_A_RUN):
     return None
 
 
-def differing_run(chance, sorts, before, after):
+def differing_run(chance: random.Random, sorts: dict[str, str], before: Graph, after: Graph) -> tuple[Optional[tuple], int]:
     """Returns the first of some random runs in which the graphs differ, if any, and how many ended on both sides."""
     ended = 0
     for _ in range(RUNS):
@@ -423,7 +429,7 @@ def differing_run(chance, sorts, before, after):
 # Pairs
 
 
-def pair(chance):
+def pair(chance: random.Random) -> tuple[dict[str, str], Graph, Graph, list[str]]:
     maker = Maker(chance)
     graph = maker.graph()
     before, after = (changed(chance, graph) for _ in range(2))
@@ -434,7 +440,7 @@ def pair(chance):
     return maker.sorts, before, after, words
 
 
-def answer_of(kat, text, folder):
+def answer_of(kat: str, text: str, folder: Path) -> str:
     """Returns what `flow` and `decide` answer: a refusal, or by the status of `decide`."""
     file, problem = folder / "pair.flow", folder / "pair.kat"
     file.write_text(text)
@@ -449,7 +455,7 @@ def answer_of(kat, text, folder):
     return {0: "equal", 1: "different"}.get(decide.returncode, f"status {decide.returncode}")
 
 
-def main():
+def main() -> int:
     reader = argparse.ArgumentParser(description="Tries `kat flow` and `kat decide` on random pairs of flow graphs.")
     reader.add_argument("--kat", default=str(TOP / "kat"))
     reader.add_argument("--pairs", type=int, default=20_000)
@@ -459,7 +465,8 @@ def main():
     program = built(words.kat)
     if words.keep:
         words.keep.mkdir(parents=True, exist_ok=True)
-    answers, runs, faults, apart = collections.Counter(), 0, 0, 0
+    answers: collections.Counter[str] = collections.Counter()
+    runs, faults, apart = 0, 0, 0
     with tempfile.TemporaryDirectory() as folder:
         for number in range(words.pairs):
             chance = random.Random(f"{words.seed} {number}")

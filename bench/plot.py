@@ -19,6 +19,8 @@ from pathlib import Path
 import families
 
 HERE = Path(__file__).resolve().parent
+# The sizes of each family with the seconds of `decide` and of `check`.
+Points = dict[str, list[tuple[int, float, float]]]
 # The sizes at which a family may be measured; 48 tests or actions are the limit of a problem.
 FEW = [1, 2, 3, 4, 5, 6, 8, 10, 12]
 NARROW = [2, 4, 8, 16, 24, 32, 40, 47]
@@ -31,7 +33,7 @@ SIZES = {
 }
 
 
-def measured(program, name, runs, seconds, folder):
+def measured(program: str, name: str, runs: int, seconds: float, folder: Path) -> list[tuple[int, float, float]]:
     """The sizes of a family with the seconds of `decide` and of `check`."""
     points = []
     for size in SIZES[name]:
@@ -44,13 +46,13 @@ def measured(program, name, runs, seconds, folder):
     return points
 
 
-def table(points):
+def table(points: Points) -> str:
     lines = ["| family | n | decide s | check s |", "|---|---|---|---|"]
     lines += [f"| {name} | {size} | {decide:.3f} | {check:.3f} |" for name, of in points.items() for size, decide, check in of]
     return "\n".join(lines)
 
 
-def draw(points, output):
+def draw(points: Points, output: str) -> bool:
     """One picture of all families; `False` where matplotlib is not installed."""
     try:
         import matplotlib
@@ -79,7 +81,7 @@ def draw(points, output):
     return True
 
 
-def main():
+def main() -> int:
     reader = argparse.ArgumentParser(description="Draws how families of problems grow.")
     reader.add_argument("--kat", default=str(families.TOP / "kat"))
     reader.add_argument("--runs", type=int, default=3)

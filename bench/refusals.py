@@ -51,12 +51,12 @@ __attribute__((destructor)) static void tell(void) {
 """
 
 
-def example(name):
+def example(name: str) -> str:
     return (EXAMPLES / name).read_text()
 
 
 # The words of each call, and its files.
-CALLS = {
+CALLS: dict[str, tuple[list[str], dict[str, str]]] = {
     "different": (["decide", "f"], {"f": "test b, c; goal equal [b && c], b;\n"}),
     "triple": (["decide", "f"], {"f": example("holds/triple.kat")}),
     "program": (["decide", "f"], {"f": example("holds/wrapped-around.kat")}),
@@ -84,26 +84,26 @@ CALLS = {
 class Refuser:
     """Runs the program with one request refused."""
 
-    def __init__(self, program, folder):
+    def __init__(self, program: str, folder: Path) -> None:
         self.program, self.folder, self.told = program, folder, folder / "requests"
         self.library = folder / "refusing.so"
         source = folder / "refusing.c"
         source.write_text(LIBRARY)
         subprocess.run([os.environ.get("CC", "cc"), "-shared", "-fPIC", "-o", self.library, source], check=True)
 
-    def run(self, words, request):
+    def run(self, words: list[str], request: int) -> tuple[int, bytes]:
         """The status and the output where this request is refused, or none where it is 0."""
         how = {"LD_PRELOAD": str(self.library), "REQUESTS": str(self.told), "REFUSED": str(request)}
         ended = subprocess.run([self.program, *words], cwd=self.folder, env=how, stdin=subprocess.DEVNULL,
                                stdout=subprocess.PIPE, timeout=SECONDS)
         return ended.returncode, ended.stdout
 
-    def requests(self):
+    def requests(self) -> int:
         """How many requests the last run made; none are told where the library does not reach the program."""
         return int(self.told.read_text()) if self.told.is_file() else 0
 
 
-def refuse(refuser, name):
+def refuse(refuser: Refuser, name: str) -> bool:
     """Whether each run of the call ends as it may."""
     words, files = CALLS[name]
     for file, text in files.items():
@@ -113,7 +113,7 @@ def refuse(refuser, name):
     requests = refuser.requests()
     if requests == 0:
         sys.exit("the program's requests for memory do not reach the library")
-    ends = Counter()
+    ends: Counter[str] = Counter()
     for request in range(1, requests + 1):
         found = refuser.run(words, request)
         end = "none" if found == (NO_MEMORY, b"") else "own" if found == own else "other"
@@ -125,7 +125,7 @@ def refuse(refuser, name):
     return ends["other"] == 0
 
 
-def main():
+def main() -> int:
     reader = argparse.ArgumentParser(description="Refuses each request for memory in turn.")
     reader.add_argument("--kat", default=str(TOP / "kat"))
     reader.add_argument("call", nargs="*")

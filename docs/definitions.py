@@ -18,7 +18,7 @@ PAGE = TOP / "docs/definitions.md"
 DEFINITION = re.compile(r"(?:abbrev|opaque|unfoldable) pub (\S+)|pub (?:abbrev|opaque|record|data) (\S+)")
 
 
-def definitions(text):
+def definitions(text: str) -> tuple[str, list[tuple[str, str]]]:
     """The first comment of a file, and its definitions as pairs of a name and the comment over it."""
     first, comment, found = None, [], []
     for line in text.splitlines():
@@ -34,7 +34,7 @@ def definitions(text):
     return first or "", found
 
 
-def listed(crate):
+def listed(crate: str) -> list[str]:
     """The lines of a crate."""
     lines = [f"## {crate}", ""]
     for path in sorted((TOP / "crates" / crate / "specs").glob("*.antt")):
@@ -45,7 +45,7 @@ def listed(crate):
     return lines
 
 
-def lost(page):
+def lost(page: str) -> list[str]:
     """The names on a page, written in backquotes, that no file of specs/ has."""
     known = set()
     for path in (TOP / "crates").glob("*/specs/*.antt"):
@@ -54,7 +54,7 @@ def lost(page):
     return sorted(set(re.findall(r"`([A-Za-z_]\w*)`", page)) - known)
 
 
-def main(words):
+def main(words: list[str]) -> int:
     if words == ["--check"]:
         names = lost(PAGE.read_text())
         if names:

@@ -19,7 +19,8 @@ from crates import TOP
 
 DOT, SVG = TOP / "docs/rooms.dot", TOP / "docs/rooms.svg"
 # The crates of each room, and the crates that each crate stands on.
-Rooms, Below = dict[str, list[str]], dict[str, list[str]]
+Rooms = dict[str, list[str]]
+Below = dict[str, list[str]]
 
 
 def tables_of(found: list[crates.Crate]) -> tuple[Rooms, Below]:

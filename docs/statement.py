@@ -16,10 +16,14 @@ import re
 import sys
 from dataclasses import dataclass, field
 from pathlib import Path
+from typing import Iterable, Iterator, Optional
 
 TOP = Path(__file__).resolve().parent.parent
 PAGE = TOP / "docs/statement.md"
 ON_PAGE = 5
+# A module and a name in it; what the names of a file stand for.
+Name = tuple[str, str]
+Imported = dict[str, Name]
 MOST_LINES = 350
 
 
@@ -30,13 +34,13 @@ class Part:
     title: str
     about: str
     # file below crates/, function, and the names of its clauses; no names stand for all
-    clauses: list = field(default_factory=list)
+    clauses: list[tuple[str, str, list[str]]] = field(default_factory=list)
     # files below crates/ whose public traits' clauses belong to the part
-    traits: list = field(default_factory=list)
+    traits: list[str] = field(default_factory=list)
     # (crate, module, name) of definitions with which the part begins
-    names: list = field(default_factory=list)
+    names: list[tuple[str, str, str]] = field(default_factory=list)
     # names that a later part defines
-    later: tuple = ()
+    later: tuple[str, ...] = ()
 
 
 PARTS = [
@@ -89,7 +93,7 @@ PASSED = re.compile(r"(?m)^pub use (Rattle\.\w+\.specs\.[\w.]+)$")
 WORD = re.compile(r"[\s\[\](){},;.λ×]+")
 
 
-def imports(text):
+def imports(text: str) -> Imported:
     """What each name of a file stands for: a module and the name there."""
     found = {}
     for module, items in USE.findall(text):
@@ -99,7 +103,7 @@ def imports(text):
     return found
 
 
-def passed_modules():
+def passed_modules() -> dict[str, str]:
     """What the modules stand for that the crates' specs/Lib.antt pass on from the crates below."""
     found = {}
     for path in TOP.glob("crates/*/specs/Lib.antt"):
@@ -108,7 +112,7 @@ def passed_modules():
     return found
 
 
-def words(text):
+def words(text: str) -> list[str]:
     """The words of a definition or a clause in their order, without its comments and texts."""
     text = re.sub(r"(?m)^\s*--.*$", " ", text)
     parts = dict.fromkeys(filter(None, WORD.split(re.sub(r'"[^"]*"', " ", text))))
@@ -124,17 +128,19 @@ class Definition:
     path: Path
     line: int
     head: str
-    lines: list
+    lines: list[str]
 
-    def text(self):
+    def text(self) -> str:
         return "\n".join(self.lines).strip("\n")
 
 
 class Specs:
     """All definitions of the crates' specs/, by module and name, and what the names of each module stand for."""
 
-    def __init__(self):
-        self.found, self.imported, self.kit = {}, {}, set()
+    def __init__(self) -> None:
+        self.found: dict[Name, Definition] = {}
+        self.imported: dict[str, Imported] = {}
+        self.kit: set[Name] = set()
         self.passed = passed_modules()
         for path in sorted(TOP.glob("crates/*/specs/**/*.antt")):
             below = path.relative_to(TOP / "crates").with_suffix("").parts
@@ -143,7 +149,7 @@ class Specs:
             crate, _, *below = path.relative_to(TOP / "crates").with_suffix("").parts
             self.read_constants(path, ".".join(["Rattle", crate, "specs.declared", *below, "TheConstants"]))
 
-    def read_constants(self, path, module):
+    def read_constants(self, path: Path, module: str) -> None:
         text = path.read_text()
         self.imported[module] = {}
         for constant in CONSTANT.finditer(text):
@@ -151,7 +157,7 @@ class Specs:
             number = text.count("\n", 0, constant.start(2)) + 1
             self.found[module, name] = Definition(module, name, path, number, line, [*comment.splitlines(), line])
 
-    def read(self, path, module):
+    def read(self, path: Path, module: str) -> None:
         text = path.read_text()
         self.imported[module] = imports(text)
         now, comment = None, []
@@ -176,13 +182,13 @@ class Specs:
                 if constructor and " data " in f" {now.head} ":
                     self.found.setdefault((module, constructor[1]), now)
 
-    def home(self, known):
+    def home(self, known: Optional[Name]) -> Optional[Name]:
         """Where a name is defined: a crate may pass on modules of the crates below it."""
         while known and known[0] in self.passed:
             known = self.passed[known[0]], known[1]
         return known
 
-    def named(self, parts, module, imported):
+    def named(self, parts: Iterable[str], module: str, imported: Imported) -> Iterator[Definition]:
         """The definitions that these words name in a file of that module."""
         for part in parts:
             known = self.home(imported.get(part))
@@ -192,11 +198,11 @@ class Specs:
             if found:
                 yield found
 
-    def gather(self, roots, later, placed):
+    def gather(self, roots: Iterable[Definition], later: tuple[str, ...], placed: set[Definition]) -> list[Definition]:
         """The definitions behind the roots that no earlier part has, each after those that it needs."""
         order = []
 
-        def place(it):
+        def place(it: Definition) -> None:
             if it in placed or it.name in later:
                 return
             placed.add(it)
@@ -209,7 +215,7 @@ class Specs:
         return order
 
 
-def braces(text, start):
+def braces(text: str, start: int) -> int:
     """The end of the braces that open at start."""
     depth = 0
     for at in range(start, len(text)):
@@ -219,7 +225,7 @@ def braces(text, start):
     raise ValueError("braces that do not end")
 
 
-def clauses_of(text, start, wanted):
+def clauses_of(text: str, start: int, wanted: list[str]) -> list[str]:
     """The signature of a function and those of its clauses that are wanted, as they stand in the source."""
     at, head, taken = start, None, []
     clause = re.compile(r"[ \t]*\b(?:requires|ensures)\b\s*(\w*)\s*\{|;|\{")
@@ -233,11 +239,11 @@ def clauses_of(text, start, wanted):
     return [head, *taken]
 
 
-def without_comments(text):
+def without_comments(text: str) -> str:
     return re.sub(r"(?m)^\s*//.*\n", "", text)
 
 
-def function(path, name, wanted):
+def function(path: str, name: str, wanted: list[str]) -> tuple[list[str], Imported]:
     """A function's signature with its clauses, and what the names of its file stand for."""
     text = (TOP / "crates" / path).read_text()
     plain = without_comments(text)
@@ -245,7 +251,7 @@ def function(path, name, wanted):
     return clauses_of(plain, start.start(), wanted), imports(text)
 
 
-def traits(path):
+def traits(path: str) -> tuple[list[str], Imported]:
     """The methods of the public traits of a file, with their clauses."""
     text = (TOP / "crates" / path).read_text()
     plain = without_comments(text)
@@ -256,12 +262,12 @@ def traits(path):
     return found, imports(text)
 
 
-def counted(definitions):
+def counted(definitions: list[Definition]) -> tuple[int, int]:
     lines = [line for it in definitions for line in it.lines if line.strip()]
     return len(lines), sum(not line.strip().startswith(("--", "///")) for line in lines)
 
 
-def shown(definitions):
+def shown(definitions: list[Definition]) -> list[str]:
     """The definitions as text of the page, those of one file that follow one another in one block."""
     lines, path = [], None
     for it in definitions:
@@ -275,7 +281,7 @@ def shown(definitions):
     return [*lines, "```", ""] if path else lines
 
 
-def roots_of(part, specs, lines):
+def roots_of(part: Part, specs: Specs, lines: list[str]) -> list[Definition]:
     """The definitions that the part's clauses name; the clauses themselves are added to the lines."""
     roots = [specs.found[specs.home((f"Rattle.{crate}.specs.{module}", name))] for crate, module, name in part.names]
     asked = [function(*clause) for clause in part.clauses] + [traits(path) for path in part.traits]
@@ -285,7 +291,7 @@ def roots_of(part, specs, lines):
     return roots
 
 
-def doubles(definitions):
+def doubles(definitions: list[Definition]) -> dict[str, list[Path]]:
     """The names that have two or more of these definitions, each with its files."""
     found = {}
     for it in definitions:
@@ -297,7 +303,7 @@ def doubles(definitions):
     return {name: list(paths) for name, paths in sorted(found.items()) if len(paths) > 1}
 
 
-def parts(specs):
+def parts(specs: Specs) -> Iterator[tuple[list[str], int, list[Definition]]]:
     """Each part as lines, with the number of its lines of definitions, and its definitions."""
     placed = set()
     for number, part in enumerate(PARTS, 1):
@@ -309,7 +315,7 @@ def parts(specs):
         yield lines, total, gathered
 
 
-def page():
+def page() -> tuple[str, int]:
     """The page, and the lines of definitions of its first part."""
     specs = Specs()
     found = [part for part, _ in zip(parts(specs), range(ON_PAGE))]
@@ -337,14 +343,14 @@ def page():
     return "\n".join(lines), found[0][1]
 
 
-def print_part(word):
+def print_part(word: str) -> None:
     if not word.isdecimal() or not 1 <= int(word) <= len(PARTS):
         sys.exit(f"docs/statement.py: the parts are 1 to {len(PARTS)}")
     *_, (lines, _, _) = (part for part, _ in zip(parts(Specs()), range(int(word))))
     print("\n".join(lines))
 
 
-def check():
+def check() -> None:
     text, first = page()
     if first > MOST_LINES:
         sys.exit(f"docs/statement.md: the first part has {first} lines of definitions, more than {MOST_LINES}")
@@ -354,7 +360,7 @@ def check():
         sys.exit("docs/statement.md is not what the sources give: run docs/statement.py")
 
 
-def main(words):
+def main(words: list[str]) -> None:
     if words == ["--check"]:
         check()
     elif len(words) == 2 and words[0] == "--part":

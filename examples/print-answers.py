@@ -13,7 +13,7 @@ from pathlib import Path
 KAT = Path(__file__).resolve().parent.parent / "kat"
 
 
-def main():
+def main() -> None:
     for file in sys.argv[1:]:
         ended = subprocess.run([KAT, "decide", file, "--json"], stdout=subprocess.PIPE)
         if ended.returncode in (0, 1):

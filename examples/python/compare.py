@@ -13,6 +13,7 @@ import ctypes
 import sys
 from concurrent.futures import ThreadPoolExecutor
 from pathlib import Path
+from typing import Iterator
 
 import kat
 
@@ -21,24 +22,24 @@ STATUSES = {"holds": 0, "fails": 1, "refused": 2}
 ACCEPTED = [b"accepted equal\n", b"accepted different\n"]
 
 
-def first_of(pattern):
+def first_of(pattern: str) -> tuple[Path, Path]:
     """The first example of a kind, and its folder with the name up to its first dot."""
     found = sorted(EXAMPLES.glob(pattern))[0]
     return found, found.with_name(found.name.partition(".")[0])
 
 
-def read(path):
+def read(path: Path) -> bytes:
     return path.read_bytes()
 
 
-def decides(prover, problem, status):
+def decides(prover: kat.Kat, problem: Path, status: int) -> bool:
     text, expected = read(problem), read(problem.with_suffix(".out"))
     if prover.decide(text) != (status, expected):
         return False
     return status == 2 or prover.check(text, expected) == (status, ACCEPTED[status])
 
 
-def others(prover):
+def others(prover: kat.Kat) -> Iterator[tuple[str, bool]]:
     """Each of the other calls, and whether it gives what an example says of it."""
     batch, _ = first_of("batches/*.kat")
     yield "batch", prover.batch(read(batch))[1] == read(batch.with_suffix(".out"))
@@ -73,14 +74,14 @@ def others(prover):
     yield "decide_json", status == 0 and line.count(b"\n") == 1 and line.startswith(b"{")
 
 
-def writes_nothing(shared_object):
+def writes_nothing(shared_object: str) -> bool:
     """A call with one byte too few leaves the memory as it was, and one with enough leaves what comes after the output."""
     text, expected = read(EXAMPLES / "holds/twice.kat"), read(EXAMPLES / "holds/twice.out")
     decide = ctypes.CDLL(shared_object).kat_decide
     decide.restype = ctypes.c_uint8
     needed = ctypes.c_size_t()
 
-    def call(room):
+    def call(room: int) -> tuple[int, int, bytes]:
         memory = ctypes.create_string_buffer(b"#" * (len(expected) + 8), len(expected) + 8)
         status = decide(text, ctypes.c_size_t(len(text)), memory, ctypes.c_size_t(room), ctypes.byref(needed))
         return status, needed.value, memory.raw
@@ -89,7 +90,7 @@ def writes_nothing(shared_object):
     return call(len(expected) - 1) == (9, len(expected), before) and call(len(expected)) == (0, len(expected), expected + b"#" * 8)
 
 
-def main():
+def main() -> int:
     shared_object = str(Path(sys.argv[1]).resolve())
     prover = kat.Kat(shared_object)
     problems = [(it, status) for folder, status in STATUSES.items() for it in sorted((EXAMPLES / folder).glob("*.kat"))]
