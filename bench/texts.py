@@ -46,6 +46,20 @@ def condition(n: int) -> str:
     return f"test b;\ngoal triple {{{'||'.join([f'{chr(40) * 198}b{chr(41) * 198}'] * n)}}} 1 {{b}};\n"
 
 
+def stars(n: int) -> str:
+    """Any number of the first action, and a product of n stars of 48 actions in turn, which has n moves at its start."""
+    letters = [f"a{k}" for k in range(48)]
+    product = ".".join(f"{letters[k % 48]}*" for k in range(n))
+    return f"action {', '.join(letters)};\ngoal equal a0*, {product};\n"
+
+
+def pairs(n: int) -> str:
+    """The first of n products of two actions, and the sum of them all."""
+    letters = [f"a{k}" for k in range(48)]
+    products = [f"{letters[k % 48]}.{letters[k // 48 % 48]}" for k in range(n)]
+    return f"action {', '.join(letters)};\ngoal equal {products[0]}, {' + '.join(products)};\n"
+
+
 # Programs, two of half the length each, since one may have 100,000 nodes; the last is run
 
 def programs(before: str, statements: str) -> str:
@@ -279,6 +293,8 @@ CASES: dict[str, tuple[str, Callable[[int], Union[str, tuple[str, str]]], int]] 
     "parentheses": ("decide", parentheses, 2_621),
     "names": ("decide", names, 33_333),
     "condition": ("decide", condition, 2_627),
+    "stars": ("decide", stars, 3_333),
+    "pairs": ("decide", pairs, 2_304),
     "statements": ("run", statements, 174_000),
     "else-if": ("run", chains, 61_000),
     "blocks": ("run", blocks, 87_000),
@@ -326,7 +342,7 @@ def measure(program: str, name: str, size: int, folder: Path, runs: int) -> list
     found = [seconds(program, words, folder / "said") for _ in range(runs)]
     most = max(peak(program, words, folder / "said") for _ in range(runs))
     return [name, f"{size:,}", f"{len(evidence or problem):,}", command, str(found[0][0]),
-            f"{min(it for _, it in found):.2f}", f"{most:.0f}" if most else "-"]
+            f"{min(it for _, it in found):.2f}", f"{most:.0f}" if most >= 0.5 else "-"]
 
 
 def main() -> None:
