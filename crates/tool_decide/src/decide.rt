@@ -38,11 +38,11 @@ pub(crate) fn know_numbers(problem: &Problem, evidence: &Evidence)
     ensures { IsEvidence evidence.now }
 {
     // A problem has at most 48 tests and 48 actions, and a certificate in memory has fewer than 2^64 nodes.
-    let _known = problem.tests();
+    let _ = problem.tests();
     match evidence {
         Evidence::Equal(cert) => {
-            let _known = count(cert.test_nodes());
-            let _known = count(cert.term_nodes());
+            let _ = count(cert.test_nodes());
+            let _ = count(cert.term_nodes());
         }
         Evidence::Different(_) => {}
     }

@@ -26,8 +26,8 @@ fn know_numbers(problem: &Problem, notes: &Notes)
     ensures { AreNarrowNotes notes.now }
 {
     // A problem has at most 48 tests, and notes in memory have fewer than 2^64 nodes.
-    let _known = problem.tests();
-    let _known = count(notes.nodes());
+    let _ = problem.tests();
+    let _ = count(notes.nodes());
 }
 
 // Returns the text of notes over the tests of a problem, which reads back as the same notes.

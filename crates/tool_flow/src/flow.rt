@@ -93,7 +93,7 @@ fn is_printable(file: &FlowFile, found: &FlowAbstract, text: &[u8]) -> bool
     ensures no { result ≡ false → IsPrintable (file_parts file.now) (flow_problem_of found.now) → ⊥ }
 {
     // Shows that the problem is within the limits of a problem.
-    let _known = found.problem.left();
+    let _ = found.problem.left();
     text.len() <= MAX_TEXT_BYTES && are_shallow(&found.problem)
 }
 

@@ -80,7 +80,7 @@ fn translation(alloc: Global, file: &GkatFile) -> Result<Vec<u8>, NoMemory>
 fn know_names(file: &GkatFile)
     ensures { IsWellFormed file.now.scope }
 {
-    let _known = file.scope.find("t0");
+    let _ = file.scope.find("t0");
 }
 
 // Reads a text of GKAT. A text with a first fault is refused with the line of the fault.

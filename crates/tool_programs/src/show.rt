@@ -17,8 +17,8 @@ fn know_limits(file: &File, shown: &Abstract)
     ensures well_formed { IsWellFormed file.now.scope }
     ensures problem { IsProblem shown.now.problem }
 {
-    let _known = file.scope.find("t0");
-    let _known = shown.problem.left();
+    let _ = file.scope.find("t0");
+    let _ = shown.problem.left();
 }
 
 /// `show` FILE

@@ -154,7 +154,7 @@ fn cert_over(
     ensures { IfOk result (IsCertOf store.now style pairs.now) }
 {
     // The proof needs the rules of the store.
-    let _known = store.count();
+    let _ = store.count();
     let test_nodes = test_nodes(alloc, store, tests)?;
     let term_nodes = term_nodes(alloc, store, tests, terms)?;
     let pairs = number_pairs(alloc, tests, terms, pairs)?;

@@ -40,12 +40,12 @@ pub fn closed_ids(store: &mut Store, closed: &Closed) -> Result<ClosedIds, NoMem
     ensures store { AreNodes store.new }
 {
     // The proof needs the rules of the store.
-    let _known = store.count();
+    let _ = store.count();
     let left = store.of_tree(&closed.left)?;
     let right = store.of_tree(&closed.right)?;
     let universal = universal_id(store, closed)?;
     // It needs them again if no universal term was added.
-    let _known = store.count();
+    let _ = store.count();
     Ok(ClosedIds {
         left,
         right,

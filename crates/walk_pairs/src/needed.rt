@@ -212,7 +212,7 @@ pub(crate) fn needed_tests(
     ensures { IfOk result (λ s. (named : List ℕ) × NamesAllTests store.now terms.now.keys pairs.now named × AreParts (TestNode ℕ) store.now.tests test_parts named s.keys) }
 {
     // The proof needs the rules of the store.
-    let _known = store.count();
+    let _ = store.count();
     let mut named = tests_of(alloc, store, terms)?;
     add_pair_tests(&mut named, pairs)?;
     let all = with_test_parts(alloc, store, named)?;

@@ -192,7 +192,7 @@ impl TestTable {
         ensures kept { KeepsFunctions diagrams.old diagrams.new }
     {
         // The proof needs the bound on the number of tests.
-        let _known = diagrams.tests();
+        let _count = diagrams.tests();
         let Some(test) = diagrams.top(id) else {
             let value = id == diagrams.constant(true);
             return constant(store, value);

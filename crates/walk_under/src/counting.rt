@@ -110,7 +110,7 @@ pub(crate) fn short_hyps(
     ensures kept { Grows store.old store.new }
 {
     // The proof needs the limits of the problem.
-    let _known = problem.tests();
+    let _tests = problem.tests();
     let mut shorts = Vec::new(alloc);
     for hyp in problem.hyps() {
         if is_short(hyp) {

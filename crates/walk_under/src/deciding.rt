@@ -386,7 +386,7 @@ fn outcome_of(alloc: Global, store: &mut Store, problem: &Problem) -> Result<Out
     let tests = problem.tests();
     let sides = side_ids(alloc, store, problem)?;
     // The proof needs the invariants of the store.
-    let _known = store.count();
+    let _ = store.count();
     let mut walk = TestedWorklist::new(alloc, tests)?;
     let found = string_of_walks(alloc, store, problem, &mut walk, &sides)?;
     match found {
@@ -410,7 +410,7 @@ fn evidence_of(
 {
     let pairs = walk.merge(alloc, store)?;
     // The proof needs the invariants of the store.
-    let _known = store.count();
+    let _ = store.count();
     let cert = cert_of(alloc, store, Style::Under, &pairs)?;
     Ok(Evidence::Equal(cert))
 }

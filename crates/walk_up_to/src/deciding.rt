@@ -39,7 +39,7 @@ fn walk_of(
     ensures store { AreNodes store.new }
 {
     // The proof needs the invariants of the store.
-    let _known = store.count();
+    let _ = store.count();
     let closed = eliminate(alloc, problem)?;
     let sides = closed_ids(store, &closed)?;
     let tests = problem.tests();
@@ -73,7 +73,7 @@ fn evidence_of(
 {
     let found = walk.run(alloc, store, problem);
     // The proof needs the invariants of the store, also when out of memory.
-    let _known = store.count();
+    let _ = store.count();
     match found? {
         Some(difference) => {
             let string = string_to(alloc, walk.pairs(), difference.place, difference.atom)?;

@@ -1,0 +1,9 @@
+//! The law of pieces. The function does nothing: its contract is the law.
+ghost use Rattle.flow_pieces.specs.Laws.{PiecesAreEnough};
+
+/// If the entries of two graphs are matched, and each piece of the matches holds under every interpretation, both graphs
+/// return the same under every interpretation, from every state (cut points: Floyd, *Assigning meanings to programs*,
+/// 1967; as a bisimulation of two programs Necula, *Translation validation for an optimizing compiler*, 2000).
+pub fn pieces_are_enough()
+    ensures { PiecesAreEnough }
+{}

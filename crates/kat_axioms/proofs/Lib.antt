@@ -1,0 +1,16 @@
+pub mod Orders
+pub mod Paths
+pub mod Terms
+pub mod Atoms
+pub mod Derivatives
+pub mod Prefixes
+pub mod ReachedPairs
+pub mod Automata
+pub mod Completeness
+pub mod Chains
+pub mod CompleteChains
+pub mod Languages
+pub mod BooleanValues
+pub mod Validity
+pub mod FreeAlgebra
+pub mod RelationAlgebras

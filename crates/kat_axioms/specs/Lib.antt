@@ -1,0 +1,4 @@
+pub mod Algebras
+pub mod Meanings
+pub mod Derivations
+pub mod Laws
