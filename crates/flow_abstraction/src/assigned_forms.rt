@@ -93,7 +93,7 @@ pub(crate) fn forms_after(
 ) -> Result<Vec<FlowForm>, NoMemory>
     ensures { IfOk result (λ list. map form_tree list.items ≡ forms_after_set sorts.now (map set_tree sets.now)) }
 {
-    let _count = sorts.len();
+    let _known = sorts.len();
     let mut list = Vec::new(alloc);
     push_forms(alloc, sorts, 0, sets, &mut list)?;
     Ok(list)

@@ -217,7 +217,7 @@ fn add_assignment_facts(
 {
     let forms = forms_after(setting.alloc, setting.sorts, sets)?;
     let tests = setting.tests;
-    let _count = tests.len();
+    let _known = tests.len();
     let action = Assignment {
         number,
         sets,
@@ -287,7 +287,7 @@ pub(crate) fn add_assignments_facts(
 ) -> Result<(), NoMemory>
     ensures { OnOk result (map flow_hypothesis list.new.items ≡ capped MAX_HYPS (map flow_hypothesis list.old.items) (flat_map (facts_of_action sorts.now (map comparison_tree tests.now)) (enumerate_from 0 (map flow_action actions.now)))) }
 {
-    let _count = actions.len();
+    let _known = actions.len();
     let setting = Setting {
         alloc,
         sorts,

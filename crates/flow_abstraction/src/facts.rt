@@ -110,7 +110,7 @@ fn add_equalities(
 ) -> Result<(), NoMemory>
     ensures { OnOk result (map flow_hypothesis list.new.items ≡ capped MAX_HYPS (map flow_hypothesis list.old.items) (equalities (enumerate_from 0 (map comparison_tree tests.now)) (first.now.number, comparison_tree first.now.test.now))) }
 {
-    let _count = tests.len();
+    let _known = tests.len();
     let i = first.number;
     match first.test {
         FlowComparison::Less(w, f, g) => {
@@ -132,7 +132,7 @@ fn add_third_ways(
 ) -> Result<(), NoMemory>
     ensures { OnOk result (map flow_hypothesis list.new.items ≡ capped MAX_HYPS (map flow_hypothesis list.old.items) (third_ways (enumerate_from 0 (map comparison_tree tests.now)) i j (comparison_tree second.now))) }
 {
-    let _count = tests.len();
+    let _known = tests.len();
     match second {
         FlowComparison::Less(w, f, g) => {
             let equal = compared(alloc, *w, Rel::Eq, f.copy(alloc)?, g.copy(alloc)?)?;
@@ -223,7 +223,7 @@ fn add_next_numbers_at(
 ) -> Result<(), NoMemory>
     ensures { OnOk result (map flow_hypothesis list.new.items ≡ capped MAX_HYPS (map flow_hypothesis list.old.items) (next_numbers_at (enumerate_from 0 (map comparison_tree tests.now)) next.now.number (literal_tree next.now.less) (literal_tree next.now.equal) (number, comparison_tree second.now))) }
 {
-    let _count = tests.len();
+    let _known = tests.len();
     if !is_comparison(&next.less, second) {
         return Ok(());
     }
@@ -312,7 +312,7 @@ fn add_next_numbers_of(
 ) -> Result<(), NoMemory>
     ensures { OnOk result (map flow_hypothesis list.new.items ≡ capped MAX_HYPS (map flow_hypothesis list.old.items) (next_numbers (enumerate_from 0 (map comparison_tree tests.now)) (first.now.number, comparison_tree first.now.test.now))) }
 {
-    let _count = tests.len();
+    let _known = tests.len();
     match first.test {
         FlowComparison::Less(w, f, g) => {
             let next = next_number(alloc, first.number, *w, f, g)?;
@@ -336,7 +336,7 @@ fn add_first_facts(
     if list.len() > MAX_HYPS {
         return Ok(());
     }
-    let _count = tests.len();
+    let _known = tests.len();
     match kind {
         FactKind::Order => add_order_facts(alloc, first, 0, tests, list),
         FactKind::Equality => add_equalities(alloc, tests, first, list),
@@ -403,7 +403,7 @@ fn add_all_facts(
 ) -> Result<(), NoMemory>
     ensures { OnOk result (map flow_hypothesis list.new.items ≡ capped MAX_HYPS (map flow_hypothesis list.old.items) (facts_by_list (enumerate_from 0 (map comparison_tree tests.now)) (enumerate_from 0 (map (option_map interval_tree) intervals.now)))) }
 {
-    let _count = tests.len();
+    let _known = tests.len();
     add_facts(alloc, FactKind::Order, tests, 0, tests, list)?;
     add_facts(alloc, FactKind::Equality, tests, 0, tests, list)?;
     add_facts(alloc, FactKind::ThreeWays, tests, 0, tests, list)?;

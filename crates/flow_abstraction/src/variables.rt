@@ -70,6 +70,6 @@ fn some_set_from(
 pub(crate) fn sets_cell_of(sets: &[Option<FlowForm>], comparison: &FlowComparison) -> bool
     ensures { result ≡ sets_cell (map set_tree sets.now) (comparison_tree comparison.now) }
 {
-    let _count = sets.len();
+    let _known = sets.len();
     some_set(comparison, 0, sets)
 }

@@ -67,7 +67,7 @@ fn mark_nodes_from(node: ExprNode, rest: &[ExprNode], count: usize, live: &mut [
 pub(crate) fn mark_expr(nodes: &[ExprNode], live: &mut [bool])
     ensures { (x : ℕ) → x < length live.old → slice_index_or live.new x false ≡ (reads x (expr_of nodes.now) || slice_index_or live.old x false) }
 {
-    let _count = nodes.len();
+    let _known = nodes.len();
     mark_nodes(nodes, 1, live);
 }
 
@@ -150,7 +150,7 @@ fn mark_conds_from(node: &CondNode, rest: &[CondNode], count: usize, live: &mut 
 pub(crate) fn mark_cond(nodes: &[CondNode], live: &mut [bool])
     ensures { (x : ℕ) → x < length live.old → slice_index_or live.new x false ≡ (cond_reads x (cond_of nodes.now) || slice_index_or live.old x false) }
 {
-    let _count = nodes.len();
+    let _known = nodes.len();
     mark_conds(nodes, 1, live);
 }
 

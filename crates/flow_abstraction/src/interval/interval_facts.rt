@@ -237,7 +237,7 @@ fn add_of_two(
 {
     let alloc = setting.alloc;
     let intervals = setting.intervals;
-    let _count = intervals.len();
+    let _known = intervals.len();
     match setting.count {
         IntervalCount::Two => add_two_arc_facts(alloc, i.interval.width, i, j, list),
         IntervalCount::Three => add_thirds(alloc, i, j, 0, intervals, list),
@@ -314,7 +314,7 @@ fn add_first(
         return Ok(());
     };
     let intervals = setting.intervals;
-    let _count = intervals.len();
+    let _known = intervals.len();
     let i = NumberedInterval { number, interval };
     add_seconds(setting, &i, 0, intervals, list)
 }
@@ -360,7 +360,7 @@ pub(crate) fn add_interval_facts(
 ) -> Result<(), NoMemory>
     ensures { OnOk result (map flow_hypothesis list.new.items ≡ capped MAX_HYPS (map flow_hypothesis list.old.items) (flat_map (interval_facts count (enumerate_from 0 (map (option_map interval_tree) intervals.now))) (enumerate_from 0 (map (option_map interval_tree) intervals.now)))) }
 {
-    let _count = intervals.len();
+    let _known = intervals.len();
     let setting = Setting {
         alloc,
         count,

@@ -201,7 +201,7 @@ fn sets_of(
     ensures refused { IfErr result (λ e. e ≡ FormFault.TooLarge → sets_fit split.now.sorts.now (cell_test_tree split.now.test.now) split.now.sorts.now (map set_tree sets.now) ≡ false) }
 {
     let own = split.sorts;
-    let _count = own.len();
+    let _known = own.len();
     let mut list = Vec::new(alloc);
     push_sets(alloc, split, 0, own, sets, &mut list)?;
     Ok(list)
