@@ -1,3 +1,4 @@
+/* SPDX-License-Identifier: MIT OR Apache-2.0 */
 /* The calls of kat for C: each is a command of docs/commands.md on bytes, without files.
  *
  * A text is a pointer and a length; it needs no byte 0 at its end. OUT points to ROOM bytes for the output, and NEEDED to a
@@ -23,6 +24,10 @@
 
 #include <stddef.h>
 #include <stdint.h>
+
+/* The version of the release that this header belongs to, as CHANGELOG.md names it. The library has no call that answers its
+ * own: link the archive that came with the header, or the shared object whose name has the same number (docs/embedding.md). */
+#define KAT_VERSION "0.5.9"
 
 #ifdef __cplusplus
 extern "C" {

@@ -1,28 +1,50 @@
-# Completions of kat for bash.
+# SPDX-License-Identifier: MIT OR Apache-2.0
+# Completions of kat for bash. release/generate.py writes this file from release/templates/kat.bash and the table of commands.
+
+# What the argument at a place after a command is: a file with this suffix, any file, a program of the file, or an option.
+_kat_kind() {
+    case $1:$2 in
+    decide:1 | check:1 | explain:1 | replay:1 | try:1 | batch:1 | show:1 | outline:1 | chain:1 | optimise:1 | run:1 | oneloop:1) echo kat ;;
+    decide:2) echo --json ;;
+    check:2 | explain:2 | replay:2 | try:3 | outline:2 | chain:2) echo file ;;
+    optimise:2 | run:2 | oneloop:2) echo program ;;
+    optimise:3) echo --turns ;;
+    gkat:1) echo gkat ;;
+    flow:1) echo flow ;;
+    esac
+}
+
+# The programs that a problem file names.
+_kat_programs() {
+    sed 's/#.*//' "$1" 2>/dev/null | tr '\n\t' '  ' | grep -oE '(^|[^A-Za-z0-9_])prog +[^ {}();,]+' | sed 's/.* //'
+}
+
 _kat() {
-    local word=${COMP_WORDS[COMP_CWORD]} command=${COMP_WORDS[1]}
-    local commands="decide check explain replay try batch show outline chain optimise run oneloop gkat flow bench"
+    local word=${COMP_WORDS[COMP_CWORD]} commands="decide check explain replay try batch show outline chain optimise run oneloop gkat flow bench" kind file
     COMPREPLY=()
     if [ "$COMP_CWORD" -eq 1 ]; then
-        COMPREPLY=($(compgen -W "$commands --help --version --program --build" -- "$word"))
+        mapfile -t COMPREPLY < <(compgen -W "$commands --help --version --program --build" -- "$word")
         return
     fi
-    case $command:$COMP_CWORD in
-    decide:3)
-        COMPREPLY=($(compgen -W "--json" -- "$word"))
+    kind=$(_kat_kind "${COMP_WORDS[1]}" $((COMP_CWORD - 1)))
+    case $kind in
+    kat | gkat | flow)
+        # Where no file has the suffix bash completes the names of all files.
+        compopt -o filenames -o default 2>/dev/null
+        mapfile -t COMPREPLY < <(compgen -f -X "!*.$kind" -- "$word")
+        [ ${#COMPREPLY[@]} -eq 0 ] || mapfile -t -O ${#COMPREPLY[@]} COMPREPLY < <(compgen -d -- "$word")
         ;;
-    optimise:4)
-        COMPREPLY=($(compgen -W "--turns" -- "$word"))
-        ;;
-    run:3 | oneloop:3 | optimise:3)
-        # The programs that the file names.
-        COMPREPLY=($(compgen -W "$(sed -n 's/^[[:space:]]*prog[[:space:]]\{1,\}\([A-Za-z_][A-Za-z0-9_]*\).*/\1/p' "${COMP_WORDS[2]}" 2>/dev/null)" -- "$word"))
-        ;;
-    bench:* | *:[5-9]) ;;
-    --*) ;;
-    *:2 | check:3 | explain:3 | replay:3 | try:4 | outline:3 | chain:3)
-        # Without words of ours bash completes the names of files.
+    file)
         compopt -o default 2>/dev/null
+        ;;
+    program)
+        # The word of the file is as it was typed: quotation marks and backslashes go, and ~ is the home.
+        file=$(printf '%s\n' "${COMP_WORDS[2]}" | sed "s/\\\\\\(.\\)/\\1/g; s/[\"']//g")
+        case $file in "~/"*) file=$HOME/${file#"~/"} ;; esac
+        mapfile -t COMPREPLY < <(compgen -W "$(_kat_programs "$file")" -- "$word")
+        ;;
+    --*)
+        mapfile -t COMPREPLY < <(compgen -W "$kind" -- "$word")
         ;;
     esac
 }
