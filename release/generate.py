@@ -28,7 +28,7 @@ VERSION_LINES = {
     "python/kat/_version.py": r'^VERSION = "(.*)"$',
     "rust/Cargo.toml": r'^version = "(.*)"$',
 }
-DEBIAN = """kat ({version}) unstable; urgency=medium
+DEBIAN = """kat ({version}-1) unstable; urgency=medium
 
   * The changes are in CHANGELOG.md.
 
@@ -76,9 +76,9 @@ def roff_words(words: str, before: str = "") -> str:
     """The words of a command in the fonts of a synopsis: literal words bold, arguments in italics."""
     parts = []
     for word in words.split():
-        opening, bare, closing = re.fullmatch(r"(\[?)(.*?)(\]?)", word).groups()
+        bare = word.strip("[]")
         font = "I" if bare.isupper() else "B"
-        parts.append(f"{opening}\\f{font}{roff(bare)}\\fP{closing}")
+        parts.append(roff(word).replace(roff(bare), f"\\f{font}{roff(bare)}\\fP"))
     return (f"\\fB{before}\\fP " if before else "") + " ".join(parts)
 
 
@@ -168,9 +168,11 @@ def with_version(text: str, line: str, version: str) -> str:
 def debian_changelog(path: Path, version: str) -> str:
     """The changelog of the Debian package: a new one where the version of the one that is there is another."""
     text = path.read_text()
-    if text.startswith(f"kat ({version}) "):
+    if text.startswith(f"kat ({version}-1) "):
         return text
     maintainer = re.search(r"^Maintainer: (.*)$", (path.parent / "control").read_text(), re.MULTILINE)
+    if not maintainer:
+        raise ValueError("debian/control has no maintainer")
     return DEBIAN.format(version=version, maintainer=maintainer[1], date=formatdate())
 
 
