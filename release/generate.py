@@ -28,6 +28,8 @@ VERSION_LINES = {
     "python/kat/_version.py": r'^VERSION = "(.*)"$',
     "rust/Cargo.toml": r'^version = "(.*)"$',
 }
+# What prints the names after `prog` in the text of a problem file, without its comments, one in a line: in all three shells.
+PROGRAMS = r"""sed 's/#.*//' | tr '\n\t' '  ' | grep -oE '(^|[^A-Za-z0-9_])prog +[^ {}();,]+' | sed 's/.* //'"""
 DEBIAN = """kat ({version}-1) unstable; urgency=medium
 
   * The changes are in CHANGELOG.md.
@@ -130,19 +132,19 @@ class Table:
 
     def bash(self) -> Dict[str, str]:
         cases = (f"    {' | '.join(places)}) echo {kind} ;;" for kind, places in self.kinds().items())
-        return {"KINDS": joined(cases), "NAMES": self.names(), "SCRIPT": " ".join(words for words, _ in self.script)}
+        return {"KINDS": joined(cases), "PROGRAMS": PROGRAMS, "NAMES": self.names(), "SCRIPT": " ".join(words for words, _ in self.script)}
 
     def zsh(self) -> Dict[str, str]:
         rows = [(it.name, it.help) for it in self.commands] + [(words, text.rstrip(".")) for words, text in self.script]
         lines = (f"        {single_quoted(f'{name}:{text}')}" for name, text in rows)
-        return {"KINDS": self.bash()["KINDS"], "DESCRIPTIONS": joined(lines)}
+        return {"KINDS": self.bash()["KINDS"], "PROGRAMS": PROGRAMS, "DESCRIPTIONS": joined(lines)}
 
     def fish(self) -> Dict[str, str]:
         cases = (f"        case {' '.join(places)}\n            echo -- {kind}" for kind, places in self.kinds().items())
         start = "complete -c kat -n __fish_use_subcommand"
         lines = [f"{start} -a {it.name} -d {single_quoted(it.help)}" for it in self.commands]
         lines += [f"{start} -l {words[2:]} -d {single_quoted(text.rstrip('.'))}" for words, text in self.script]
-        return {"KINDS": joined(cases), "DESCRIPTIONS": "\n".join(lines)}
+        return {"KINDS": joined(cases), "PROGRAMS": PROGRAMS, "DESCRIPTIONS": "\n".join(lines)}
 
 
 def filled(template: str, values: Dict[str, str]) -> str:

@@ -31,7 +31,7 @@ end
 function __kat_programs
     set -l words (commandline -opc)
     set -l file (string replace -r '^~/' "$HOME/" -- (string unescape -- $words[3]))
-    sed 's/#.*//' $file 2>/dev/null | tr '\n\t' '  ' | grep -oE '(^|[^A-Za-z0-9_])prog +[^ {}();,]+' | sed 's/.* //'
+    cat $file 2>/dev/null | sed 's/#.*//' | tr '\n\t' '  ' | grep -oE '(^|[^A-Za-z0-9_])prog +[^ {}();,]+' | sed 's/.* //'
 end
 
 complete -c kat -f

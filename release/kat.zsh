@@ -17,7 +17,7 @@ _kat_kind() {
 
 # The programs that a problem file names.
 _kat_programs() {
-    sed 's/#.*//' "$1" 2>/dev/null | tr '\n\t' '  ' | grep -oE '(^|[^A-Za-z0-9_])prog +[^ {}();,]+' | sed 's/.* //'
+    cat "$1" 2>/dev/null | sed 's/#.*//' | tr '\n\t' '  ' | grep -oE '(^|[^A-Za-z0-9_])prog +[^ {}();,]+' | sed 's/.* //'
 }
 
 _kat() {

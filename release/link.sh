@@ -1,4 +1,5 @@
 # SPDX-License-Identifier: MIT OR Apache-2.0
+# shellcheck shell=sh
 # Sourced, in the folder of the repository, by what compiles or links against the library. It has a folder $room of its own.
 #   find_archive [ARCHIVE]    sets $archive: the one that was named, or crates/kat_c/out/libkat.a, or that of the release
 #   find_compiler             sets $compiler, a C compiler that makes programs here (CC, cc, gcc or clang), or $kit, the folder

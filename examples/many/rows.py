@@ -122,7 +122,9 @@ def table(folder: str, rows: Path) -> int:
 
 def machines(options: Sequence[str]) -> Tuple[List[str], bool]:
     """The options that name machines, and whether one is not this one, which is `:`."""
-    found, named, waits = [], [], False
+    found: List[str] = []
+    named: List[str] = []
+    waits = False
     for option in options:
         joined = MACHINES.fullmatch(option)
         if waits or option in MACHINES_NEXT or joined:

@@ -10,7 +10,7 @@ _kat_kind() {
 
 # The programs that a problem file names.
 _kat_programs() {
-    sed 's/#.*//' "$1" 2>/dev/null | tr '\n\t' '  ' | grep -oE '(^|[^A-Za-z0-9_])prog +[^ {}();,]+' | sed 's/.* //'
+    cat "$1" 2>/dev/null | @PROGRAMS@
 }
 
 _kat() {
