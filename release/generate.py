@@ -27,6 +27,7 @@ VERSION_LINES = {
     "release/kat.pc": r"^Version: (.*)$",
     "python/kat/_version.py": r'^VERSION = "(.*)"$',
     "rust/Cargo.toml": r'^version = "(.*)"$',
+    "CITATION.cff": r"^version: (.*)$",
 }
 # What prints the names after `prog` in the text of a problem file, without its comments, one in a line: in all three shells.
 PROGRAMS = r"""sed 's/#.*//' | tr '\n\t' '  ' | grep -oE '(^|[^A-Za-z0-9_])prog +[^ {}();,]+' | sed 's/.* //'"""
