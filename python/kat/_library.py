@@ -72,7 +72,8 @@ def loaded(places: Sequence[str]) -> ctypes.CDLL:
             return ctypes.CDLL(place)
         except OSError as why:
             faults.append(str(why))
-    hint = "; a file in the current folder is ./NAME" if len(places) == 1 and "/" not in places[0] else ""
+    by_loader = len(places) == 1 and "/" not in places[0]
+    hint = "; a file in the current folder is ./NAME" if by_loader else "; the variable KAT_LIBRARY may name the file"
     raise LibraryNotFound(f"no library of kat: {'; '.join(faults)}{hint}")
 
 
