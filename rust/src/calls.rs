@@ -2,54 +2,52 @@
 //! The functions of kat.h. Each takes texts by their first byte and length, then the memory for the output, its room, and the
 //! place for the length of the whole output.
 
-use std::ffi::c_uchar;
-
 extern "C" {
-    pub fn kat_decide(text: *const c_uchar, length: usize, out: *mut c_uchar, room: usize, needed: *mut usize) -> u8;
-    pub fn kat_decide_json(text: *const c_uchar, length: usize, out: *mut c_uchar, room: usize, needed: *mut usize) -> u8;
-    pub fn kat_batch(text: *const c_uchar, length: usize, out: *mut c_uchar, room: usize, needed: *mut usize) -> u8;
-    pub fn kat_show(text: *const c_uchar, length: usize, out: *mut c_uchar, room: usize, needed: *mut usize) -> u8;
-    pub fn kat_gkat(text: *const c_uchar, length: usize, out: *mut c_uchar, room: usize, needed: *mut usize) -> u8;
-    pub fn kat_flow(text: *const c_uchar, length: usize, out: *mut c_uchar, room: usize, needed: *mut usize) -> u8;
-    pub fn kat_outline(text: *const c_uchar, length: usize, out: *mut c_uchar, room: usize, needed: *mut usize) -> u8;
+    pub fn kat_decide(text: *const u8, length: usize, out: *mut u8, room: usize, needed: *mut usize) -> u8;
+    pub fn kat_decide_json(text: *const u8, length: usize, out: *mut u8, room: usize, needed: *mut usize) -> u8;
+    pub fn kat_batch(text: *const u8, length: usize, out: *mut u8, room: usize, needed: *mut usize) -> u8;
+    pub fn kat_show(text: *const u8, length: usize, out: *mut u8, room: usize, needed: *mut usize) -> u8;
+    pub fn kat_gkat(text: *const u8, length: usize, out: *mut u8, room: usize, needed: *mut usize) -> u8;
+    pub fn kat_flow(text: *const u8, length: usize, out: *mut u8, room: usize, needed: *mut usize) -> u8;
+    pub fn kat_outline(text: *const u8, length: usize, out: *mut u8, room: usize, needed: *mut usize) -> u8;
     pub fn kat_check(
-        text: *const c_uchar, length: usize, evidence: *const c_uchar, evidence_length: usize,
-        out: *mut c_uchar, room: usize, needed: *mut usize,
+        text: *const u8, length: usize, evidence: *const u8, evidence_length: usize,
+        out: *mut u8, room: usize, needed: *mut usize,
     ) -> u8;
     pub fn kat_replay(
-        text: *const c_uchar, length: usize, evidence: *const c_uchar, evidence_length: usize,
-        out: *mut c_uchar, room: usize, needed: *mut usize,
+        text: *const u8, length: usize, evidence: *const u8, evidence_length: usize,
+        out: *mut u8, room: usize, needed: *mut usize,
     ) -> u8;
     pub fn kat_explain(
-        text: *const c_uchar, length: usize, evidence: *const c_uchar, evidence_length: usize,
-        out: *mut c_uchar, room: usize, needed: *mut usize,
+        text: *const u8, length: usize, evidence: *const u8, evidence_length: usize,
+        out: *mut u8, room: usize, needed: *mut usize,
     ) -> u8;
     pub fn kat_chain(
-        text: *const c_uchar, length: usize, proof: *const c_uchar, proof_length: usize,
-        out: *mut c_uchar, room: usize, needed: *mut usize,
+        text: *const u8, length: usize, proof: *const u8, proof_length: usize,
+        out: *mut u8, room: usize, needed: *mut usize,
     ) -> u8;
     pub fn kat_outline_check(
-        text: *const c_uchar, length: usize, notes: *const c_uchar, notes_length: usize,
-        out: *mut c_uchar, room: usize, needed: *mut usize,
+        text: *const u8, length: usize, notes: *const u8, notes_length: usize,
+        out: *mut u8, room: usize, needed: *mut usize,
     ) -> u8;
     pub fn kat_oneloop(
-        text: *const c_uchar, length: usize, prog: *const c_uchar, prog_length: usize,
-        out: *mut c_uchar, room: usize, needed: *mut usize,
+        text: *const u8, length: usize, prog: *const u8, prog_length: usize,
+        out: *mut u8, room: usize, needed: *mut usize,
     ) -> u8;
     pub fn kat_try(
-        text: *const c_uchar, length: usize, turns: u64, out: *mut c_uchar, room: usize, needed: *mut usize,
+        text: *const u8, length: usize, turns: u64, out: *mut u8, room: usize, needed: *mut usize,
     ) -> u8;
     pub fn kat_try_with(
-        text: *const c_uchar, length: usize, turns: u64, evidence: *const c_uchar, evidence_length: usize,
-        out: *mut c_uchar, room: usize, needed: *mut usize,
+        text: *const u8, length: usize, turns: u64, evidence: *const u8, evidence_length: usize,
+        out: *mut u8, room: usize, needed: *mut usize,
     ) -> u8;
     pub fn kat_run(
-        text: *const c_uchar, length: usize, prog: *const c_uchar, prog_length: usize,
-        store: *const c_uchar, store_length: usize, turns: u64,
-        out: *mut c_uchar, room: usize, needed: *mut usize,
+        text: *const u8, length: usize, prog: *const u8, prog_length: usize,
+        store: *const u8, store_length: usize, turns: u64,
+        out: *mut u8, room: usize, needed: *mut usize,
     ) -> u8;
     pub fn kat_optimise(
-        text: *const c_uchar, length: usize, prog: *const c_uchar, prog_length: usize, turns: u64,
-        out: *mut c_uchar, room: usize, needed: *mut usize,
+        text: *const u8, length: usize, prog: *const u8, prog_length: usize, turns: u64,
+        out: *mut u8, room: usize, needed: *mut usize,
     ) -> u8;
 }
