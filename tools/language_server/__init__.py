@@ -1,0 +1,1 @@
+"""The language server of kat; tools/lsp.py starts it."""

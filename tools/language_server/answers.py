@@ -1,0 +1,121 @@
+"""What kat says of each goal of a text, as diagnostics of the protocol."""
+
+from __future__ import annotations
+
+import re
+from pathlib import Path
+from typing import Any
+
+from . import refusals
+from .prover import Ended, Kat, OutOfTime
+from .texts import Text
+
+Diagnostic = dict[str, Any]
+ERROR, INFORMATION = 1, 3
+# As many goals has a file at most, for `kat batch`.
+MOST_GOALS = 64
+EQUAL, DIFFERENT, REFUSED = 0, 1, 2
+STATUSES = {4: "a file could not be read", 5: "its output failed", 6: "it ran out of memory", 7: "it has no such command"}
+MEANT = {
+    "equal": "equal: proved",
+    "different": "different: the question over tests and actions fails. This says nothing about stores; look for a move that no store makes.",
+}
+
+
+def diagnostic(place: dict[str, Any], severity: int, code: str, message: str) -> Diagnostic:
+    return {"range": place, "severity": severity, "source": "kat", "code": code, "message": message}
+
+
+def goal_range(text: Text, number: int) -> dict[str, Any]:
+    """The keyword of a goal; for a text without goals, its last token."""
+    if not text.goals:
+        return text.fault_range(len(text.bytes))
+    token, _ = text.goals[number]
+    return text.range(token.start, token.end)
+
+
+def refused(text: Text, number: int, ended: Ended, is_of_text: bool) -> Diagnostic:
+    """A refusal, at the place of its fault, if the place is one of the text and not of a problem that was made of it."""
+    found = refusals.read(ended.printed)
+    if found is None:
+        why = STATUSES.get(ended.status, f"it ended with {ended.status}")
+        return diagnostic(goal_range(text, number), INFORMATION, "none", f"no answer of kat: {why}")
+    has_place = is_of_text and found.offset is not None
+    place = text.fault_range(found.offset) if has_place else goal_range(text, number)
+    return diagnostic(place, ERROR, found.word, f"{found.word}: {found.sentence}")
+
+
+def in_words(explained: str, problem: str) -> str:
+    """What `explain` says, with comparisons and assignments for the names of tests and actions that `flow` made."""
+    meant = dict(re.findall(r"^# ([ta]\d+) is (.*)$", problem, re.MULTILINE))
+
+    def word(found: re.Match[str]) -> str:
+        text = meant.get(found["name"], found["name"])
+        return f"!({text})" if found["not"] and found["name"] in meant else found["not"] + text
+
+    return re.sub(r"(?P<not>!?)\b(?P<name>[ta]\d+)\b", word, explained)
+
+
+class Goal:
+    """A goal of a text, and the files of its question in a folder."""
+
+    def __init__(self, kat: Kat, folder: Path, text: Text, number: int) -> None:
+        self.kat, self.folder, self.text, self.number = kat, folder, text, number
+
+    def at(self, code: str, message: str) -> Diagnostic:
+        return diagnostic(goal_range(self.text, self.number), INFORMATION, code, message)
+
+    async def difference(self, problem: str, evidence: str) -> str:
+        """What `explain` says of a string."""
+        name = f"{self.number}.evidence"
+        (self.folder / name).write_text(evidence, encoding="utf-8")
+        ended = await self.kat.call(self.folder, "explain", problem, name)
+        if ended.status:
+            return ""
+        made = (self.folder / problem).read_text(encoding="utf-8", errors="replace") if self.text.language == "flow" else ""
+        return "\n" + in_words(ended.printed.rstrip("\n"), made)
+
+    async def decided(self) -> Diagnostic:
+        """Translates the text if it is no problem file, and decides it."""
+        text, language = self.text, self.text.language
+        source, problem = f"{self.number}.{language}", f"{self.number}.kat"
+        (self.folder / source).write_bytes(text.with_goal(self.number))
+        if language != "kat":
+            ended = await self.kat.call(self.folder, language, source)
+            if ended.status:
+                return refused(text, self.number, ended, is_of_text=True)
+            (self.folder / problem).write_text(ended.printed, encoding="utf-8")
+        ended = await self.kat.call(self.folder, "decide", problem)
+        if ended.status == EQUAL:
+            return self.at("equal", MEANT["equal"])
+        if ended.status == DIFFERENT:
+            return self.at("different", MEANT["different"] + await self.difference(problem, ended.printed))
+        return refused(text, self.number, ended, is_of_text=language == "kat")
+
+    async def answer(self) -> Diagnostic:
+        """The answer, or that there is none within the time."""
+        try:
+            return await self.decided()
+        except OutOfTime:
+            return self.at("none", f"no answer within {self.kat.seconds:g} seconds")
+
+
+def numbers(text: Text) -> range:
+    """The goals that are decided; a text without one is read too, for its fault."""
+    return range(min(max(len(text.goals), 1), MOST_GOALS))
+
+
+def too_many(text: Text) -> list[Diagnostic]:
+    """A fault at the first goal that is one too many."""
+    if len(text.goals) <= MOST_GOALS:
+        return []
+    return [diagnostic(goal_range(text, MOST_GOALS), ERROR, "TooMany", f"TooMany: There are more than {MOST_GOALS} goals.")]
+
+
+def without_doubles(found: list[Diagnostic]) -> list[Diagnostic]:
+    """A fault of the text is found for each goal, and is reported once."""
+    kept: list[Diagnostic] = []
+    for it in found:
+        if it not in kept:
+            kept.append(it)
+    return kept
