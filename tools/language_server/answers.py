@@ -16,10 +16,10 @@ ERROR, INFORMATION = 1, 3
 MOST_GOALS = 64
 EQUAL, DIFFERENT, REFUSED = 0, 1, 2
 STATUSES = {4: "a file could not be read", 5: "its output failed", 6: "it ran out of memory", 7: "it has no such command"}
-MEANT = {
-    "equal": "equal: proved",
-    "different": "different: the question over tests and actions fails. This says nothing about stores; look for a move that no store makes.",
-}
+# What `different` means of terms, of programs over variables and of graphs, as docs/commands.md and docs/flow.md say.
+OF_TERMS = "different: the two sides differ in some table in which the hypotheses hold."
+OF_PROGRAMS = "different: the question over tests and actions fails. This says nothing about stores; look for a move that no store makes."
+OF_GRAPHS = "different: the question over tests and actions fails. The graphs may still agree; docs/flow.md says what to try."
 
 
 def diagnostic(place: dict[str, Any], severity: int, code: str, message: str) -> Diagnostic:
@@ -43,6 +43,13 @@ def refused(text: Text, number: int, ended: Ended, is_of_text: bool) -> Diagnost
     has_place = is_of_text and found.offset is not None
     place = text.fault_range(found.offset) if has_place else goal_range(text, number)
     return diagnostic(place, ERROR, found.word, f"{found.word}: {found.sentence}")
+
+
+def difference_of(text: Text) -> str:
+    """What it means that a goal does not hold."""
+    if text.language == "flow":
+        return OF_GRAPHS
+    return OF_PROGRAMS if any(it.kind == "variable" for it in text.definitions) else OF_TERMS
 
 
 def in_words(explained: str, problem: str) -> str:
@@ -87,9 +94,9 @@ class Goal:
             (self.folder / problem).write_text(ended.printed, encoding="utf-8")
         ended = await self.kat.call(self.folder, "decide", problem)
         if ended.status == EQUAL:
-            return self.at("equal", MEANT["equal"])
+            return self.at("equal", "equal: proved")
         if ended.status == DIFFERENT:
-            return self.at("different", MEANT["different"] + await self.difference(problem, ended.printed))
+            return self.at("different", difference_of(text) + await self.difference(problem, ended.printed))
         return refused(text, self.number, ended, is_of_text=language == "kat")
 
     async def answer(self) -> Diagnostic:

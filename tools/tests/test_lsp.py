@@ -76,7 +76,7 @@ class WithKat(unittest.TestCase):
     def test_each_goal_has_its_answer(self) -> None:
         found = self.client.found("both.kat", LOOP + "goal equal loop, p.loop; # no\ngoal equal loop, b.p.loop + !b;\n")
         self.assertEqual([(it["code"], it["range"]) for it in found], [("different", place(3, 0, 4)), ("equal", place(4, 0, 4))])
-        self.assertIn("\n0: !b\nleft relates the ends, right does not", found[0]["message"])
+        self.assertEqual(found[0]["message"], f"{answers.OF_TERMS}\n0: !b\nleft relates the ends, right does not")
 
     def test_a_fault_is_at_its_token(self) -> None:
         for text, code, where in (("test b;\ngoal equal b, ;\n", "Syntax", place(1, 14, 15)), ("test b;\r\ngoal equal c, b;", "UnknownName", place(1, 11, 12)),
@@ -106,13 +106,14 @@ class WithKat(unittest.TestCase):
         self.assertEqual([it["code"] for it in self.example("holds/loop-peeled.kat")], ["equal"])
         different = self.example("fails/assignment-hoisted.kat")[0]
         self.assertEqual(different["code"], "different")
+        self.assertTrue(different["message"].startswith(answers.OF_PROGRAMS))
         self.assertIn("before cannot continue at 0: it is at 0.0.0", different["message"])
 
     def test_flow_graphs(self) -> None:
         self.assertEqual([it["code"] for it in self.example("flow/loop-rotated.flow")], ["equal"])
         different = self.example("flow/loop-rotated-unmarked.flow")[0]
         self.assertEqual(different["code"], "different")
-        self.assertIn("0: !(load(m, q) == 0), load(m, p) == 0,", different["message"])
+        self.assertTrue(different["message"].startswith(f"{answers.OF_GRAPHS}\n0: !(load(m, q) == 0), load(m, p) == 0,"))
 
     def test_flow_graphs_that_are_refused(self) -> None:
         fault, = self.example("flow/unknown-block.flow")
