@@ -11,6 +11,7 @@ commands run in turn, each by a shell of its own, in one copy, so that they read
 import argparse
 import os
 import re
+import signal
 import subprocess
 import sys
 import tempfile
@@ -60,14 +61,17 @@ def tree_in(room: Path) -> Path:
 
 
 def run(words: str, tree: Path) -> str:
-    """What a command prints in the tree, where `kat` is a command too."""
+    """What a command prints in the tree, where `kat` is a command too. One that lasts too long is ended with all that it
+    started."""
     environment = {**os.environ, "PATH": f"{tree.parent}:{os.environ.get('PATH', os.defpath)}"}
-    try:
-        ended = subprocess.run(["/bin/sh", "-c", words], cwd=tree, env=environment, stdin=subprocess.DEVNULL,
-                               stdout=subprocess.PIPE, stderr=subprocess.STDOUT, timeout=SECONDS)
-    except subprocess.TimeoutExpired:
-        return f"nothing in {SECONDS} seconds\n"
-    return ended.stdout.decode(errors="replace")
+    with subprocess.Popen(["/bin/sh", "-c", words], cwd=tree, env=environment, stdin=subprocess.DEVNULL, stdout=subprocess.PIPE,
+                          stderr=subprocess.STDOUT, start_new_session=True) as process:
+        try:
+            output, _ = process.communicate(timeout=SECONDS)
+        except subprocess.TimeoutExpired:
+            os.killpg(process.pid, signal.SIGKILL)
+            return f"nothing in {SECONDS} seconds\n"
+    return output.decode(errors="replace")
 
 
 def checked(path: Path, tree: Path, write: bool) -> tuple[int, int]:
@@ -90,6 +94,8 @@ def main() -> int:
     parser.add_argument("--write", action="store_true", help="write what the commands print to the pages")
     parser.add_argument("pages", nargs="*", metavar="PAGE", type=Path)
     words = parser.parse_args()
+    # The script proves and builds a program where none fits the sources, which no command of a page must wait for.
+    subprocess.run([TOP / "kat", "--program"], stdout=subprocess.DEVNULL, check=True)
     pages = words.pages or [TOP / "README.md", *(it for it in sorted((TOP / "docs").glob("*.md")) if it.name != NEEDS_MORE)]
     with tempfile.TemporaryDirectory(prefix="kat-console-") as room:
         tree = tree_in(Path(room))

@@ -14,11 +14,14 @@ Diagnostic = dict[str, Any]
 ERROR, INFORMATION = 1, 3
 # As many goals has a file at most, for `kat batch`.
 MOST_GOALS = 64
+# How many loop bodies `try` enters at most in a run.
+TURNS = "1000"
 EQUAL, DIFFERENT, REFUSED = 0, 1, 2
 STATUSES = {4: "a file could not be read", 5: "its output failed", 6: "it ran out of memory", 7: "it has no such command"}
 # What `different` means of terms, of programs over variables and of graphs, as docs/commands.md and docs/flow.md say.
 OF_TERMS = "different: the two sides differ in some table in which the hypotheses hold."
 OF_PROGRAMS = "different: the question over tests and actions fails. This says nothing about stores; look for a move that no store makes."
+OF_STORES = "different: from the last store below the goal is false."
 OF_GRAPHS = "different: the question over tests and actions fails. The graphs may still agree; docs/flow.md says what to try."
 
 
@@ -45,11 +48,9 @@ def refused(text: Text, number: int, ended: Ended, is_of_text: bool) -> Diagnost
     return diagnostic(place, ERROR, found.word, f"{found.word}: {found.sentence}")
 
 
-def difference_of(text: Text) -> str:
-    """What it means that a goal does not hold."""
-    if text.language == "flow":
-        return OF_GRAPHS
-    return OF_PROGRAMS if any(it.kind == "variable" for it in text.definitions) else OF_TERMS
+def has_variables(text: Text) -> bool:
+    """Whether a goal of a problem file may be about stores."""
+    return text.language == "kat" and any(it.kind == "variable" for it in text.definitions)
 
 
 def in_words(explained: str, problem: str) -> str:
@@ -72,15 +73,26 @@ class Goal:
     def at(self, code: str, message: str) -> Diagnostic:
         return diagnostic(goal_range(self.text, self.number), INFORMATION, code, message)
 
-    async def difference(self, problem: str, evidence: str) -> str:
-        """What `explain` says of a string."""
-        name = f"{self.number}.evidence"
-        (self.folder / name).write_text(evidence, encoding="utf-8")
-        ended = await self.kat.call(self.folder, "explain", problem, name)
-        if ended.status:
+    async def store(self, problem: str, evidence: str) -> str:
+        """A store from which the goal is false, if `try` finds one in time, with the ends of the programs."""
+        try:
+            ended = await self.kat.call(self.folder, "try", problem, TURNS, evidence)
+        except OutOfTime:
             return ""
-        made = (self.folder / problem).read_text(encoding="utf-8", errors="replace") if self.text.language == "flow" else ""
-        return "\n" + in_words(ended.printed.rstrip("\n"), made)
+        return ended.printed.rstrip("\n") if ended.status == DIFFERENT else ""
+
+    async def difference(self, problem: str, printed: str) -> str:
+        """What a string means, and what `explain` and `try` say of it."""
+        evidence = f"{self.number}.evidence"
+        (self.folder / evidence).write_text(printed, encoding="utf-8")
+        explained = (await self.kat.call(self.folder, "explain", problem, evidence)).printed.rstrip("\n")
+        if self.text.language == "flow":
+            made = (self.folder / problem).read_text(encoding="utf-8")
+            return f"{OF_GRAPHS}\n{in_words(explained, made)}"
+        if not has_variables(self.text):
+            return f"{OF_TERMS}\n{explained}"
+        store = await self.store(problem, evidence)
+        return f"{OF_STORES}\n{explained}\n{store}" if store else f"{OF_PROGRAMS}\n{explained}"
 
     async def decided(self) -> Diagnostic:
         """Translates the text if it is no problem file, and decides it."""
@@ -96,7 +108,7 @@ class Goal:
         if ended.status == EQUAL:
             return self.at("equal", "equal: proved")
         if ended.status == DIFFERENT:
-            return self.at("different", difference_of(text) + await self.difference(problem, ended.printed))
+            return self.at("different", await self.difference(problem, ended.printed))
         return refused(text, self.number, ended, is_of_text=language == "kat")
 
     async def answer(self) -> Diagnostic:

@@ -105,9 +105,13 @@ class WithKat(unittest.TestCase):
     def test_programs(self) -> None:
         self.assertEqual([it["code"] for it in self.example("holds/loop-peeled.kat")], ["equal"])
         different = self.example("fails/assignment-hoisted.kat")[0]
-        self.assertEqual(different["code"], "different")
-        self.assertTrue(different["message"].startswith(answers.OF_PROGRAMS))
-        self.assertIn("before cannot continue at 0: it is at 0.0.0", different["message"])
+        explained, ends = ((TOP / f"examples/fails/assignment-hoisted.{it}").read_text() for it in ("explain", "100.try"))
+        self.assertEqual(different["message"], f"{answers.OF_STORES}\n{explained}{ends}".rstrip("\n"))
+
+    def test_programs_that_no_store_tells_apart(self) -> None:
+        different, = self.example("fails/counted-to-ten.kat")
+        explained = (TOP / "examples/fails/counted-to-ten.explain").read_text()
+        self.assertEqual(different["message"], f"{answers.OF_PROGRAMS}\n{explained}".rstrip("\n"))
 
     def test_flow_graphs(self) -> None:
         self.assertEqual([it["code"] for it in self.example("flow/loop-rotated.flow")], ["equal"])
