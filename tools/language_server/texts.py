@@ -4,9 +4,8 @@ from __future__ import annotations
 
 import bisect
 import re
-from dataclasses import dataclass
 from functools import cached_property
-from typing import Iterator
+from typing import Iterator, NamedTuple
 
 # What a keyword declares in each language.
 KINDS = {"kat": {"test": "test", "action": "action", "var": "variable", "term": "term", "prog": "program"},
@@ -22,8 +21,7 @@ SIMPLE = re.compile(r"[A-Za-z_][A-Za-z0-9_]*|[0-9]+|:=|==|!=|<=|>=|&&|\|\||[;,{}
 LINE_END = re.compile(r"\r\n|\n|\r")
 
 
-@dataclass(frozen=True)
-class Token:
+class Token(NamedTuple):
     """A token, with its place in characters."""
 
     start: int
@@ -35,8 +33,7 @@ class Token:
         return self.text.isidentifier()
 
 
-@dataclass(frozen=True)
-class Definition:
+class Definition(NamedTuple):
     """A name that the text declares, the item that does so, and the graph that a block belongs to."""
 
     kind: str
@@ -49,8 +46,8 @@ def token_end(text: str, start: int) -> int:
     """The end of the token that begins at a place; no token begins with another character, which is then taken as one."""
     found = SIMPLE.match(text, start)
     end = found.end() if found else start + 1
-    if text[start].isidentifier():
-        # Characters of names, as Unicode's XID_Continue says.
+    # A name may begin and go on with characters that are not ASCII, as Unicode's XID_Start and XID_Continue say.
+    if text[start].isidentifier() and not text[start:end + 1].isascii():
         while end < len(text) and f"_{text[end]}".isidentifier():
             end += 1
     return end

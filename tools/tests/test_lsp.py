@@ -309,8 +309,8 @@ class Texts(unittest.TestCase):
             self.assertTrue(all(a in (b, 32) for a, b in zip(alone, text.bytes)))
 
     def test_names_are_those_of_the_prover(self) -> None:
-        self.assertEqual([it.text for it in texts.tokens_of("_a1 \u03b2\u0301x:=!=1a&&&\n#c\n\u00b2")],
-                         ["_a1", "\u03b2\u0301x", ":=", "!=", "1", "a", "&&", "&", "\u00b2"])
+        self.assertEqual([it.text for it in texts.tokens_of("_a1 \u03b2\u0301x:=!=1a&&&\n#c\n\u00b2 a\u03b2=1\u03b2 \u03b2x1 x\u0301y1")],
+                         ["_a1", "\u03b2\u0301x", ":=", "!=", "1", "a", "&&", "&", "\u00b2", "a\u03b2", "=", "1", "\u03b2", "\u03b2x1", "x\u0301y1"])
 
     def test_texts_that_end_too_early(self) -> None:
         for language in texts.KINDS:
