@@ -21,6 +21,12 @@ READERS = {"kat": TOP / "crates/text_parser/src/terminal.rt", "flow": TOP / "cra
 SECONDS = 60
 
 
+def skip(test: unittest.TestCase, why: str) -> None:
+    """Skips a test with a line that says why."""
+    print(f"editors/tests: skipped {test.id().split('.')[-2]}, since {why}")
+    test.skipTest(why)
+
+
 def words_of(name: str) -> set[str]:
     return {word for words in TABLE[name]["words"].values() for word in words}
 
@@ -88,7 +94,7 @@ class Vim(unittest.TestCase):
 
     def test_words_have_their_groups(self) -> None:
         if not shutil.which("vim") or "+syntax" not in subprocess.run(["vim", "--version"], capture_output=True, text=True).stdout:
-            self.skipTest("there is no vim with syntax files")
+            skip(self, "there is no vim with syntax files")
         for name in TABLE:
             with self.subTest(name), tempfile.TemporaryDirectory() as room:
                 kind, lines = generate.filetype(name), sample(name)
@@ -107,7 +113,7 @@ class Emacs(unittest.TestCase):
 
     def setUp(self) -> None:
         if not shutil.which("emacs"):
-            self.skipTest("there is no emacs")
+            skip(self, "there is no emacs")
 
     def test_words_have_their_faces(self) -> None:
         for name in TABLE:
@@ -154,7 +160,7 @@ class VSCode(unittest.TestCase):
 
     def test_the_extension_speaks_with_the_server(self) -> None:
         if not shutil.which("node"):
-            self.skipTest("there is no node")
+            skip(self, "there is no node")
         words = ["node", EDITORS / "tests/vscode_stub.js", EDITORS / "vscode/extension.js", sys.executable, TOP / "tools/lsp.py"]
         ended = subprocess.run(words, timeout=SECONDS, capture_output=True, text=True)
         self.assertEqual((ended.returncode, ended.stderr), (0, ""))

@@ -8,13 +8,13 @@ from __future__ import annotations
 import asyncio
 import contextlib
 import os
+import shutil
 import signal
 import subprocess
 from pathlib import Path
 from typing import NamedTuple
 
-# The script kat proves and builds where no program fits the sources. A server must not wait for that.
-SECONDS_TO_FIND = 20
+SECONDS_TO_FIND = 60
 NO_COMMAND = 7
 
 
@@ -45,11 +45,11 @@ def end(process: subprocess.Popen[bytes]) -> None:
             os.killpg(process.pid, signal.SIGKILL)
 
 
-async def run(words: list[str], seconds: float, folder: Path | None = None) -> Ended:
+async def run(words: list[str], seconds: float, folder: Path | None = None, environment: dict[str, str] | None = None) -> Ended:
     """Runs a program. It is ended after these seconds, or when this task is cancelled. A thread waits for it, since what asyncio
     has for processes does not end where a task is cancelled while its process starts (Python 3.11)."""
-    process = subprocess.Popen(words, cwd=folder, stdin=subprocess.DEVNULL, stdout=subprocess.PIPE, stderr=subprocess.DEVNULL,
-                               start_new_session=True)
+    process = subprocess.Popen(words, cwd=folder, env=environment, stdin=subprocess.DEVNULL, stdout=subprocess.PIPE,
+                               stderr=subprocess.DEVNULL, start_new_session=True)
     try:
         return await asyncio.wait_for(asyncio.get_running_loop().run_in_executor(None, awaited, process), seconds)
     except asyncio.TimeoutError as why:
@@ -60,15 +60,18 @@ async def run(words: list[str], seconds: float, folder: Path | None = None) -> E
 
 async def find(given: str) -> str:
     """The program that the script `kat` runs; what was given if it is the program itself."""
+    script = shutil.which(given)
+    if script is None:
+        raise NoProgram(f"{given} is no program")
+    # Where no program fits the sources, the script proves and builds one if it finds the Rattle kit on the PATH. A server
+    # must not begin that, so the PATH has the system's folders only.
     try:
-        status, printed = await run([given, "--program"], SECONDS_TO_FIND)
-    except OSError as why:
-        raise NoProgram(f"{given}: {why.strerror}") from why
-    except OutOfTime as why:
-        raise NoProgram(f"{given} has no program yet; call it once in a shell, which proves and builds one") from why
-    found = given if status == NO_COMMAND else printed.rstrip("\n")
-    if not found or (found != given and not Path(found).is_file()):
-        raise NoProgram(f"{given} has no program to run; it ended with {status}")
+        status, printed = await run([script, "--program"], SECONDS_TO_FIND, environment={**os.environ, "PATH": os.defpath})
+    except (OSError, OutOfTime) as why:
+        raise NoProgram(f"{script} does not run") from why
+    found = script if status == NO_COMMAND else printed.rstrip("\n")
+    if not Path(found).is_file():
+        raise NoProgram(f"{script} has no program; call it once in a shell, which unpacks, or proves and builds one")
     return found
 
 

@@ -48,6 +48,7 @@ class Server:
         self.documents: dict[str, Document] = {}
         self.is_initialized = self.is_shut_down = self.has_plain_hovers = False
         self.kat: asyncio.Task[Kat] | None = None
+        self.failure = ""
         self.requests = {"initialize": self.initialize, "shutdown": self.shut_down, "textDocument/hover": self.hover,
                          "textDocument/definition": self.definition}
         self.notifications = {"textDocument/didOpen": self.open, "textDocument/didChange": self.change, "textDocument/didClose": self.close}
@@ -93,7 +94,6 @@ class Server:
         hovers = params.get("capabilities", {}).get("textDocument", {}).get("hover", {})
         self.has_plain_hovers = "markdown" not in hovers.get("contentFormat", ["markdown"])
         self.is_initialized = True
-        self.kat = asyncio.create_task(self.find())
         return {"capabilities": {"positionEncoding": "utf-16", "textDocumentSync": {"openClose": True, "change": FULL_TEXT},
                                  "hoverProvider": True, "definitionProvider": True},
                 "serverInfo": {"name": "kat"}}
@@ -150,11 +150,20 @@ class Server:
     # Checks
 
     async def find(self) -> Kat:
+        """The program. That there is none is shown once, and not each time that a text is checked."""
         try:
             return Kat(await find(self.given), self.seconds)
         except NoProgram as why:
-            self.send({"method": "window/showMessage", "params": {"type": ERROR_MESSAGE, "message": f"kat: {why}"}})
+            if str(why) != self.failure:
+                self.failure = str(why)
+                self.send({"method": "window/showMessage", "params": {"type": ERROR_MESSAGE, "message": f"kat: {why}"}})
             raise
+
+    async def found_program(self) -> Kat:
+        """The program, which is looked for again after it was not found."""
+        if self.kat is None or (self.kat.done() and (self.kat.cancelled() or self.kat.exception())):
+            self.kat = asyncio.create_task(self.find())
+        return await asyncio.shield(self.kat)
 
     def stop(self, document: Document) -> None:
         """Ends the check of an older text, with its calls."""
@@ -169,7 +178,7 @@ class Server:
         """Checks the text of a document; a fault of the server is logged and ends this check only."""
         try:
             await asyncio.sleep(DELAY)
-            kat = await asyncio.shield(self.kat)
+            kat = await self.found_program()
             with tempfile.TemporaryDirectory(prefix="kat-lsp-") as folder:
                 await self.decide(document, kat, Path(folder))
         except NoProgram:
@@ -184,20 +193,20 @@ class Server:
         calls = [asyncio.create_task(it.answer()) for it in goals]
         try:
             _, pending = await asyncio.wait(calls, timeout=PATIENCE)
-            self.publish(document, self.found(text, goals, calls))
+            self.publish(document, self.listed(text, goals, calls))
             while pending:
                 _, pending = await asyncio.wait(pending, return_when=asyncio.FIRST_COMPLETED)
-                self.publish(document, self.found(text, goals, calls))
+                self.publish(document, self.listed(text, goals, calls))
         finally:
             for call in calls:
                 call.cancel()
             await asyncio.gather(*calls, return_exceptions=True)
 
     @staticmethod
-    def found(text: Text, goals: list[answers.Goal], calls: list[asyncio.Task[answers.Diagnostic]]) -> list[answers.Diagnostic]:
+    def listed(text: Text, goals: list[answers.Goal], calls: list[asyncio.Task[answers.Diagnostic]]) -> list[answers.Diagnostic]:
         """The answers that are there, in the order of the goals, and where none is there yet, that it is awaited."""
-        listed = [call.result() if call.done() else goal.at("undecided", "undecided so far") for goal, call in zip(goals, calls)]
-        return answers.without_doubles([*listed, *answers.too_many(text)])
+        found = [call.result() if call.done() else goal.at("undecided", "undecided so far") for goal, call in zip(goals, calls)]
+        return answers.without_doubles([*found, *answers.too_many(text)])
 
     def publish(self, document: Document, found: list[answers.Diagnostic]) -> None:
         version = {} if document.version is None else {"version": document.version}

@@ -280,9 +280,16 @@ class LongDecisions(unittest.TestCase):
         client = Client("--kat", str(self.room / "none"))
         self.addCleanup(client.kill)
         client.begin()
+        uri = client.open("any.kat", "goal equal 1, 1;")
         shown = client.awaited(lambda it: it.get("method") == "window/showMessage")
-        self.assertIn("none: No such file", shown["params"]["message"])
-        self.assertEqual(client.found("any.kat", "goal"), [])
+        self.assertIn("none is no program", shown["params"]["message"])
+        self.assertEqual(client.diagnostics(uri), [])
+        # It is found when it is there, without a new server, and that there was none is said once.
+        client.change(uri, "goal equal 1, 1; ", 2)
+        self.assertEqual(client.diagnostics(uri, 2), [])
+        (self.room / "none").symlink_to(self.room / "kat")
+        client.change(uri, "goal equal 1, 1;", 3)
+        self.assertEqual([it["code"] for it in client.diagnostics(uri, 3)], ["equal"])
         self.assertEqual(client.end(), 0)
 
 
