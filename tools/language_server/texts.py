@@ -43,7 +43,8 @@ class Definition(NamedTuple):
 
 
 def token_end(text: str, start: int) -> int:
-    """The end of the token that begins at a place; no token begins with another character, which is then taken as one."""
+    """The end of the token that begins at a place; no token begins with another character, which is then taken as one. Of
+    characters that are newer than this Python the prover may know more."""
     found = SIMPLE.match(text, start)
     end = found.end() if found else start + 1
     # A name may begin and go on with characters that are not ASCII, as Unicode's XID_Start and XID_Continue say.
