@@ -22,6 +22,8 @@ STATUSES = {4: "a file could not be read", 5: "its output failed", 6: "it ran ou
 OF_TERMS = "different: the two sides differ in some table in which the hypotheses hold."
 OF_PROGRAMS = "different: the question over tests and actions fails. This says nothing about stores; look for a move that no store makes."
 OF_STORES = "different: from the last store below the goal is false."
+# What a fault at the end of a text means, whose place is the last token.
+TOO_EARLY = "The text ends too early, after this."
 OF_GRAPHS = "different: the question over tests and actions fails. The graphs may still agree; docs/flow.md says what to try."
 
 
@@ -43,9 +45,10 @@ def refused(text: Text, number: int, ended: Ended, is_of_text: bool) -> Diagnost
     if found is None:
         why = STATUSES.get(ended.status, f"it ended with {ended.status}")
         return diagnostic(goal_range(text, number), INFORMATION, "none", f"no answer of kat: {why}")
-    has_place = is_of_text and found.offset is not None
-    place = text.fault_range(found.offset) if has_place else goal_range(text, number)
-    return diagnostic(place, ERROR, found.word, f"{found.word}: {found.sentence}")
+    if not is_of_text or found.offset is None:
+        return diagnostic(goal_range(text, number), ERROR, found.word, f"{found.word}: {found.sentence}")
+    sentence = TOO_EARLY if found.word == "Syntax" and found.offset == len(text.bytes) else found.sentence
+    return diagnostic(text.fault_range(found.offset), ERROR, found.word, f"{found.word}: {sentence}")
 
 
 def has_variables(text: Text) -> bool:

@@ -53,7 +53,7 @@ class WithKat(unittest.TestCase):
 
     @classmethod
     def setUpClass(cls) -> None:
-        cls.client = Client()
+        cls.client = Client("--seconds", str(SECONDS))
         cls.addClassCleanup(cls.client.kill)
         cls.client.begin(textDocument={"hover": {"contentFormat": ["plaintext"]}})
 
@@ -85,6 +85,12 @@ class WithKat(unittest.TestCase):
                                   ("", "NoGoal", place(0, 0, 0))):
             with self.subTest(text):
                 self.assertEqual(self.codes("fault.kat", text), [(code, where)])
+
+    def test_a_fault_has_a_sentence(self) -> None:
+        for text, expected in (("test b;\ngoal equal b, ;", f"Syntax: {refusals.SENTENCES['Syntax']}"), ("test b", f"Syntax: {answers.TOO_EARLY}"),
+                               ("goal equal b, 1;", f"UnknownName: {refusals.SENTENCES['UnknownName']}")):
+            with self.subTest(text):
+                self.assertEqual([it["message"] for it in self.client.found("sentence.kat", text)], [expected])
 
     def test_columns_count_units_of_utf_16(self) -> None:
         text = "# \U0001d70b\ntest \u03b2, \U00010400; goal equal \u03b2, \U00010400, ;"
