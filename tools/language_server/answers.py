@@ -16,15 +16,15 @@ ERROR, INFORMATION = 1, 3
 MOST_GOALS = 64
 # How many loop bodies `try` enters at most in a run.
 TURNS = "1000"
-EQUAL, DIFFERENT, REFUSED = 0, 1, 2
+EQUAL, DIFFERENT = 0, 1
 STATUSES = {4: "a file could not be read", 5: "its output failed", 6: "it ran out of memory", 7: "it has no such command"}
 # What `different` means of terms, of programs over variables and of graphs, as docs/commands.md and docs/flow.md say.
 OF_TERMS = "different: the two sides differ in some table in which the hypotheses hold."
 OF_PROGRAMS = "different: the question over tests and actions fails. This says nothing about stores; look for a move that no store makes."
-OF_STORES = "different: from the last store below the goal is false."
+OF_STORES = "different: the goal is false from this store, from which the programs end as below it."
+OF_GRAPHS = "different: the question over tests and actions fails. The graphs may still agree; docs/flow.md says what to try."
 # What a fault at the end of a text means, whose place is the last token.
 TOO_EARLY = "The text ends too early, after this."
-OF_GRAPHS = "different: the question over tests and actions fails. The graphs may still agree; docs/flow.md says what to try."
 
 
 def diagnostic(place: dict[str, Any], severity: int, code: str, message: str) -> Diagnostic:
@@ -95,7 +95,7 @@ class Goal:
         if not has_variables(self.text):
             return f"{OF_TERMS}\n{explained}"
         store = await self.store(problem, evidence)
-        return f"{OF_STORES}\n{explained}\n{store}" if store else f"{OF_PROGRAMS}\n{explained}"
+        return f"{OF_STORES}\n{store}\n{explained}" if store else f"{OF_PROGRAMS}\n{explained}"
 
     async def decided(self) -> Diagnostic:
         """Translates the text if it is no problem file, and decides it."""

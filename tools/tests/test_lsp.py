@@ -112,7 +112,7 @@ class WithKat(unittest.TestCase):
         self.assertEqual([it["code"] for it in self.example("holds/loop-peeled.kat")], ["equal"])
         different = self.example("fails/assignment-hoisted.kat")[0]
         explained, ends = ((TOP / f"examples/fails/assignment-hoisted.{it}").read_text() for it in ("explain", "100.try"))
-        self.assertEqual(different["message"], f"{answers.OF_STORES}\n{explained}{ends}".rstrip("\n"))
+        self.assertEqual(different["message"], f"{answers.OF_STORES}\n{ends}{explained}".rstrip("\n"))
 
     def test_programs_that_no_store_tells_apart(self) -> None:
         different, = self.example("fails/counted-to-ten.kat")
