@@ -47,7 +47,8 @@ def refused(text: Text, number: int, ended: Ended, is_of_text: bool) -> Diagnost
         return diagnostic(goal_range(text, number), INFORMATION, "none", f"no answer of kat: {why}")
     if not is_of_text or found.offset is None:
         return diagnostic(goal_range(text, number), ERROR, found.word, f"{found.word}: {found.sentence}")
-    sentence = TOO_EARLY if found.word == "Syntax" and found.offset == len(text.bytes) else found.sentence
+    before, token = text.texts_at(found.offset)
+    sentence = found.sentence + refusals.hint(found.word, before, token) if token or found.word != "Syntax" else TOO_EARLY
     return diagnostic(text.fault_range(found.offset), ERROR, found.word, f"{found.word}: {sentence}")
 
 

@@ -28,6 +28,24 @@ SENTENCES = {
     "UncutLoop": "Blocks are marked with `cut`, and a loop that is reached has none of them.",
     "TooManyPaths": "There are more than 1,000 ways from one place of a graph to the next. Mark more blocks with `cut`.",
 }
+# What is often meant by a token that is refused, by the word of the refusal. A pattern is matched with the token before the
+# fault, a space and the token at fault; the first that fits counts.
+HINTS = (
+    ("BadToken", r".* [&|]", "Conditions have `&&` and `||`."),
+    ("BadToken", r".* ~", "`!` negates."),
+    ("BadToken", r".* /", "There is no division, and a comment begins with `#`."),
+    ("BadToken", r".* \ufeff", "This is a byte order mark. Save the file without it."),
+    ("Syntax", r"goal .*", "After `goal` follows `equal`, `below` or `triple`."),
+    ("Syntax", r"hyp \{", "A triple begins with `hyp triple`."),
+    ("Syntax", r"= .*", "A hypothesis says that a term is `0`: `hyp TERM = 0;`."),
+    ("Syntax", r".* =", "`==` compares and `:=` assigns."),
+    ("Syntax", r".* <=", "The inclusion of two terms is `goal below e, f;`."),
+    ("Syntax", r"(\w+|\+) \+", "A statement that counts is `x := x + 1;`."),
+    ("Syntax", r".* then", "A block in braces follows the condition, without `then`."),
+    ("Syntax", r".* \}", "A `;` may be missing before it."),
+    ("Syntax", r"; \w+", "An item begins with a keyword. In a term, `.` is *and then*, and not `;`."),
+    ("Syntax", r"[\w*)\]]+ [\w!(\[]+", "A `.`, `,` or `;` may be missing before it."),
+)
 LINE = re.compile(r"refused: (?P<word>\w+)(?: (?P<offset>[0-9]+))?$", re.MULTILINE)
 
 
@@ -40,6 +58,11 @@ class Refusal(NamedTuple):
     @property
     def sentence(self) -> str:
         return SENTENCES.get(self.word, "docs/commands.md says what this means.")
+
+
+def hint(word: str, before: str, token: str) -> str:
+    """What may be meant by a token at fault, after the token before it."""
+    return next((f" {it}" for of, pattern, it in HINTS if of == word and re.fullmatch(pattern, f"{before} {token}")), "")
 
 
 def read(printed: str) -> Refusal | None:

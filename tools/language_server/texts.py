@@ -125,6 +125,11 @@ class Text:
         token = self.tokens[-1] if at >= len(self.text) and self.tokens else self.token_at(at)
         return self.range(token.start, token.end) if token else self.range(at, min(at + 1, len(self.text)))
 
+    def texts_at(self, offset: int) -> tuple[str, str]:
+        """The token before a byte, and the one that begins there; the empty text where there is none."""
+        k = bisect.bisect_left(self.token_starts, self.character_of_byte(offset))
+        return self.tokens[k - 1].text if k > 0 else "", self.tokens[k].text if k < len(self.tokens) else ""
+
     def item_end(self, first: int) -> int:
         """The index after the last token of the item that begins with a token."""
         depth, is_braced = 0, self.tokens[first].text in BRACED

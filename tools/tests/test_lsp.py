@@ -92,6 +92,18 @@ class WithKat(unittest.TestCase):
             with self.subTest(text):
                 self.assertEqual([it["message"] for it in self.client.found("sentence.kat", text)], [expected])
 
+    def test_a_common_slip_has_a_hint(self) -> None:
+        terms, programs = "test b, c; action p, q; ", "var x; prog P { "
+        slips = (terms + "hyp p.q = q.p;", terms + "goal b.p <= p.c;", terms + "hyp {b} p {c};", "action p q;", terms + "term t = b;p;",
+                 terms + "term t = (b.p)*!b;", programs + "if (x = 1) { } }", programs + "x := x + 1 }", programs + "if (x == 1) then { } }",
+                 programs + "x++; }", terms + "term t = ~b;", programs + "if b & !c { } }", programs + "x := x / 2; }", programs + "// no comment",
+                 terms + "goal equal b <= c;", "\ufefftest b;")
+        meant = ("is `0`", "`equal`, `below`", "`hyp triple`", "may be missing", "*and then*", "may be missing", "`==` compares", "`;` may be missing",
+                 "without `then`", "`x := x + 1;`", "negates", "`&&`", "no division", "no division", "`goal below", "byte order mark")
+        for text, expected in zip(slips, meant):
+            with self.subTest(text):
+                self.assertIn(expected, self.client.found("slip.kat", text)[0]["message"])
+
     def test_columns_count_units_of_utf_16(self) -> None:
         text = "# \U0001d70b\ntest \u03b2, \U00010400; goal equal \u03b2, \U00010400, ;"
         self.assertEqual(self.codes("wide.kat", text), [("Syntax", place(1, 28, 29))])
