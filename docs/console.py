@@ -3,9 +3,11 @@
 
     docs/console.py [--write] [PAGE..]
 
-Without PAGE the pages are README.md and all of docs/, except docs/llvm.md, whose commands need clang and opt. A command is a line of an indented block that begins with `$ `;
-the lines of the block up to the next command are what it prints, on standard output and standard error together. The
-commands run in turn, each by a shell of its own, in one copy, so that they read the files that earlier ones wrote. With --write what they print is put on the page instead. The status is 0 if everything is as on the pages.
+Without PAGE the pages are README.md and all of docs/, except docs/llvm.md, whose commands need clang and opt. A command is
+a line of an indented block that begins with `$ `; the lines of the block up to the next command are what it prints, on
+standard output and standard error together. The commands run in turn, each by a shell of its own, in one copy, so that they
+read the files that earlier ones wrote. With --write what they print is put on the page instead. The status is 0 if
+everything is as on the pages.
 """
 
 import argparse

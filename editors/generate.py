@@ -20,8 +20,10 @@ MADE_BY = "Made by editors/generate.py."
 # A name as most of them are; docs/language.md has the exact rule. \w is Unicode's in each editor but Vim.
 NAME = r"[^\W\d]\w*"
 # What the kinds of words are called by each editor.
-VIM = {"declaration": "Keyword", "question": "Keyword", "statement": "Statement", "constant": "Boolean", "sort": "Type", "function": "Function"}
-EMACS = {"declaration": "keyword", "question": "builtin", "statement": "keyword", "constant": "constant", "sort": "type", "function": "builtin"}
+VIM = {"declaration": "Keyword", "question": "Keyword", "statement": "Statement", "constant": "Boolean", "sort": "Type",
+       "function": "Function"}
+EMACS = {"declaration": "keyword", "question": "builtin", "statement": "keyword", "constant": "constant", "sort": "type",
+         "function": "builtin"}
 VSCODE = {"declaration": "keyword.other.declaration", "question": "keyword.other.question", "statement": "keyword.control",
           "constant": "constant.language", "sort": "storage.type", "function": "support.function"}
 
@@ -152,8 +154,9 @@ def vscode_grammar(name: str, language: dict) -> str:
     """A TextMate grammar."""
     kind, patterns = filetype(name), [{"name": f"comment.line.number-sign.{filetype(name)}", "match": "#.*$"}]
     if language["definers"]:
+        scopes = f"{VSCODE['declaration']}.{kind}", f"entity.name.function.{kind}"
         patterns.append({"match": rf"\b({'|'.join(language['definers'])})\s+({NAME})",
-                         "captures": {"1": {"name": f"{VSCODE['declaration']}.{kind}"}, "2": {"name": f"entity.name.function.{kind}"}}})
+                         "captures": {str(k): {"name": scope} for k, scope in enumerate(scopes, 1)}})
     patterns += [{"name": f"{VSCODE[group]}.{kind}", "match": rf"\b({'|'.join(words)})\b"}
                  for group, words in language["words"].items() if words]
     patterns += [{"name": f"constant.numeric.{kind}", "match": r"\b[0-9]+\b"}, {"name": f"variable.other.{kind}", "match": NAME},
@@ -165,16 +168,18 @@ def vscode_package(table: dict[str, dict]) -> str:
     """The description of the extension."""
     kinds = {filetype(name): language for name, language in table.items()}
     server = {"type": "array", "items": {"type": "string"}, "default": [],
-              "description": "The command of the language server, in words. By default python3 with tools/lsp.py of the checkout that has this extension."}
+              "description": "The command of the language server, in words. By default python3 with tools/lsp.py of the checkout that "
+                             "has this extension."}
+    named = [{"id": kind, "aliases": [it["title"]], "extensions": [f".{it['extension']}"],
+              "configuration": "./language-configuration.json"} for kind, it in kinds.items()]
+    grammars = [{"language": kind, "scopeName": f"source.{kind}", "path": f"./syntaxes/{kind}.tmLanguage.json"} for kind in kinds]
     return json_text({
-        "name": "kat", "displayName": "kat", "version": "0.1.0", "publisher": "kat", "description": f"Files of the prover kat. {MADE_BY}",
-        "engines": {"vscode": "^1.67.0"}, "categories": ["Programming Languages"], "main": "./extension.js",
+        "name": "kat", "displayName": "kat", "version": "0.1.0", "publisher": "kat",
+        "description": f"Files of the prover kat. {MADE_BY}", "engines": {"vscode": "^1.67.0"},
+        "categories": ["Programming Languages"], "main": "./extension.js",
         "activationEvents": [f"onLanguage:{kind}" for kind in kinds],
-        "contributes": {
-            "languages": [{"id": kind, "aliases": [it["title"]], "extensions": [f".{it['extension']}"], "configuration": "./language-configuration.json"}
-                          for kind, it in kinds.items()],
-            "grammars": [{"language": kind, "scopeName": f"source.{kind}", "path": f"./syntaxes/{kind}.tmLanguage.json"} for kind in kinds],
-            "configuration": {"title": "kat", "properties": {"kat.server": server}}}})
+        "contributes": {"languages": named, "grammars": grammars,
+                        "configuration": {"title": "kat", "properties": {"kat.server": server}}}})
 
 
 def json_text(value: object) -> str:
@@ -184,7 +189,8 @@ def json_text(value: object) -> str:
 def files() -> dict[str, str]:
     """The files, by their names below editors/."""
     table = languages()
-    made = {"vim/ftdetect/kat.vim": vim_filetypes(table), "emacs/kat-mode.el": emacs(table), "vscode/package.json": vscode_package(table),
+    made = {"vim/ftdetect/kat.vim": vim_filetypes(table), "emacs/kat-mode.el": emacs(table),
+            "vscode/package.json": vscode_package(table),
             "vscode/language-configuration.json": json_text({
                 "comments": {"lineComment": "#"}, "brackets": [["{", "}"], ["[", "]"], ["(", ")"]]})}
     for name, language in table.items():

@@ -41,7 +41,8 @@ def strings_of(name: str) -> set[str]:
     """The words and symbols in the code of a reader, without its comments."""
     code = re.sub(r"//.*", "", READERS[name].read_text(encoding="utf-8"))
     pairs = {first + second for first, second in re.findall(r"\(b'(.)', b'(.)'\) =>", code)}
-    return {*re.findall(r'"([a-z][a-z0-9]*)"', code), *re.findall(r'\("(\W+)",', code), *re.findall(r"^\s*b'(\W)' =>", code, re.MULTILINE), *pairs}
+    single = re.findall(r"^\s*b'(\W)' =>", code, re.MULTILINE)
+    return {*re.findall(r'"([a-z][a-z0-9]*)"', code), *re.findall(r'\("(\W+)",', code), *single, *pairs}
 
 
 def sample(name: str) -> list[tuple[str, int, str]]:
@@ -51,7 +52,8 @@ def sample(name: str) -> list[tuple[str, int, str]]:
     found += [(f"{word} good ;", len(word) + 1, "defined") for word in language["definers"]]
     found += [(f"  {it} x", 2, "operator") for it in generate.operators(language)]
     a_word = language["words"]["declaration"][0]
-    return [*found, (f"x # {a_word}", 5, "comment"), (f"{a_word}ing", 1, "name"), (f"not_{a_word}", 5, "name"), ("x 12", 2, "number")]
+    return [*found, (f"x # {a_word}", 5, "comment"), (f"{a_word}ing", 1, "name"), (f"not_{a_word}", 5, "name"),
+            ("x 12", 2, "number")]
 
 
 class Words(unittest.TestCase):
@@ -74,7 +76,8 @@ class Made(unittest.TestCase):
         self.assertEqual(generate.main(["--check"]), 0)
 
     def test_no_other_file_is_beside_them(self) -> None:
-        written = {str(it.relative_to(EDITORS)) for part in ("vim", "emacs", "vscode") for it in (EDITORS / part).rglob("*") if it.is_file()}
+        beside = [it for part in ("vim", "emacs", "vscode") for it in (EDITORS / part).rglob("*")]
+        written = {str(it.relative_to(EDITORS)) for it in beside if it.is_file()}
         self.assertEqual(written - set(generate.files()), {"vscode/extension.js"})
 
 
@@ -85,8 +88,10 @@ class Vim(unittest.TestCase):
     def groups(self, name: str, lines: list[tuple[str, int, str]], room: Path) -> list[str]:
         file, output = room / f"file.{TABLE[name]['extension']}", room / "groups"
         file.write_text("".join(f"{line}\n" for line, _, _ in lines))
-        script = [f"set runtimepath^={EDITORS}/vim", "filetype plugin on", "syntax on", f"edit {file}", "let found = [&filetype, &commentstring]"]
-        script += [f"call add(found, synIDattr(synID({at}, {column + 1}, 1), 'name'))" for at, (_, column, _) in enumerate(lines, 1)]
+        script = [f"set runtimepath^={EDITORS}/vim", "filetype plugin on", "syntax on", f"edit {file}",
+                  "let found = [&filetype, &commentstring]"]
+        places = [(at, column + 1) for at, (_, column, _) in enumerate(lines, 1)]
+        script += [f"call add(found, synIDattr(synID({at}, {column}, 1), 'name'))" for at, column in places]
         (room / "script.vim").write_text("\n".join([*script, f"call writefile(found, '{output}')", "qall!", ""]))
         subprocess.run(["vim", "-Nu", "NONE", "-i", "NONE", "-n", "-es", "-S", room / "script.vim"], timeout=SECONDS, check=True,
                        stdin=subprocess.DEVNULL, stdout=subprocess.DEVNULL)
@@ -122,9 +127,11 @@ class Emacs(unittest.TestCase):
                 file.write_text("".join(f"{line}\n" for line, _, _ in lines))
                 places = " ".join(f"({at} . {column})" for at, (_, column, _) in enumerate(lines))
                 faces = self.emacs("-l", str(EDITORS / "emacs/kat-mode.el"), str(file), "--eval", f"""(progn (font-lock-ensure)
-                    (princ (format "%s\\n" major-mode)) (dolist (place '({places})) (goto-char (point-min)) (forward-line (car place))
+                    (princ (format "%s\\n" major-mode))
+                    (dolist (place '({places})) (goto-char (point-min)) (forward-line (car place))
                     (princ (format "%s\\n" (get-text-property (+ (point) (cdr place)) 'face)))))""")
-                self.assertEqual(faces.split("\n")[:-1], [f"{generate.filetype(name)}-mode", *(self.FACES[it] for _, _, it in lines)])
+                expected = [f"{generate.filetype(name)}-mode", *(self.FACES[it] for _, _, it in lines)]
+                self.assertEqual(faces.split("\n")[:-1], expected)
 
     def test_it_is_compiled_without_a_warning(self) -> None:
         with tempfile.TemporaryDirectory() as room:
@@ -134,8 +141,8 @@ class Emacs(unittest.TestCase):
 
 
 class VSCode(unittest.TestCase):
-    SCOPES = {**generate.VSCODE, "defined": "entity.name.function", "operator": "keyword.operator", "comment": "comment.line.number-sign",
-              "name": "variable.other", "number": "constant.numeric"}
+    SCOPES = {**generate.VSCODE, "defined": "entity.name.function", "operator": "keyword.operator",
+              "comment": "comment.line.number-sign", "name": "variable.other", "number": "constant.numeric"}
 
     def scopes(self, patterns: list[dict], line: str) -> dict[int, str]:
         """The scope of each part of a line by its column: at each place the first pattern that matches earliest."""
@@ -165,7 +172,8 @@ class VSCode(unittest.TestCase):
         ended = subprocess.run(words, timeout=SECONDS, capture_output=True, text=True)
         self.assertEqual((ended.returncode, ended.stderr), (0, ""))
         found = json.loads(ended.stdout)
-        self.assertEqual((found["fault"], found["answer"], found["closed"]), ([["Syntax", 0, 1, 14, 1, 15]], [["equal", 2, 1, 0, 1, 4]], []))
+        self.assertEqual((found["fault"], found["answer"], found["closed"]),
+                         ([["Syntax", 0, 1, 14, 1, 15]], [["equal", 2, 1, 0, 1, 4]], []))
         self.assertEqual(found["hover"]["contents"]["value"], "test b, declared in line 1\n\n```kat\ntest b;\n```")
         self.assertEqual(found["definition"], {"uri": "file:///problem.kat", "range": {"places": [0, 5, 0, 6]}})
         self.assertEqual((found["nothing"], found["errors"]), (None, []))

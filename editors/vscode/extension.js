@@ -88,8 +88,9 @@ async function definition(document, position) {
 }
 
 function open(document) {
-  const given = { uri: document.uri.toString(), languageId: document.languageId, version: document.version, text: document.getText() };
-  if (LANGUAGES.includes(document.languageId)) client.notify("textDocument/didOpen", { textDocument: given });
+  const { languageId, version } = document;
+  const given = { uri: document.uri.toString(), languageId, version, text: document.getText() };
+  if (LANGUAGES.includes(languageId)) client.notify("textDocument/didOpen", { textDocument: given });
 }
 
 function change({ document }) {
@@ -99,14 +100,15 @@ function change({ document }) {
 }
 
 function close(document) {
-  if (LANGUAGES.includes(document.languageId)) client.notify("textDocument/didClose", { textDocument: { uri: document.uri.toString() } });
+  const given = { uri: document.uri.toString() };
+  if (LANGUAGES.includes(document.languageId)) client.notify("textDocument/didClose", { textDocument: given });
 }
 
 async function activate(context) {
   const shown = vscode.languages.createDiagnosticCollection("kat");
   const given = vscode.workspace.getConfiguration("kat").get("server") || [];
   const words = given.length ? given : ["python3", SERVER];
-  const failed = (why) => vscode.window.showErrorMessage(`kat: the language server ${words.join(" ")} does not run: ${why.message}`);
+  const failed = (why) => vscode.window.showErrorMessage(`kat: ${words.join(" ")} does not run: ${why.message}`);
   const receive = (method, params) => {
     if (method === "textDocument/publishDiagnostics") shown.set(vscode.Uri.parse(params.uri), params.diagnostics.map(diagnostic));
     else if (method === "window/showMessage") vscode.window.showErrorMessage(params.message);

@@ -20,7 +20,8 @@ EQUAL, DIFFERENT = 0, 1
 STATUSES = {4: "a file could not be read", 5: "its output failed", 6: "it ran out of memory", 7: "it has no such command"}
 # What `different` means of terms, of programs over variables and of graphs, as docs/commands.md and docs/flow.md say.
 OF_TERMS = "different: the two sides differ in some table in which the hypotheses hold."
-OF_PROGRAMS = "different: the question over tests and actions fails. This says nothing about stores; look for a move that no store makes."
+OF_PROGRAMS = ("different: the question over tests and actions fails. This says nothing about stores; look for a move that no "
+               "store makes.")
 OF_STORES = "different: the goal is false from this store, from which the programs end as below it."
 OF_GRAPHS = "different: the question over tests and actions fails. The graphs may still agree; docs/flow.md says what to try."
 # What a fault at the end of a text means, whose place is the last token.

@@ -11,11 +11,12 @@ SENTENCES = {
     "NotUtf8": "The bytes are not UTF-8. Save the file as UTF-8.",
     "BadToken": "No token begins here. Outside comments only names, numbers and the symbols of the language are allowed.",
     "Syntax": "This may not follow here, or something is missing before it.",
-    "TooDeep": "More than 200 levels are open here. Remove parentheses that group nothing; a defined term counts where its name is used.",
+    "TooDeep": "More than 200 levels are open here. Remove parentheses that group nothing; a defined term counts where its name "
+               "is used.",
     "NumberTooWide": "The number is too large: 2^64 or more, or not below 2 to its width.",
     "TwoGoals": "There is a second goal, which only `kat batch` reads.",
-    "TooMany": "There are too many of these: at most 48 tests, 48 actions, 64 variables of a problem file, 8,192 hypotheses and 16 rounds; "
-               "docs/flow.md has the limits of flow files.",
+    "TooMany": "There are too many of these: at most 48 tests, 48 actions, 64 variables of a problem file, 8,192 hypotheses and "
+               "16 rounds; docs/flow.md has the limits of flow files.",
     "DoubleName": "This name was declared before, or this item may occur only once.",
     "UnknownName": "This name was not declared before. Declare it in an earlier item.",
     "Sort": "A name, number or operator of this kind is not allowed here.",

@@ -51,7 +51,8 @@ class Server:
         self.failure = ""
         self.requests = {"initialize": self.initialize, "shutdown": self.shut_down, "textDocument/hover": self.hover,
                          "textDocument/definition": self.definition}
-        self.notifications = {"textDocument/didOpen": self.open, "textDocument/didChange": self.change, "textDocument/didClose": self.close}
+        self.notifications = {"textDocument/didOpen": self.open, "textDocument/didChange": self.change,
+                              "textDocument/didClose": self.close}
 
     def receive(self, message: Message) -> bool:
         """Does what a message says. Returns whether the server goes on."""

@@ -183,7 +183,8 @@ class Text:
         """The keyword of each goal, and its item."""
         word, previous = GOALS[self.language], ("", *(it.text for it in self.tokens))
         # In a problem file `equal` is part of a goal; in the others it is an item.
-        return [(token, self.span(k)) for k, token in enumerate(self.tokens) if token.text == word and previous[k] in ("", ";", "}")]
+        return [(token, self.span(k)) for k, token in enumerate(self.tokens)
+                if token.text == word and previous[k] in ("", ";", "}")]
 
     def with_goal(self, number: int) -> bytes:
         """The text with this goal only; spaces replace the bytes of the others, so that all else keeps its place."""

@@ -63,14 +63,15 @@ class Client:
         return uri
 
     def change(self, uri: str, text: str, version: int) -> None:
-        self.notify("textDocument/didChange", {"textDocument": {"uri": uri, "version": version}, "contentChanges": [{"text": text}]})
+        document = {"uri": uri, "version": version}
+        self.notify("textDocument/didChange", {"textDocument": document, "contentChanges": [{"text": text}]})
 
     def diagnostics(self, uri: str, version: int = 1) -> list[dict[str, Any]]:
         """What the server says of this version of a document in the end."""
         def is_decided(message: messages.Message) -> bool:
-            params = message.get("params", {})
-            return (message.get("method"), params.get("uri"), params.get("version")) == ("textDocument/publishDiagnostics", uri, version) \
-                and all(it["code"] != "undecided" for it in params["diagnostics"])
+            params, wanted = message.get("params", {}), ("textDocument/publishDiagnostics", uri, version)
+            is_of_document = (message.get("method"), params.get("uri"), params.get("version")) == wanted
+            return is_of_document and all(it["code"] != "undecided" for it in params["diagnostics"])
 
         return self.awaited(is_decided)["params"]["diagnostics"]
 

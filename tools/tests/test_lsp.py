@@ -34,6 +34,32 @@ def place(line: int, start: int, end: int) -> dict[str, Any]:
     return {"start": {"line": line, "character": start}, "end": {"line": line, "character": end}}
 
 
+FAULTS = (("test b;\ngoal equal b, ;\n", "Syntax", place(1, 14, 15)),
+          ("test b;\r\ngoal equal c, b;", "UnknownName", place(1, 11, 12)),
+          ("test b; goal equal b, b", "Syntax", place(0, 22, 23)),
+          ("action p;\n\ngoal equal !p, 1;", "Sort", place(2, 12, 13)),
+          ("test b; goal equal b ? b;", "BadToken", place(0, 21, 22)),
+          ("# none\ntest long_name;\n", "NoGoal", place(1, 14, 15)),
+          ("", "NoGoal", place(0, 0, 0)))
+TERMS, PROGRAM = "test b, c; action p, q; ", "var x; prog P { "
+SLIPS = ((TERMS, "hyp p.q = q.p;", "is `0`"),
+         (TERMS, "goal b.p <= p.c;", "`equal`, `below`"),
+         (TERMS, "hyp {b} p {c};", "`hyp triple`"),
+         ("", "action p q;", "may be missing"),
+         (TERMS, "term t = b;p;", "*and then*"),
+         (TERMS, "term t = (b.p)*!b;", "may be missing"),
+         (TERMS, "term t = ~b;", "negates"),
+         (TERMS, "goal equal b <= c;", "`goal below"),
+         (PROGRAM, "if (x = 1) { } }", "`==` compares"),
+         (PROGRAM, "x := x + 1 }", "`;` may be missing"),
+         (PROGRAM, "if (x == 1) then { } }", "without `then`"),
+         (PROGRAM, "x++; }", "`x := x + 1;`"),
+         (PROGRAM, "if b & !c { } }", "`&&`"),
+         (PROGRAM, "x := x / 2; }", "no division"),
+         (PROGRAM, "// no comment", "no division"),
+         ("", "\ufefftest b;", "byte order mark"))
+
+
 def is_running(number: int) -> bool:
     """Whether a process is still there some time after it was ended; it is until its parent or the system has noticed."""
     end = time.monotonic() + SECONDS
@@ -71,7 +97,8 @@ class WithKat(unittest.TestCase):
 
     def test_a_goal_that_holds_is_equal(self) -> None:
         found = self.client.found("holds.kat", LOOP + "goal equal loop, b.p.loop + !b;\n")
-        self.assertEqual([(it["code"], it["range"], it["severity"]) for it in found], [("equal", place(3, 0, 4), answers.INFORMATION)])
+        self.assertEqual([(it["code"], it["range"], it["severity"]) for it in found],
+                         [("equal", place(3, 0, 4), answers.INFORMATION)])
 
     def test_each_goal_has_its_answer(self) -> None:
         found = self.client.found("both.kat", LOOP + "goal equal loop, p.loop; # no\ngoal equal loop, b.p.loop + !b;\n")
@@ -79,30 +106,22 @@ class WithKat(unittest.TestCase):
         self.assertEqual(found[0]["message"], f"{answers.OF_TERMS}\n0: !b\nleft relates the ends, right does not")
 
     def test_a_fault_is_at_its_token(self) -> None:
-        for text, code, where in (("test b;\ngoal equal b, ;\n", "Syntax", place(1, 14, 15)), ("test b;\r\ngoal equal c, b;", "UnknownName", place(1, 11, 12)),
-                                  ("test b; goal equal b, b", "Syntax", place(0, 22, 23)), ("action p;\n\ngoal equal !p, 1;", "Sort", place(2, 12, 13)),
-                                  ("test b; goal equal b ? b;", "BadToken", place(0, 21, 22)), ("# none\ntest long_name;\n", "NoGoal", place(1, 14, 15)),
-                                  ("", "NoGoal", place(0, 0, 0))):
+        for text, code, where in FAULTS:
             with self.subTest(text):
                 self.assertEqual(self.codes("fault.kat", text), [(code, where)])
 
     def test_a_fault_has_a_sentence(self) -> None:
-        for text, expected in (("test b;\ngoal equal b, ;", f"Syntax: {refusals.SENTENCES['Syntax']}"), ("test b", f"Syntax: {answers.TOO_EARLY}"),
-                               ("goal equal b, 1;", f"UnknownName: {refusals.SENTENCES['UnknownName']}")):
+        said = refusals.SENTENCES
+        for text, expected in (("test b;\ngoal equal b, ;", f"Syntax: {said['Syntax']}"),
+                               ("test b", f"Syntax: {answers.TOO_EARLY}"),
+                               ("goal equal b, 1;", f"UnknownName: {said['UnknownName']}")):
             with self.subTest(text):
                 self.assertEqual([it["message"] for it in self.client.found("sentence.kat", text)], [expected])
 
     def test_a_common_slip_has_a_hint(self) -> None:
-        terms, programs = "test b, c; action p, q; ", "var x; prog P { "
-        slips = (terms + "hyp p.q = q.p;", terms + "goal b.p <= p.c;", terms + "hyp {b} p {c};", "action p q;", terms + "term t = b;p;",
-                 terms + "term t = (b.p)*!b;", programs + "if (x = 1) { } }", programs + "x := x + 1 }", programs + "if (x == 1) then { } }",
-                 programs + "x++; }", terms + "term t = ~b;", programs + "if b & !c { } }", programs + "x := x / 2; }", programs + "// no comment",
-                 terms + "goal equal b <= c;", "\ufefftest b;")
-        meant = ("is `0`", "`equal`, `below`", "`hyp triple`", "may be missing", "*and then*", "may be missing", "`==` compares", "`;` may be missing",
-                 "without `then`", "`x := x + 1;`", "negates", "`&&`", "no division", "no division", "`goal below", "byte order mark")
-        for text, expected in zip(slips, meant):
-            with self.subTest(text):
-                self.assertIn(expected, self.client.found("slip.kat", text)[0]["message"])
+        for beginning, slip, expected in SLIPS:
+            with self.subTest(slip):
+                self.assertIn(expected, self.client.found("slip.kat", beginning + slip)[0]["message"])
 
     def test_columns_count_units_of_utf_16(self) -> None:
         text = "# \U0001d70b\ntest \u03b2, \U00010400; goal equal \u03b2, \U00010400, ;"
@@ -171,18 +190,23 @@ class WithKat(unittest.TestCase):
 
     def test_hover_says_what_a_name_is(self) -> None:
         uri = self.client.open("names.kat", "test b, c;\naction p;\nprog P {\n  p;\n}\nterm t = b.p; goal equal t, P;")
-        for line, character, expected in ((0, 8, "test c, declared in line 1\ntest b, c;"), (3, 2, "action p, declared in line 2\naction p;"),
-                                          (5, 28, "program P, declared in line 3\nprog P {\n  p;\n}"), (5, 25, "term t, declared in line 6\nterm t = b.p;"),
+        for line, character, expected in ((0, 8, "test c, declared in line 1\ntest b, c;"),
+                                          (3, 2, "action p, declared in line 2\naction p;"),
+                                          (5, 28, "program P, declared in line 3\nprog P {\n  p;\n}"),
+                                          (5, 25, "term t, declared in line 6\nterm t = b.p;"),
                                           (5, 26, "term t, declared in line 6\nterm t = b.p;")):
             with self.subTest(expected):
-                self.assertEqual(self.client.at("hover", uri, line, character)["contents"], {"kind": "plaintext", "value": expected})
+                contents = self.client.at("hover", uri, line, character)["contents"]
+                self.assertEqual(contents, {"kind": "plaintext", "value": expected})
         for line, character in ((0, 1), (4, 0), (5, 40), (90, 0)):
             self.assertIsNone(self.client.at("hover", uri, line, character))
 
     def test_names_of_blocks_belong_to_their_graph(self) -> None:
-        text = "var u64 x;\ngraph f { block x { goto y; }\n  block y { return x; } }\ngraph g { block y { return x; } }\nequal f, g;"
-        uri = self.client.open("blocks.flow", text)
-        for line, character, expected in ((1, 25, place(2, 8, 9)), (3, 16, place(3, 16, 17)), (2, 19, place(0, 8, 9)), (1, 16, place(1, 16, 17)), (4, 9, place(3, 6, 7))):
+        lines = ("var u64 x;", "graph f { block x { goto y; }", "  block y { return x; } }", "graph g { block y { return x; } }",
+                 "equal f, g;")
+        uri = self.client.open("blocks.flow", "\n".join(lines))
+        for line, character, expected in ((1, 25, place(2, 8, 9)), (3, 16, place(3, 16, 17)), (2, 19, place(0, 8, 9)),
+                                          (1, 16, place(1, 16, 17)), (4, 9, place(3, 6, 7))):
             with self.subTest(line=line, character=character):
                 self.assertEqual(self.client.at("definition", uri, line, character), {"uri": uri, "range": expected})
 
@@ -238,8 +262,8 @@ class Protocol(unittest.TestCase):
 
     def test_markdown_is_for_clients_that_read_it(self) -> None:
         self.client.begin()
-        uri = self.client.open("names.kat", "test b;")
-        self.assertEqual(self.client.at("hover", uri, 0, 5)["contents"], {"kind": "markdown", "value": "test b, declared in line 1\n\n```kat\ntest b;\n```"})
+        contents = self.client.at("hover", self.client.open("names.kat", "test b;"), 0, 5)["contents"]
+        self.assertEqual(contents, {"kind": "markdown", "value": "test b, declared in line 1\n\n```kat\ntest b;\n```"})
         self.assertEqual(self.client.end(), 0)
 
 
@@ -334,19 +358,23 @@ class Texts(unittest.TestCase):
             self.assertTrue(all(a in (b, 32) for a, b in zip(alone, text.bytes)))
 
     def test_names_are_those_of_the_prover(self) -> None:
-        self.assertEqual([it.text for it in texts.tokens_of("_a1 \u03b2\u0301x:=!=1a&&&\n#c\n\u00b2 a\u03b2=1\u03b2 \u03b2x1 x\u0301y1")],
-                         ["_a1", "\u03b2\u0301x", ":=", "!=", "1", "a", "&&", "&", "\u00b2", "a\u03b2", "=", "1", "\u03b2", "\u03b2x1", "x\u0301y1"])
+        found = texts.tokens_of("_a1 \u03b2\u0301x:=!=1a&&&\n#c\n\u00b2 a\u03b2=1\u03b2 \u03b2x1 x\u0301y1")
+        self.assertEqual([it.text for it in found],
+                         ["_a1", "\u03b2\u0301x", ":=", "!=", "1", "a", "&&", "&", "\u00b2", "a\u03b2", "=", "1", "\u03b2", "\u03b2x1",
+                          "x\u0301y1"])
 
     def test_texts_that_end_too_early(self) -> None:
         for language in texts.KINDS:
-            for words in ("test", "test b", "term t = ", "prog P {", "fun u8", "fun u8 f(", "graph g { block", "var u64", "goal", "equal", "}", "goto"):
+            for words in ("test", "test b", "term t = ", "prog P {", "fun u8", "fun u8 f(", "graph g { block", "var u64", "goal",
+                          "equal", "}", "goto"):
                 text = texts.Text(words, language)
                 self.assertLessEqual(len(text.definitions), 1)
                 self.assertLessEqual(len(text.goals), 1)
 
     def test_each_word_of_a_refusal_has_a_sentence(self) -> None:
-        rows = [row for page in ("language.md", "commands.md") for row in (TOP / "docs" / page).read_text().split("\n## ") if "| word |" in row]
-        words = {word for row in rows for word in re.findall(r"^\|(?: \d+ \|)? `([A-Z]\w+)(?: N)?` \|", row, re.MULTILINE)}
+        sections = [it for page in ("language.md", "commands.md") for it in (TOP / "docs" / page).read_text().split("\n## ")]
+        row = re.compile(r"^\|(?: \d+ \|)? `([A-Z]\w+)(?: N)?` \|", re.MULTILINE)
+        words = {word for section in sections if "| word |" in section for word in row.findall(section)}
         self.assertEqual(words, set(refusals.SENTENCES))
 
     def test_refusals_are_read(self) -> None:
