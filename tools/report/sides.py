@@ -1,0 +1,140 @@
+"""Both sides of a goal beside each other: code with marks, and control-flow graphs."""
+
+from typing import NamedTuple, Optional
+
+from .cases import Case, CaseSide
+from .graphs import Drawing, Walk, drawing_of_graph, drawing_of_program, picture
+from .html_text import tag, text
+from .listing import Line, Mark, line_at, lines_of, listing
+from .machines import Seen
+from .runs import Step, groups_of
+from .tokens import Span, Unreadable
+
+MOST_GROUPS = 60
+
+
+class View(NamedTuple):
+    """What the page shows of a side: its number, lines, the parts that can be marked, and its graph."""
+
+    number: int
+    side: CaseSide
+    lines: list[Line]
+    marks: list[Mark]
+    drawing: Optional[Drawing]
+
+    def name_of(self, span: Span) -> str:
+        return next((mark.name for mark in self.marks if mark.span == span), "")
+
+    def place(self, span: Optional[Span]) -> str:
+        """The line of a part, in words."""
+        number = line_at(self.lines, span) if span else 0
+        return f"line {number}" if number else ""
+
+
+def views_of(case: Case) -> list[View]:
+    groups = groups_of(case.together.pairs)[:MOST_GROUPS] if case.together else []
+    return [view_of(case, number, side, groups) for number, side in enumerate(case.sides)]
+
+
+def view_of(case: Case, number: int, side: CaseSide, groups: list[tuple[set[Span], set[Span]]]) -> View:
+    lines = lines_of(case.text, side.code, side.kind != "term")
+    of_span = {span: k for k, group in enumerate(groups) for span in group[number]}
+    spans = sorted(leaves_of(side) | set(of_span))
+    reached = case.together.reached[number] if case.together and case.together.is_whole and side.kind != "term" else None
+    marks = []
+    for k, span in enumerate(spans):
+        is_never = reached is not None and span not in reached
+        title = f"{of_span[span] + 1}: the same step on both sides" if span in of_span else "no run of both sides gets here" if is_never else ""
+        marks.append(Mark(span, f"{number}.{k}", of_span.get(span), title, is_never))
+    return View(number, side, lines, marks, drawing_of(case, side))
+
+
+def drawing_of(case: Case, side: CaseSide) -> Optional[Drawing]:
+    try:
+        if side.graph:
+            return drawing_of_graph(case.text, side.graph)
+        return drawing_of_program(case.text, side.term) if side.kind == "prog" and side.term else None
+    except (Unreadable, RecursionError):
+        return None
+
+
+def leaves_of(side: CaseSide) -> set[Span]:
+    """The parts of a side that a run can pass."""
+    if side.graph:
+        return {span for block in side.graph.blocks.values()
+                for span in (block.heading, *(statement.span for statement in block.statements), block.jump.span)}
+    found: set[Span] = set()
+    left = [side.term] if side.term else []
+    while left:
+        term = left.pop()
+        if term.kind in ("act", "skip", "abort", "assert", "test", "if", "while"):
+            found.add(term.span)
+        left += term.parts
+    return found
+
+
+# HTML
+
+def sides_html(case: Case, prefix: str, views: list[View], ways: list[dict[str, str]]) -> str:
+    """The sides. `ways` has the marks of the whole path of each side in its graph."""
+    shown = "".join(side_html(case, prefix, view, ways[k] if k < len(ways) else {}) for k, view in enumerate(views))
+    return tag("div", shown, class_="sides two" if len(views) > 1 else "sides")
+
+
+def side_html(case: Case, prefix: str, view: View, way: dict[str, str]) -> str:
+    name, kind = view.side.name, view.side.kind
+    heading = text(name) + " " + tag("small", kind)
+    if case.goal and case.goal.kind == "triple":
+        before, after = (case.text[slice(*it.span)] for it in (case.goal.before, case.goal.after))
+        heading = text(f"{{{before}}} {name} {{{after}}}") + " " + tag("small", f"triple of a {kind}")
+    marks = [mark if case.steps or mark.group is not None or mark.is_never else mark._replace(name="") for mark in view.marks]
+    code = listing(case.text, view.lines, [mark for mark in marks if mark.name], f"code of {name}", f"{view.number}.end")
+    return tag("div", tag("h4", heading) + code + picture_html(prefix, view, way), class_="side")
+
+
+def picture_html(prefix: str, view: View, way: dict[str, str]) -> str:
+    if not view.drawing:
+        return ""
+    groups = {mark.span: mark.group for mark in view.marks if mark.group is not None}
+    title = f"Control-flow graph of {view.side.name}, {len(view.drawing.nodes)} nodes"
+    drawn = picture(view.drawing, (f"{view.number}g", f"{prefix}{view.number}", title), groups, way)
+    return tag("div", drawn, class_="picture", tabindex="0", role="region", aria_label=title)
+
+
+# Paths
+
+def marks_of_run(view: View, steps: list[Step], count: int) -> list[dict[str, str]]:
+    """For each state of a string the marks of a side: parts of the code that it passes there, and nodes and links."""
+    walk = Walk(view.drawing) if view.drawing else None
+    marks = [marks_of_step(view, steps[k], walk) if k < len(steps) else {} for k in range(count)]
+    if steps and steps[-1].status == "ended":
+        marks[len(steps) - 1][end_of(view, steps)] = "e"
+    return marks
+
+
+def end_of(view: View, steps: list[Step]) -> str:
+    """The mark of the end of a run: the last line of a program, otherwise the last action."""
+    span = steps[-2].way.span if len(steps) > 1 else None
+    return view.name_of(span) if span and view.side.kind != "prog" else f"{view.number}.end"
+
+
+def marks_of_step(view: View, step: Step, walk: Optional[Walk]) -> dict[str, str]:
+    marks = {}
+    for seen in step.way.seen:
+        marks[view.name_of(seen.span)] = {True: "t", False: "f", None: "p"}[seen.truth]
+    last = {"acts": "n", "ended": "e"}.get(step.status, "x")
+    if step.way.span:
+        marks[view.name_of(step.way.span)] = last
+    if walk and view.drawing:
+        span = step.way.span
+        passed = list(step.way.seen)
+        if span and (not passed or passed[-1].span != span):
+            passed.append(Seen(span))
+        path = walk.path(passed, step.status in ("ended", "early") and view.side.kind == "prog")
+        numbers = {name: k for k, name in enumerate(view.drawing.nodes)}
+        marks.update({f"{view.number}gl{k}": "p" for k in path.links})
+        marks.update({f"{view.number}gn{numbers[name]}": "p" for name in path.nodes})
+        if path.nodes and last == "x":
+            marks[f"{view.number}gn{numbers[path.nodes[-1]]}"] = "x"
+    marks.pop("", None)
+    return marks
