@@ -59,7 +59,7 @@ def case_of(kat: Kat, file: Path, turns: int) -> Case:
 def case_in(kat: Kat, file: Path, turns: int, made: Path) -> Case:
     data = file.read_bytes()
     text = data.decode("utf-8", "replace")
-    source, command = source_of(file)
+    source, command = source_of(kat, file, text)
     if command:
         text = source.read_text("utf-8", "replace")
         status, printed = kat.call(command, str(source))
@@ -83,11 +83,12 @@ def case_in(kat: Kat, file: Path, turns: int, made: Path) -> Case:
     return case
 
 
-def source_of(file: Path) -> tuple[Path, str]:
-    """The text that a file was made from, and the command that makes it. A file that `validate` left is made from the flow
-    text beside it."""
-    if file.suffix == ".kat" and file.with_suffix(".flow").exists():
-        return file.with_suffix(".flow"), "flow"
+def source_of(kat: Kat, file: Path, text: str) -> tuple[Path, str]:
+    """The text that a file was made from, and the command that makes it. A file of `validate` is made from the flow text
+    beside it."""
+    flow = file.with_suffix(".flow")
+    if file.suffix == ".kat" and flow.exists() and kat.call("flow", str(flow)) in ((0, text), (2, text)):
+        return flow, "flow"
     return file, {".flow": "flow", ".gkat": "gkat"}.get(file.suffix, "")
 
 
@@ -108,11 +109,17 @@ def read_sides(kat: Kat, case: Case, file: Path, is_flow: bool) -> None:
     if status != 0:
         raise Unreadable("`show` printed no question")
     sorts = Sorts(dict.fromkeys(problem.variables, problem.width), {}, False)
-    case.question = Question(shown, sorts)
+    case.question = Question(shown, sorts, said_names=said_names(case.text, problem))
     names = ("body",) if case.goal.kind == "triple" else ("left", "right")
     case.sides = [CaseSide(side.name or name, "prog" if side.is_program else "term", side.code, side.term, None,
                            machine_of(side.term, case.question, side.is_program))
                   for side, name in zip(case.goal.sides, names)]
+
+
+def said_names(text: str, problem: Problem) -> dict[str, str]:
+    """What comments `# NAME is ..` say of declared tests and actions, as those that `flow` prints."""
+    names = {*problem.tests, *problem.actions}
+    return {name: words for name, words in re.findall(r"^# (\w+) is (.*)$", text, re.M) if name in names and re.fullmatch(r"[ta]\d+", name)}
 
 
 def machine_of(term: Term, question: Question, is_program: bool) -> Optional[Machine]:

@@ -306,12 +306,12 @@ def signed_text(form: Form) -> str:
 
 
 def balanced(form: Form) -> tuple[Form, Form]:
-    """The two sides of `form == 0` without a minus sign."""
+    """The two sides of `form == 0` without a minus sign; a number is on the right."""
     half = 2 ** (form.width - 1)
     kept = [(cells, factor) for cells, factor in form.parts if factor <= half]
     moved = [(cells, -factor) for cells, factor in form.parts if factor > half]
     constant = form.number if form.number < half else 0
     sides = (collected(form.width, constant, kept), collected(form.width, 0 if constant else -form.number, moved))
-    return sides if sides[0].parts else (sides[1], sides[0])
+    return sides if sides[0].parts and not (sides[0].number and sides[1].parts) else (sides[1], sides[0])
 
 

@@ -8,6 +8,8 @@ import subprocess
 from typing import NamedTuple, Optional
 
 LAYER_GAP, NODE_GAP, BEND_WIDTH, SWEEPS, SECONDS = 36.0, 26.0, 10.0, 12, 20
+# How far a link that goes back is beside the middle of its nodes, so that it is not on a link that goes down.
+BESIDE = 14.0
 
 
 class Box(NamedTuple):
@@ -168,6 +170,8 @@ class Layers:
         first, last = chain[0], chain[-1]
         stops = [Point(nodes[first].x, nodes[first].y + self.boxes[first].height / 2), *(nodes[it] for it in chain[1:-1]),
                  Point(nodes[last].x, nodes[last].y - self.boxes[last].height / 2)]
+        if k in self.turned:
+            stops = [Point(stop.x + BESIDE, stop.y) for stop in stops]
         points = [stops[0]]
         for one, other in zip(stops, stops[1:]):
             middle = (one.y + other.y) / 2

@@ -59,26 +59,22 @@ def laid_out(text: str, span: Span, before: int) -> list[Line]:
 
     def close() -> None:
         if row:
-            less = 1 if row[0].text == "}" else 0
-            lines.append(Line(before + len(lines) + 1, depth - less, joined(text, row)))
+            lines.append(Line(before + len(lines) + 1, depth, joined(text, row)))
             row.clear()
 
     tokens = [Token(token.kind, token.text, Span(token.span.start + span.start, token.span.end + span.start))
               for token in tokens_of(text[slice(*span)])]
     for k, token in enumerate(tokens):
         following = tokens[k + 1].text if k + 1 < len(tokens) else ""
-        if token.text == "}" and row:
+        if token.text == "}":
             close()
+            depth -= 1
         row.append(token)
         if token.text == "{":
             close()
             depth += 1
-        elif token.text == ";":
+        elif token.text == ";" or token.text == "}" and following != "else":
             close()
-        elif token.text == "}":
-            if following != "else":
-                close()
-            depth -= 1
     close()
     return lines
 
@@ -100,7 +96,8 @@ def line_at(lines: list[Line], span: Span) -> int:
     return next((line.number for line in lines for part in line.parts if part.start <= span.start < part.end), 0)
 
 
-def listing(text: str, lines: list[Line], marks: list[Mark], label: str, end: str) -> str:
+def listing(text: str, lines: list[Line], marks: list[Mark], label: str, end: str,
+            only_here: frozenset[int] = frozenset()) -> str:
     """The lines as HTML. Marks have names by which a script finds them, and so has the last line."""
     if not lines:
         return ""
@@ -109,7 +106,8 @@ def listing(text: str, lines: list[Line], marks: list[Mark], label: str, end: st
     for line in lines:
         shown = " ".join(marked(text, part, marks) for part in line.parts)
         name = f' data-m="{end}"' if line is lines[-1] else ""
-        rows.append(f'<div class="line"{name}><span class="number">{line.number}</span><span class="sign" aria-hidden="true"></span>'
+        apart = " apart" if line.number in only_here else ""
+        rows.append(f'<div class="line{apart}"{name}><span class="number">{line.number}</span><span class="sign" aria-hidden="true"></span>'
                     f'<code style="--depth:{line.depth}">{shown}</code></div>')
     return "".join([*rows, "</div>"])
 

@@ -159,7 +159,7 @@ class TermMachine:
                     if truth:
                         left.append((edge.target, then, passes(seen, edge), passed | {node}))
                     elif edge.stops:
-                        yield Way(then, "stop", (*seen, Seen(edge.span, False)), edge.span, words="a test that is false")
+                        yield Way(then, "stop", (*seen, Seen(edge.span, False)), edge.span, words="a test is false")
 
     def mark(self, place: Hashable) -> Optional[Span]:
         return None

@@ -32,8 +32,8 @@ class Fact(NamedTuple):
 class Question:
     """What `show` prints of a problem, or `flow` of a flow file, read with the sorts of the text that it was made from."""
 
-    def __init__(self, text: str, sorts: Sorts, results: tuple[int, ...] = ()) -> None:
-        self.text, self.sorts, self.results = text, sorts, results
+    def __init__(self, text: str, sorts: Sorts, results: tuple[int, ...] = (), said_names: Mapping[str, str] = {}) -> None:
+        self.text, self.sorts, self.results, self.said = text, sorts, results, said_names
         said = dict(re.findall(r"^# ([ta]\d+) is (.*)$", text, re.M))
         self.test_texts = [said[f"t{k}"] for k in range(len(said)) if f"t{k}" in said]
         self.action_texts = [said[f"a{k}"] for k in range(len(said)) if f"a{k}" in said]
@@ -140,7 +140,8 @@ class Question:
         test, positive = self.tests[k]
         if isinstance(test, Comparison):
             return comparison_text(test, truth == positive, self.sorts.multiplies_out)
-        return self.test_texts[k] if truth else "!" + self.test_texts[k]
+        words = self.said.get(self.test_texts[k], self.test_texts[k])
+        return words if truth else opposite(words)
 
     def action_words(self, k: int) -> str:
         action = self.actions[k]
@@ -148,7 +149,15 @@ class Question:
             return f"{', '.join(name for name, _ in action.sets)} := {', '.join(form_text(form) for _, form in action.sets)}"
         if action.returns:
             return "return " + ", ".join(form_text(form) for form in action.returns)
-        return self.action_texts[k]
+        return self.said.get(self.action_texts[k], self.action_texts[k])
+
+
+def opposite(words: str) -> str:
+    """The opposite of a test in words."""
+    for sign, other in ((" == ", " != "), (" < ", " >= ")):
+        if words.count(sign) == 1:
+            return words.replace(sign, other)
+    return "!" + words
 
 
 def read_list(reader: Reader) -> list[Expression]:

@@ -85,11 +85,9 @@ def status_of(way: Way, wanted: Optional[int]) -> str:
 # Places that belong together
 
 class Together(NamedTuple):
-    """The parts of both texts that are run together, the parts of each side that some run reaches, and whether every pair of
-    places was looked at."""
+    """The parts of both texts that are run together, and whether every pair of places was looked at."""
 
     pairs: set[tuple[Span, Span]]
-    reached: tuple[set[Span], set[Span]]
     is_whole: bool
 
 
@@ -147,7 +145,7 @@ def together(left: Machine, right: Machine, question: Question) -> Together:
     facts = Knowledge(question.facts)
     first = Pair(left.start, right.start, frozenset())
     found, queue = {first}, deque([first])
-    whole = Together(set(), (set(), set()), True)
+    whole = Together(set(), True)
     ends: dict[Pair, list[tuple[Pair, tuple[Span, Span]]]] = {}
     final: set[Pair] = set()
     ways = 0
@@ -157,7 +155,6 @@ def together(left: Machine, right: Machine, question: Question) -> Together:
             ways += 1
             if ways > MOST_WAYS:
                 return whole._replace(is_whole=False)
-            note_reached(whole, mine, other)
             if mine.kind == other.kind == "end":
                 final.add(pair)
             if not (mine.kind == other.kind == "act" and mine.action is not None and mine.action == other.action):
@@ -192,11 +189,29 @@ def both_ways(left: Machine, right: Machine, pair: Pair, facts: Knowledge) -> It
                 yield mine, other, closed
 
 
-def note_reached(whole: Together, mine: Way, other: Way) -> None:
-    for spans, way in zip(whole.reached, (mine, other)):
-        spans.update(seen.span for seen in way.seen)
-        if way.span:
-            spans.add(way.span)
+def reached_by(machine: Machine, question: Question) -> Optional[set[Span]]:
+    """The parts of a side that some run reaches, with all truth values that the facts allow, or nothing if these are too
+    many."""
+    facts = Knowledge(question.facts)
+    first = (machine.start, frozenset())
+    found, queue, spans, ways = {first}, deque([first]), set(), 0
+    while queue:
+        place, known = queue.popleft()
+        for way in at_once(machine, place, dict(known)):
+            ways += 1
+            if ways > MOST_WAYS:
+                return None
+            closed = facts.closed(way.known)
+            if closed is None:
+                continue
+            spans.update(seen.span for seen in way.seen)
+            spans.update([way.span] if way.span else [])
+            then = facts.after(closed, way.action) if way.kind == "act" and way.action is not None else {}
+            later = (way.target, frozenset(then.items())) if way.kind == "act" and then is not None else first
+            if later not in found:
+                found.add(later)
+                queue.append(later)
+    return spans
 
 
 def finishing(ends: dict, final: set[Pair]) -> set[tuple[Span, Span]]:

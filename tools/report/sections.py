@@ -15,6 +15,7 @@ from .sides import View, marks_of_run, sides_html, views_of
 AROUND = 3
 MOST_ROWS = 300
 CODE_LEGEND = ("▶ next step", "✓ condition is true", "✗ condition is false", "✖ stops, or the sides part", "■ end", "grey: passed")
+DIFFERS = "bar beside a number: a line that only this side has"
 GRAPH_LEGEND = ("thick: the path of the string", "thickest: its part in this state", "thick and dashed: stops here")
 
 
@@ -95,7 +96,7 @@ def different_html(case: Case, prefix: str) -> str:
     note = tag("p", "The answer, the states and the lines above are what kat says. The places in the code and in the graphs are "
                     "worked out by this script and not proved.", class_="note")
     return (proved + stores_html(case) + stepper_html() + sides_html(case, prefix, views, ways) + legend(views) + note
-            + states_table(case, views) + states + script)
+            + states_table(case, views) + names_html(case) + states + script)
 
 
 def stepper_html() -> str:
@@ -108,19 +109,20 @@ def stepper_html() -> str:
 
 
 def legend(views: list[View]) -> str:
-    words = [*CODE_LEGEND, *(GRAPH_LEGEND if any(view.drawing for view in views) else ())]
+    words = [*CODE_LEGEND, *([DIFFERS] if any(view.only_here for view in views) else []),
+             *(GRAPH_LEGEND if any(view.drawing for view in views) else ())]
     return tag("ul", "".join(tag("li", text(it)) for it in words), class_="legend", aria_label="legend")
 
 
 def state_html(case: Case, views: list[View], k: int) -> str:
     """What holds in a state, what each side does there, and the action that follows."""
-    rows = [("holds", tests_html(case, k))] if case.states[k] else []
-    for view, steps in zip(views, case.steps):
-        rows.append((view.side.name, side_words(case, view, steps, k)))
+    rows = [(view.side.name, side_words(case, view, steps, k)) for view, steps in zip(views, case.steps)]
     if k < len(case.actions):
         rows.append(("the string", "does " + code(case.question.action_words(case.actions[k]))))
     else:
         rows.append(("the string", "ends here"))
+    if case.states[k]:
+        rows.append(("holds", tests_html(case, k)))
     return tag("dl", "".join(tag("dt", text(name)) + tag("dd", words) for name, words in rows))
 
 
@@ -169,9 +171,13 @@ def stop_words(case: Case, view: View, step: Step) -> str:
     does, where = action_words(case, step), where_words(view, step)
     return {"ended": "has ended",
             "early": "has ended too early, actions of the string are left",
-            "stops": f"cannot continue{where}, " + with_code(step.way.words),
+            "stops": f"cannot continue{where}, " + with_code(step.way.words.replace("a test", f"the test `{written(case, step)}`")),
             "other": f"cannot continue with the string, it does {does}{where}",
             "more": f"has more to do, {does}{where}"}[step.status]
+
+
+def written(case: Case, step: Step) -> str:
+    return case.text[slice(*step.way.span)] if step.way.span else ""
 
 
 def blocks_words(view: View, step: Step) -> str:
@@ -217,7 +223,7 @@ def stores_html(case: Case) -> str:
 
 def equal_html(case: Case, prefix: str) -> str:
     views = views_of(case) if case.sides else []
-    parts = [sides_html(case, prefix, views, []) if views else "", groups_html(case, views), used_html(case)]
+    parts = [sides_html(case, prefix, views, []) if views else "", groups_html(case, views), used_html(case), names_html(case)]
     return "".join(parts)
 
 
@@ -230,14 +236,15 @@ def groups_html(case: Case, views: list[View]) -> str:
         return tag("p", "Which places belong together was not worked out: there are too many.", class_="note")
     rows = []
     for k, group in enumerate(groups):
-        cells = [" ".join(sorted(places_words(case, view, span) for span in spans)) for view, spans in zip(views, group)]
+        cells = ["".join(places_words(case, view, span) for span in sorted(spans)) for view, spans in zip(views, group)]
         rows.append([tag("span", str(k + 1), class_=f"chip g{k % 8}"), *cells])
     never = [f"{view.side.name} {view.place(mark.span)}" for view in views for mark in view.marks if mark.is_never]
-    words = "In every run, both sides do the same steps in the same order. Steps with one number and colour are done together"
-    note = tag("p", words + ". They are worked out by this script from the facts that the question has, and not proved.", class_="note")
-    gone = tag("p", "No run gets to the parts that are struck out: " + text(", ".join(dict.fromkeys(never))) + ".", class_="note") if never else ""
+    note = tag("p", "In every run that ends, both sides do the same steps in the same order. Those with one number and colour are "
+                    "done together. This script works them out from the facts of the question; they are not proved.", class_="note")
+    gone = tag("p", "No run gets to the parts that are struck out: " + text(", ".join(dict.fromkeys(never)))
+               + ". This is worked out in the same way.", class_="note") if never else ""
     if not rows:
-        return ""
+        return gone
     return tag("h3", "What belongs together") + note + table("Steps that both sides do together", ["number", *(view.side.name for view in views)], rows) + gone
 
 
@@ -265,6 +272,15 @@ def used_html(case: Case) -> str:
     elif used.count() > 12:
         parts = [tag("details", tag("summary", counted(used.count(), "fact")) + "".join(parts))]
     return heading + lines + "".join(parts)
+
+
+def names_html(case: Case) -> str:
+    """What names of tests and actions stand for, where comments of the text say so."""
+    if not case.question or not case.question.said:
+        return ""
+    rows = [[code(name), code(words)] for name, words in case.question.said.items()]
+    return tag("details", tag("summary", f"{counted(len(rows), 'name')} of tests and actions")
+               + table("What the comments of the text say", ["name", "is"], rows))
 
 
 def row_of(case: Case, k: int) -> list[str]:

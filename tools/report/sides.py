@@ -1,5 +1,6 @@
 """Both sides of a goal beside each other: code with marks, and control-flow graphs."""
 
+from difflib import SequenceMatcher
 from typing import NamedTuple, Optional
 
 from .cases import Case, CaseSide
@@ -7,7 +8,7 @@ from .graphs import Drawing, Walk, drawing_of_graph, drawing_of_program, picture
 from .html_text import tag, text
 from .listing import Line, Mark, line_at, lines_of, listing
 from .machines import Seen
-from .runs import Step, groups_of
+from .runs import Step, groups_of, reached_by
 from .tokens import Span, Unreadable
 
 MOST_GROUPS = 60
@@ -21,6 +22,7 @@ class View(NamedTuple):
     lines: list[Line]
     marks: list[Mark]
     drawing: Optional[Drawing]
+    only_here: frozenset[int] = frozenset()
 
     def name_of(self, span: Span) -> str:
         return next((mark.name for mark in self.marks if mark.span == span), "")
@@ -33,20 +35,45 @@ class View(NamedTuple):
 
 def views_of(case: Case) -> list[View]:
     groups = groups_of(case.together.pairs)[:MOST_GROUPS] if case.together else []
-    return [view_of(case, number, side, groups) for number, side in enumerate(case.sides)]
+    views = [view_of(case, number, side, groups) for number, side in enumerate(case.sides)]
+    if len(views) != 2 or any(view.side.kind == "term" for view in views):
+        return views
+    return [view._replace(only_here=found) for view, found in zip(views, lines_apart(case.text, *views))]
+
+
+def lines_apart(words: str, left: View, right: View) -> tuple[frozenset[int], frozenset[int]]:
+    """The numbers of the lines that only one side has; the first line has the name of its side."""
+    texts = [[" ".join(words[slice(*part)] for part in line.parts).strip() for line in view.lines[1:]] for view in (left, right)]
+    apart: tuple[set[int], set[int]] = (set(), set())
+    for kind, *places in SequenceMatcher(None, *texts, autojunk=False).get_opcodes():
+        if kind != "equal":
+            apart[0].update(line.number for line in left.lines[1:][places[0]:places[1]])
+            apart[1].update(line.number for line in right.lines[1:][places[2]:places[3]])
+    return frozenset(apart[0]), frozenset(apart[1])
 
 
 def view_of(case: Case, number: int, side: CaseSide, groups: list[tuple[set[Span], set[Span]]]) -> View:
     lines = lines_of(case.text, side.code, side.kind != "term")
     of_span = {span: k for k, group in enumerate(groups) for span in group[number]}
     spans = sorted(leaves_of(side) | set(of_span))
-    reached = case.together.reached[number] if case.together and case.together.is_whole and side.kind != "term" else None
+    reached = reached_in(case, side)
     marks = []
     for k, span in enumerate(spans):
         is_never = reached is not None and span not in reached
-        title = f"{of_span[span] + 1}: the same step on both sides" if span in of_span else "no run of both sides gets here" if is_never else ""
+        title = f"{of_span[span] + 1}: both sides do this together" if span in of_span else \
+            "no run gets here" if is_never else case.question.said.get(case.text[slice(*span)], "")
         marks.append(Mark(span, f"{number}.{k}", of_span.get(span), title, is_never))
     return View(number, side, lines, marks, drawing_of(case, side))
+
+
+def reached_in(case: Case, side: CaseSide) -> Optional[set[Span]]:
+    """The parts of a program or graph that some run reaches, for a question of two sides that are equal."""
+    if case.together is None or side.kind == "term" or not side.machine or not case.question:
+        return None
+    try:
+        return reached_by(side.machine, case.question)
+    except (Unreadable, KeyError):
+        return None
 
 
 def drawing_of(case: Case, side: CaseSide) -> Optional[Drawing]:
@@ -88,7 +115,8 @@ def side_html(case: Case, prefix: str, view: View, way: dict[str, str]) -> str:
         before, after = (case.text[slice(*it.span)] for it in (case.goal.before, case.goal.after))
         heading = text(f"{{{before}}} {name} {{{after}}}") + " " + tag("small", f"triple of a {kind}")
     marks = [mark if case.steps or mark.group is not None or mark.is_never else mark._replace(name="") for mark in view.marks]
-    code = listing(case.text, view.lines, [mark for mark in marks if mark.name], f"code of {name}", f"{view.number}.end")
+    code = listing(case.text, view.lines, [mark for mark in marks if mark.name], f"code of {name}", f"{view.number}.end",
+                   view.only_here)
     return tag("div", tag("h4", heading) + code + picture_html(prefix, view, way), class_="side")
 
 
