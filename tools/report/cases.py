@@ -37,7 +37,7 @@ class Case:
         self.goal: Optional[Goal] = None
         self.goal_text = ""
         self.sides: list[CaseSide] = []
-        self.question: Optional[Question] = None
+        self.question = Question("", Sorts({}, {}, False))
         self.explained: list[str] = []
         self.states: list[dict[int, bool]] = []
         self.actions: list[int] = []
@@ -149,9 +149,10 @@ def explain(kat: Kat, case: Case, file: Path, turns: int) -> None:
         case.states, case.actions = read_replay(kat.with_evidence(case.answer.evidence, "replay", str(file))[1])
         case.steps = [steps_of(case, side) for side in case.sides]
         try_stores(kat, case, file, turns)
-    elif len(case.sides) == 2 and all(side.machine for side in case.sides):
+    machines = [side.machine for side in case.sides if side.machine]
+    if case.answer.status == EQUAL and len(machines) == 2:
         try:
-            case.together = together(case.sides[0].machine, case.sides[1].machine, case.question)
+            case.together = together(machines[0], machines[1], case.question)
         except (Unreadable, KeyError) as why:
             case.notes.append(f"Which places belong together was not worked out: {why}.")
 
@@ -178,4 +179,5 @@ def last_lines(case: Case) -> list[str]:
     """What `explain` says after the states of a string, with the names of the goal."""
     start = next((k for k, line in enumerate(case.explained) if " relates the ends" in line), len(case.explained))
     names = dict(zip(("left", "right"), (side.name for side in case.sides)))
-    return [re.sub(r"\b(left|right)\b", lambda found: names.get(found[0], found[0]), line) for line in case.explained[start:]]
+    return [re.sub(r"\b(left|right)\b", lambda found: names.get(str(found[0]), str(found[0])), line)
+            for line in case.explained[start:]]

@@ -10,6 +10,10 @@ from .page import page_html
 from .prover import DIFFERENT, EQUAL, Kat, found_program
 
 
+# The script `kat` ends with this where it has no program, and says why.
+NO_PROGRAM = 70
+
+
 def main(words: list[str], description: str) -> int:
     parser = argparse.ArgumentParser(description=description, formatter_class=argparse.RawDescriptionHelpFormatter)
     parser.add_argument("files", nargs="+", type=Path, metavar="FILE")
@@ -21,9 +25,16 @@ def main(words: list[str], description: str) -> int:
     missing = [str(file) for file in chosen.files if not file.exists()]
     if missing:
         parser.error("no such file or folder: " + ", ".join(missing))
-    kat = Kat(chosen.kat or found_program(), chosen.seconds)
-    cases = [case for file in chosen.files for case in cases_of(kat, file, chosen.turns)]
-    chosen.output.write_text(page_html(cases), encoding="utf-8")
+    program = chosen.kat or found_program()
+    if not program:
+        return NO_PROGRAM
+    try:
+        cases = [case for file in chosen.files for case in cases_of(Kat(program, chosen.seconds), file, chosen.turns)]
+        if not cases:
+            parser.error("no file to show in " + ", ".join(map(str, chosen.files)))
+        chosen.output.write_text(page_html(cases), encoding="utf-8")
+    except OSError as why:
+        parser.error(str(why))
     return 0
 
 

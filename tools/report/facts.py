@@ -14,7 +14,7 @@ class Used(NamedTuple):
     together: list[str]
     stated: list[str]
 
-    def count(self) -> int:
+    def size(self) -> int:
         return sum(map(len, self.after.values())) + len(self.together) + len(self.stated)
 
 

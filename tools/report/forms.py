@@ -207,19 +207,30 @@ def comparison_of(condition: Condition, values: Mapping[str, Form], sorts: Sorts
 
 def narrowed(left: Form, right: Form, keeps_order: bool) -> Optional[tuple[Form, Form]]:
     """Both forms before a conversion to more bits that both have, or that one has and the other is a number it can give."""
-    cells = [cell_of(form) for form in (left, right)]
-    words = [cell[1][0] if cell and cell[0] == "conversion" and cell[2].width < left.width else "" for cell in cells]
-    inner = [cell[2] if word else None for cell, word in zip(cells, words)]
-    if not any(words) or keeps_order and "s" in words:
+    one, other = widening_of(left), widening_of(right)
+    if keeps_order and "s" in (one or ("",))[0] + (other or ("",))[0]:
         return None
-    if all(words):
-        return (inner[0], inner[1]) if words[0] == words[1] and inner[0].width == inner[1].width else None
-    place = 0 if words[0] else 1
-    other, small = (left, right)[1 - place], inner[place]
-    if other.parts or converted(words[place] + str(left.width), number(other.number, small.width)) != other:
-        return None
-    pair = (small, number(other.number, small.width))
-    return pair if place == 0 else (pair[1], pair[0])
+    if one and other:
+        return (one[1], other[1]) if one[0] == other[0] and one[1].width == other[1].width else None
+    if one:
+        return with_number(one, right)
+    swapped = with_number(other, left) if other else None
+    return (swapped[1], swapped[0]) if swapped else None
+
+
+def widening_of(form: Form) -> Optional[tuple[str, Form]]:
+    """The letter of a conversion to more bits, and the form before it."""
+    cell = cell_of(form)
+    if cell and cell[0] == "conversion" and cell[2].width < form.width:
+        return cell[1][0], cell[2]
+    return None
+
+
+def with_number(widening: tuple[str, Form], form: Form) -> Optional[tuple[Form, Form]]:
+    """The form before a conversion, and the number of its bits whose conversion is the other form."""
+    letter, small = widening
+    before = number(form.number, small.width)
+    return (small, before) if not form.parts and converted(f"{letter}{form.width}", before) == form else None
 
 
 def equality(left: Form, right: Form) -> tuple[Union[Comparison, bool], bool]:

@@ -14,6 +14,11 @@ def text(words: object) -> str:
     return html.escape(str(words), quote=False)
 
 
+def path_text(words: str) -> str:
+    """The name of a file, which may break after a slash."""
+    return text(words).replace("/", "/<wbr>")
+
+
 def code(words: object) -> str:
     return tag("code", text(words))
 

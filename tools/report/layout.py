@@ -90,7 +90,8 @@ class Layers:
     """The nodes of a graph in layers, with a bend for each layer that a link crosses."""
 
     def __init__(self, boxes: dict[str, Box], links: list[Link]) -> None:
-        self.boxes: dict[object, Box] = dict(boxes)
+        self.boxes: dict[object, Box] = {}
+        self.boxes.update(boxes.items())
         self.links = links
         self.turned = turned_links(list(boxes), links)
         self.layer = layers_of(list(boxes), links, self.turned)
@@ -124,8 +125,8 @@ class Layers:
         """The rows, each in the order of the middle of its neighbours, swept down and up; the best of all sweeps."""
         above, below = self.neighbours()
         rows: list[list[object]] = [[] for _ in range(max(self.layer.values()) + 1)]
-        for it, row in self.layer.items():
-            rows[row].append(it)
+        for it, layer in self.layer.items():
+            rows[layer].append(it)
         best, fewest = [list(row) for row in rows], crossings(rows, below)
         for sweep in range(SWEEPS):
             order = rows if sweep % 2 == 0 else rows[::-1]

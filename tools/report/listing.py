@@ -26,19 +26,18 @@ class Mark(NamedTuple):
     is_never: bool = False
 
 
-def lines_of(text: str, code: tuple[Span, ...], has_blocks: bool) -> list[Line]:
-    """The lines of the text. Blocks that have several statements in a line, or long lines, are laid out anew."""
-    lines = [line for span in code for line in as_written(text, span)]
-    if has_blocks and any(is_crowded(text, line) for line in lines):
-        lines = []
-        for span in code:
-            lines += laid_out(text, span, len(lines))
+def lines_of(text: str, code: tuple[Span, ...], is_anew: bool) -> list[Line]:
+    """The lines as they are written, or with a line for each statement."""
+    lines: list[Line] = []
+    for span in code:
+        lines += laid_out(text, span, len(lines)) if is_anew else as_written(text, span)
     return lines
 
 
-def is_crowded(text: str, line: Line) -> bool:
-    shown = text[slice(*line.parts[0])]
-    return shown.count(";") > 2 or shown.count(";") == 2 and ":=" in shown and "block" not in shown or len(shown) > LONG
+def is_crowded(text: str, code: tuple[Span, ...]) -> bool:
+    """Whether blocks have long lines, or lines with several statements."""
+    lines = [text[slice(*line.parts[0])] for span in code for line in as_written(text, span)]
+    return any(line.count(";") > (2 if line.lstrip().startswith(("block", "cut")) else 1) or len(line) > LONG for line in lines)
 
 
 def as_written(text: str, span: Span) -> list[Line]:

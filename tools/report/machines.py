@@ -4,17 +4,18 @@ A way is found from what is known of the tests; where it needs a test of which n
 truth value. All this is computed by this script and not proved.
 """
 
-from typing import Hashable, Iterator, NamedTuple, Optional, Protocol
+from typing import Any, Iterator, NamedTuple, Optional, Protocol
 
 from .flows import Flow, Graph, Jump, entry_of, live_variables, places_of
 from .forms import Form, form_of, of_cell, width_of
 from .problems import Term, negation
 from .questions import Action, Known, Question
-from .tokens import Condition, Span, Unreadable
+from .tokens import ALWAYS, Condition, Span, Unreadable
 
 MOST_STEPS = 20_000
 ENDED = "ended"
-ALWAYS = Condition("constant", "true", Span(0, 0))
+# A node of the automaton of a term, a block of a graph, or the end.
+Place = Any
 
 
 class Seen(NamedTuple):
@@ -34,17 +35,17 @@ class Way(NamedTuple):
     span: Optional[Span] = None
     action: Optional[int] = None
     words: str = ""
-    target: Hashable = None
+    target: Place = None
 
 
 class Machine(Protocol):
-    start: Hashable
+    start: Place
     is_program: bool
 
-    def ways(self, place: Hashable, known: Known) -> Iterator[Way]:
+    def ways(self, place: Place, known: Known) -> Iterator[Way]:
         """The ways from a place."""
 
-    def mark(self, place: Hashable) -> Optional[Span]:
+    def mark(self, place: Place) -> Optional[Span]:
         """The part of the text that names a place, if one does."""
 
 
@@ -55,7 +56,7 @@ class Edge(NamedTuple):
 
     target: int
     span: Optional[Span] = None
-    condition: Optional[Condition] = None
+    condition: Condition = ALWAYS
     truth: Optional[bool] = None
     act: Optional[Term] = None
     stops: bool = False
@@ -77,7 +78,7 @@ class TermMachine:
         self.edges.append([])
         return len(self.edges) - 1
 
-    def link(self, source: int, target: Optional[int] = None, **edge) -> int:
+    def link(self, source: int, target: Optional[int] = None, **edge: Any) -> int:
         node = self.node() if target is None else target
         self.edges[source].append(Edge(node, **edge))
         return node
@@ -134,7 +135,7 @@ class TermMachine:
         condition = term.condition if truth else negation(term.condition)
         return self.link(start, span=term.span, condition=condition, truth=truth)
 
-    def ways(self, place: Hashable, known: Known) -> Iterator[Way]:
+    def ways(self, place: Place, known: Known) -> Iterator[Way]:
         left: list[tuple[int, Known, tuple[Seen, ...], frozenset]] = [(place, known, (), frozenset())]
         steps = 0
         while left:
@@ -153,19 +154,18 @@ class TermMachine:
                 continue
             for edge in reversed(self.edges[node]):
                 if edge.act:
-                    yield self.acts(edge, known, seen)
+                    yield self.acts(edge, edge.act, known, seen)
                     continue
-                for then, truth in self.question.decided(edge.condition or ALWAYS, {}, known):
+                for then, truth in self.question.decided(edge.condition, {}, known):
                     if truth:
                         left.append((edge.target, then, passes(seen, edge), passed | {node}))
-                    elif edge.stops:
+                    elif edge.stops and edge.span:
                         yield Way(then, "stop", (*seen, Seen(edge.span, False)), edge.span, words="a test is false")
 
-    def mark(self, place: Hashable) -> Optional[Span]:
+    def mark(self, place: Place) -> Optional[Span]:
         return None
 
-    def acts(self, edge: Edge, known: Known, seen: tuple[Seen, ...]) -> Way:
-        act = edge.act
+    def acts(self, edge: Edge, act: Term, known: Known, seen: tuple[Seen, ...]) -> Way:
         if act.value is None:
             action = Action(name=act.name)
             words = act.name
@@ -199,7 +199,7 @@ class FlowMachine:
         self.live = live_variables(graph, set(flow.variables))
         self.start = entry_of(graph)
 
-    def ways(self, place: Hashable, known: Known) -> Iterator[Way]:
+    def ways(self, place: Place, known: Known) -> Iterator[Way]:
         if place == ENDED:
             yield Way(known, "end", ())
             return
@@ -225,7 +225,7 @@ class FlowMachine:
                     else:
                         left.append((target, way.known, new_values, way.seen, passed | {name}))
 
-    def mark(self, place: Hashable) -> Optional[Span]:
+    def mark(self, place: Place) -> Optional[Span]:
         return self.graph.blocks[place].heading if place in self.graph.blocks else None
 
     def through(self, name: str, known: Known, values: dict[str, Form],
@@ -263,7 +263,7 @@ class FlowMachine:
         elif jump.kind == "goto":
             yield self.arrives(jump.targets[0], Way(known, "act", (*seen, Seen(jump.span)), jump.span), values)
         else:
-            for then, truth in self.question.decided(jump.condition, values, known):
+            for then, truth in self.question.decided(jump.condition or ALWAYS, values, known):
                 target = jump.targets[0 if truth else 1]
                 yield self.arrives(target, Way(then, "act", (*seen, Seen(jump.span, truth)), jump.span), values)
 

@@ -2,9 +2,9 @@
 
 import sys
 from dataclasses import dataclass, field
-from typing import NamedTuple, Optional
+from typing import Callable, Container, NamedTuple, Optional
 
-from .tokens import Condition, Expression, Reader, Span, Unreadable
+from .tokens import ALWAYS, Condition, Expression, Reader, Span, Unreadable
 
 NOWHERE = Span(0, 0)
 # The calls in each other that 200 levels of a text need, which the program allows.
@@ -19,7 +19,7 @@ class Term(NamedTuple):
     kind: str
     span: Span = NOWHERE
     parts: tuple["Term", ...] = ()
-    condition: Optional[Condition] = None
+    condition: Condition = ALWAYS
     name: str = ""
     value: Optional[Expression] = None
 
@@ -38,8 +38,8 @@ class Goal(NamedTuple):
 
     kind: str
     sides: tuple[Side, ...]
-    before: Optional[Condition] = None
-    after: Optional[Condition] = None
+    before: Condition = ALWAYS
+    after: Condition = ALWAYS
 
 
 @dataclass
@@ -175,7 +175,7 @@ class ProblemReader(Reader):
     def term(self) -> Term:
         return self.terms("+", lambda: self.terms(".", self.starred))
 
-    def terms(self, sign: str, operand) -> Term:
+    def terms(self, sign: str, operand: Callable[[], Term]) -> Term:
         whole = operand()
         while self.takes(sign):
             whole = Term(sign, NOWHERE, (whole, operand()))
@@ -252,7 +252,28 @@ class ProblemReader(Reader):
         return self.statement() if self.peek() == "if" else self.block()
 
 
-def names_in(text: str, known) -> list[str]:
+def statement_at(program: Term, path: str) -> Span:
+    """The place of the statement with a path of `explain`: positions in lists, and between them which block."""
+    first, *rest = (int(part) for part in path.split("."))
+    statement = statements_of(program)[first]
+    for block, position in zip(rest[::2], rest[1::2]):
+        statement = statements_of(statement.parts[block])[position]
+    return statement.span
+
+
+def statements_of(term: Term) -> list[Term]:
+    """The statements of a block, from left to right."""
+    found, left = [], [term]
+    while left:
+        part = left.pop()
+        if part.kind == ".":
+            left += reversed(part.parts)
+        elif part.kind != "1":
+            found.append(part)
+    return found
+
+
+def names_in(text: str, known: Container[str]) -> list[str]:
     return [token.text for token in Reader(text).tokens if token.text in known]
 
 
@@ -266,7 +287,7 @@ def negation(condition: Condition, span: Optional[Span] = None) -> Condition:
 
 def condition_of(term: Term) -> Condition:
     """The condition of a term without actions and stars."""
-    if term.kind == "test" and term.condition:
+    if term.kind == "test":
         return term.condition
     if term.kind in ("0", "1"):
         return Condition("constant", "true" if term.kind == "1" else "false", term.span)

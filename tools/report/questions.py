@@ -1,15 +1,17 @@
 """The question over tests and actions that is decided: what its tests and actions are, and its hypotheses as facts."""
 
 import re
-from typing import Iterator, Mapping, NamedTuple, Optional
+from typing import Iterator, Mapping, NamedTuple, Optional, Union
 
-from .forms import Comparison, Form, Sorts, cell_of, comparison_of, comparison_text, form_of, form_text, number, of_cell, plus
-from .forms import rebuilt
+from .forms import Comparison, Form, Sorts, cell_of, comparison_of, comparison_text, form_of, form_text, number, of_cell
+from .forms import plus, rebuilt
 from .problems import Term, condition_of, read_problem
 from .tokens import Condition, Expression, Reader, Unreadable
 
 # Which tests are true or false, by their numbers.
 Known = Mapping[int, bool]
+# A comparison, its truth where it is decided, or the name of a declared test.
+Test = Union[Comparison, bool, str]
 MOST_PRODUCTS = 64
 
 
@@ -37,14 +39,14 @@ class Question:
         said = dict(re.findall(r"^# ([ta]\d+) is (.*)$", text, re.M))
         self.test_texts = [said[f"t{k}"] for k in range(len(said)) if f"t{k}" in said]
         self.action_texts = [said[f"a{k}"] for k in range(len(said)) if f"a{k}" in said]
-        self.tests: list[object] = [self.read_test(words) for words in self.test_texts]
+        self.tests: list[tuple[Test, bool]] = [self.read_test(words) for words in self.test_texts]
         self.actions = [self.read_action(words) for words in self.action_texts]
-        self.found: dict[object, tuple[int, bool]] = {}
+        self.found: dict[Test, tuple[int, bool]] = {}
         for k, (test, positive) in enumerate(self.tests):
             self.found.setdefault(test, (k, positive))
         self.facts, self.unread = facts_of(text)
 
-    def read_test(self, words: str) -> tuple[object, bool]:
+    def read_test(self, words: str) -> tuple[Test, bool]:
         """A comparison in its normal form, or the name of a test."""
         try:
             condition = Reader(words).condition()
@@ -88,8 +90,10 @@ class Question:
             yield from self.decided_test(condition, values, known)
 
     def decided_test(self, condition: Condition, values: Mapping[str, Form], known: Known) -> Iterator[tuple[Known, bool]]:
-        test, positive = (comparison_of(condition, values, self.sorts) if condition.kind == "comparison"
-                          else (condition.text, True))
+        test: Test
+        test, positive = condition.text, True
+        if condition.kind == "comparison":
+            test, positive = comparison_of(condition, values, self.sorts)
         if isinstance(test, bool):
             yield known, test == positive
         elif test not in self.found:
@@ -188,7 +192,7 @@ def facts_of(text: str) -> tuple[list[Fact], int]:
     return found, unread
 
 
-def products(term: Term) -> list[list[object]]:
+def products(term: Term) -> list[list[Union[int, dict[int, bool]]]]:
     """A term as a sum of products of truth values and actions."""
     if term.kind == "act":
         return [[int(term.name[1:])]]
@@ -221,10 +225,10 @@ def truths(condition: Condition, wanted: bool) -> list[dict[int, bool]]:
             if all(other.get(k, truth) == truth for k, truth in one.items())]
 
 
-def fact_of(product: list[object]) -> Optional[Fact]:
+def fact_of(product: list[Union[int, dict[int, bool]]]) -> Optional[Fact]:
     """A product of truth values with at most one action, as a fact; none where it contradicts itself."""
     sides: list[dict[int, bool]] = [{}]
-    action = None
+    action: Optional[int] = None
     for part in product:
         if isinstance(part, dict):
             if any(sides[-1].get(k, truth) != truth for k, truth in part.items()):

@@ -4,9 +4,9 @@ All this is computed by this script and not proved.
 """
 
 from collections import deque
-from typing import Hashable, Iterable, Iterator, NamedTuple, Optional
+from typing import Iterable, Iterator, NamedTuple, Optional
 
-from .machines import Machine, Seen, Way
+from .machines import Machine, Place, Seen, Way
 from .questions import Fact, Known, Question
 from .tokens import Span, Unreadable
 
@@ -25,7 +25,7 @@ class Step(NamedTuple):
 class Reached(NamedTuple):
     """A place of a side in a state, with the steps that led there."""
 
-    place: Hashable
+    place: Place
     steps: tuple[Step, ...]
 
 
@@ -34,7 +34,7 @@ def follow(machine: Machine, states: list[dict[int, bool]], actions: list[int]) 
     reached = [Reached(machine.start, ())]
     for k, state in enumerate(states):
         wanted = actions[k] if k < len(actions) else None
-        later: dict[Hashable, Reached] = {}
+        later: dict[Place, Reached] = {}
         failed: list[tuple[Reached, Step]] = []
         for at in reached:
             for way in at_once(machine, at.place, state):
@@ -47,15 +47,15 @@ def follow(machine: Machine, states: list[dict[int, bool]], actions: list[int]) 
                     failed.append((at, step))
         if not later:
             order = ("early", "other", "more", "stops")
-            at, step = min(failed, key=lambda it: order.index(it[1].status), default=(reached[0], None))
-            return [*at.steps, step] if step else list(at.steps)
+            failed.sort(key=lambda it: order.index(it[1].status))
+            return [*failed[0][0].steps, failed[0][1]] if failed else list(reached[0].steps)
         reached = list(later.values())
     return list(reached[0].steps)
 
 
-def at_once(machine: Machine, place: Hashable, known: Known, most: int = 1000) -> Iterator[Way]:
+def at_once(machine: Machine, place: Place, known: Known, most: int = 1000) -> Iterator[Way]:
     """The ways from a place, together with those after ways that do nothing."""
-    left: list[tuple[Hashable, Known, tuple[Seen, ...], frozenset]] = [(place, known, (), frozenset())]
+    left: list[tuple[Place, Known, tuple[Seen, ...], frozenset]] = [(place, known, (), frozenset())]
     while left:
         place, known, seen, passed = left.pop()
         if place in passed:
@@ -135,8 +135,8 @@ class Knowledge:
 
 
 class Pair(NamedTuple):
-    left: Hashable
-    right: Hashable
+    left: Place
+    right: Place
     known: frozenset
 
 
@@ -157,20 +157,21 @@ def together(left: Machine, right: Machine, question: Question) -> Together:
                 return whole._replace(is_whole=False)
             if mine.kind == other.kind == "end":
                 final.add(pair)
-            if not (mine.kind == other.kind == "act" and mine.action is not None and mine.action == other.action):
+            if not mine.kind == other.kind == "act" or mine.action is None or mine.action != other.action:
                 continue
             then = facts.after(known, mine.action)
             if then is None:
                 continue
             later = Pair(mine.target, other.target, frozenset(then.items()))
-            spans = (left.mark(mine.target) or mine.span, right.mark(other.target) or other.span)
-            ends.setdefault(later, []).append((pair, spans))
+            spans = left.mark(mine.target) or mine.span, right.mark(other.target) or other.span
+            if spans[0] and spans[1]:
+                ends.setdefault(later, []).append((pair, (spans[0], spans[1])))
             if later not in found:
                 found.add(later)
                 queue.append(later)
     starts = left.mark(left.start), right.mark(right.start)
-    if all(starts):
-        whole.pairs.add(starts)
+    if starts[0] and starts[1]:
+        whole.pairs.add((starts[0], starts[1]))
     if left.is_program and right.is_program:
         whole.pairs.update(spans for before in ends.values() for _, spans in before)
     else:
@@ -193,8 +194,9 @@ def reached_by(machine: Machine, question: Question) -> Optional[set[Span]]:
     """The parts of a side that some run reaches, with all truth values that the facts allow, or nothing if these are too
     many."""
     facts = Knowledge(question.facts)
-    first = (machine.start, frozenset())
-    found, queue, spans, ways = {first}, deque([first]), set(), 0
+    first: tuple[Place, frozenset] = (machine.start, frozenset())
+    found, queue, ways = {first}, deque([first]), 0
+    spans: set[Span] = set()
     while queue:
         place, known = queue.popleft()
         for way in at_once(machine, place, dict(known)):
@@ -206,8 +208,10 @@ def reached_by(machine: Machine, question: Question) -> Optional[set[Span]]:
                 continue
             spans.update(seen.span for seen in way.seen)
             spans.update([way.span] if way.span else [])
-            then = facts.after(closed, way.action) if way.kind == "act" and way.action is not None else {}
-            later = (way.target, frozenset(then.items())) if way.kind == "act" and then is not None else first
+            if way.kind != "act":
+                continue
+            then = {} if way.action is None else facts.after(closed, way.action)
+            later = first if then is None else (way.target, frozenset(then.items()))
             if later not in found:
                 found.add(later)
                 queue.append(later)

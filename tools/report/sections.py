@@ -1,19 +1,21 @@
 """The section of a question: what the program says of it, and what this script shows of that."""
 
 import json
-from typing import Optional
-
+import re
 from .cases import Case, last_lines
 from .facts import used_facts
-from .html_text import code, counted, table, tag, text, with_code
-from .listing import line_at
+from .html_text import code, counted, path_text, table, tag, text, with_code
+from .problems import statement_at
 from .prover import DIFFERENT, EQUAL, refusal_of
 from .refusals import Fault, fault_of, reason_of
 from .runs import Step, groups_of
+from .tokens import Span
 from .sides import View, marks_of_run, sides_html, views_of
 
 AROUND = 3
 MOST_ROWS = 300
+# More states times tests are shown with what changes only, so that a page stays small.
+MOST_TESTS = 2000
 CODE_LEGEND = ("▶ next step", "✓ condition is true", "✗ condition is false", "✖ stops, or the sides part", "■ end", "grey: passed")
 DIFFERS = "bar beside a number: a line that only this side has"
 GRAPH_LEGEND = ("thick: the path of the string", "thickest: its part in this state", "thick and dashed: stops here")
@@ -26,7 +28,7 @@ def section_html(case: Case, k: int) -> str:
     if case.answer.evidence:
         facts = [counted(case.answer.size, "pair" if case.answer.status == EQUAL else "action"),
                  counted(case.answer.hypotheses, "hypothesis"), *facts]
-    head = tag("h2", text(case.title), id=f"p{k}")
+    head = tag("h2", path_text(case.title), id=f"p{k}")
     line = tag("p", tag("span", text(word), class_=f"answer {case.kind()}") + " " + tag("span", text(", ".join(facts)), class_="facts"))
     goal = tag("p", "goal " + code(case.goal_text)) if case.goal_text else ""
     notes = "".join(tag("p", with_code(note), class_="note") for note in case.notes)
@@ -82,11 +84,11 @@ def blank(words: str) -> str:
 # Different
 
 def different_html(case: Case, prefix: str) -> str:
-    said = tag("ul", "".join(tag("li", text(line)) for line in last_lines(case)))
-    proved = tag("h3", "Where the sides part" if len(case.sides) != 1 else "Where the triple fails") + said
-    if not case.sides or not case.states:
-        return proved + states_table(case, [])
     views = views_of(case)
+    said = tag("ul", "".join(tag("li", line_html(case, views, line)) for line in last_lines(case)))
+    proved = tag("h3", "Where the sides part" if len(case.sides) != 1 else "Where the triple fails") + said
+    if not views or not case.states:
+        return proved + tag("pre", text("\n".join(case.explained)))
     proved += "".join(parted_words(case, view, steps) for view, steps in zip(views, case.steps))
     marks = [marks_of_run(view, steps, len(case.states)) for view, steps in zip(views, case.steps)]
     data = [{"marks": {name: state for side in marks for name, state in side[k].items()}} for k in range(len(case.states))]
@@ -97,6 +99,16 @@ def different_html(case: Case, prefix: str) -> str:
                     "worked out by this script and not proved.", class_="note")
     return (proved + stores_html(case) + stepper_html() + sides_html(case, prefix, views, ways) + legend(views) + note
             + states_table(case, views) + names_html(case) + states + script)
+
+
+def line_html(case: Case, views: list[View], line: str) -> str:
+    """A line of `explain`, with the statement that its path means."""
+    found = re.match(r"(\w+) (?:cannot continue|has more to do).* it is at ([0-9.]+)$", line)
+    view = next((view for view in views if found and view.side.name == found[1]), None)
+    if not found or not view or not view.side.term:
+        return text(line)
+    span = statement_at(view.side.term, found[2])
+    return text(line) + text(f", {view.place(span)}: ") + code(case.text[slice(*span)])
 
 
 def stepper_html() -> str:
@@ -130,6 +142,9 @@ def tests_html(case: Case, k: int) -> str:
     before = case.states[k - 1] if k else {}
     parts = [(before.get(test) == truth, case.question.test_words(test, truth)) for test, truth in case.states[k].items()]
     parts.sort(key=lambda part: part[0])
+    if k and len(case.states) * len(parts) > MOST_TESTS:
+        parts = [part for part in parts if not part[0]]
+        return tag("ul", "".join(tag("li", code(words), class_="new") for _, words in parts), class_="tests") + "the others as before"
     items = [tag("li", code(words), class_="" if is_old or k == 0 else "new", title="" if is_old or k == 0 else "changed")
              for is_old, words in parts]
     return tag("ul", "".join(items), class_="tests")
@@ -193,8 +208,8 @@ def states_table(case: Case, views: list[View]) -> str:
     rows, parted = [], {}
     for k in range(min(len(case.states), MOST_ROWS)):
         changed = [case.question.test_words(test, truth) for test, truth in case.states[k].items()
-                   if not k or case.states[k - 1].get(test) != truth] if case.question else []
-        action = code(case.question.action_words(case.actions[k])) if case.question and k < len(case.actions) else ""
+                   if not k or case.states[k - 1].get(test) != truth] 
+        action = code(case.question.action_words(case.actions[k])) if k < len(case.actions) else ""
         rows.append([str(k), "<br>".join(map(code, changed)), action,
                      *(side_words(case, view, steps, k) for view, steps in zip(views, case.steps))])
         if any(k + 1 == len(steps) and steps[k].status != "ended" for steps in case.steps):
@@ -248,12 +263,14 @@ def groups_html(case: Case, views: list[View]) -> str:
     return tag("h3", "What belongs together") + note + table("Steps that both sides do together", ["number", *(view.side.name for view in views)], rows) + gone
 
 
-def places_words(case: Case, view: View, span) -> str:
+def places_words(case: Case, view: View, span: Span) -> str:
     words = " ".join(case.text[slice(*span)].rstrip(";").split())
     return tag("div", text(view.place(span)) + " " + code(words if len(words) < 60 else words[:57] + ".."))
 
 
 def used_html(case: Case) -> str:
+    if not case.explained:
+        return tag("p", "`explain` gave no answer in time.", class_="note")
     used = used_facts(case.explained, case.question, case.problem_text)
     first = [line for line in case.explained if line.startswith(("equal:", "hypotheses "))]
     heading = tag("h3", "What the proof used")
@@ -269,8 +286,8 @@ def used_html(case: Case) -> str:
                      + tag("ul", "".join(tag("li", code(it)) for it in used.together[:MOST_ROWS])))
     if not parts:
         parts = [tag("p", "No hypothesis: the sides are equal by the laws of the algebra alone.")]
-    elif used.count() > 12:
-        parts = [tag("details", tag("summary", counted(used.count(), "fact")) + "".join(parts))]
+    elif used.size() > 12:
+        parts = [tag("details", tag("summary", counted(used.size(), "fact")) + "".join(parts))]
     return heading + lines + "".join(parts)
 
 
@@ -289,4 +306,4 @@ def row_of(case: Case, k: int) -> list[str]:
     if case.answer.evidence:
         size = counted(case.answer.size, "pair" if case.answer.status == EQUAL else "action")
     word = case.answer.word or "no answer"
-    return [tag("a", text(case.title), href=f"#p{k}"), tag("span", text(word), class_=case.kind()), size, f"{case.answer.seconds:.3f} s"]
+    return [tag("a", path_text(case.title), href=f"#p{k}"), tag("span", text(word), class_=case.kind()), size, f"{case.answer.seconds:.3f} s"]

@@ -6,7 +6,7 @@ from typing import NamedTuple, Optional
 from .cases import Case, CaseSide
 from .graphs import Drawing, Walk, drawing_of_graph, drawing_of_program, picture
 from .html_text import tag, text
-from .listing import Line, Mark, line_at, lines_of, listing
+from .listing import Line, Mark, is_crowded, line_at, lines_of, listing
 from .machines import Seen
 from .runs import Step, groups_of, reached_by
 from .tokens import Span, Unreadable
@@ -35,7 +35,8 @@ class View(NamedTuple):
 
 def views_of(case: Case) -> list[View]:
     groups = groups_of(case.together.pairs)[:MOST_GROUPS] if case.together else []
-    views = [view_of(case, number, side, groups) for number, side in enumerate(case.sides)]
+    is_anew = any(side.kind != "term" and is_crowded(case.text, side.code) for side in case.sides)
+    views = [view_of(case, number, groups, is_anew) for number in range(len(case.sides))]
     if len(views) != 2 or any(view.side.kind == "term" for view in views):
         return views
     return [view._replace(only_here=found) for view, found in zip(views, lines_apart(case.text, *views))]
@@ -45,15 +46,16 @@ def lines_apart(words: str, left: View, right: View) -> tuple[frozenset[int], fr
     """The numbers of the lines that only one side has; the first line has the name of its side."""
     texts = [[" ".join(words[slice(*part)] for part in line.parts).strip() for line in view.lines[1:]] for view in (left, right)]
     apart: tuple[set[int], set[int]] = (set(), set())
-    for kind, *places in SequenceMatcher(None, *texts, autojunk=False).get_opcodes():
+    for kind, *places in SequenceMatcher(None, texts[0], texts[1], autojunk=False).get_opcodes():
         if kind != "equal":
             apart[0].update(line.number for line in left.lines[1:][places[0]:places[1]])
             apart[1].update(line.number for line in right.lines[1:][places[2]:places[3]])
     return frozenset(apart[0]), frozenset(apart[1])
 
 
-def view_of(case: Case, number: int, side: CaseSide, groups: list[tuple[set[Span], set[Span]]]) -> View:
-    lines = lines_of(case.text, side.code, side.kind != "term")
+def view_of(case: Case, number: int, groups: list[tuple[set[Span], set[Span]]], is_anew: bool) -> View:
+    side = case.sides[number]
+    lines = lines_of(case.text, side.code, is_anew and side.kind != "term")
     of_span = {span: k for k, group in enumerate(groups) for span in group[number]}
     spans = sorted(leaves_of(side) | set(of_span))
     reached = reached_in(case, side)
@@ -68,7 +70,7 @@ def view_of(case: Case, number: int, side: CaseSide, groups: list[tuple[set[Span
 
 def reached_in(case: Case, side: CaseSide) -> Optional[set[Span]]:
     """The parts of a program or graph that some run reaches, for a question of two sides that are equal."""
-    if case.together is None or side.kind == "term" or not side.machine or not case.question:
+    if case.together is None or side.kind == "term" or not side.machine:
         return None
     try:
         return reached_by(side.machine, case.question)

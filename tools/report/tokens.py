@@ -1,7 +1,7 @@
 """Tokens, expressions and conditions, which problem files and flow files share."""
 
 import re
-from typing import NamedTuple
+from typing import Callable, NamedTuple
 
 TOKEN = re.compile(r"(?P<skip>[ \t\r\n]+|\#[^\n]*)|(?P<name>[^\W\d]\w*)|(?P<number>[0-9]+)"
                    r"|(?P<sign>:=|==|!=|<=|>=|&&|\|\||[-<>!+*.()\[\]{},;=^])")
@@ -55,6 +55,9 @@ def tokens_of(text: str) -> list[Token]:
             found.append(Token(match.lastgroup or "", match[0], Span(*match.span())))
         place = match.end()
     return found
+
+
+ALWAYS = Condition("constant", "true", Span(0, 0))
 
 
 class Reader:
@@ -113,7 +116,7 @@ class Reader:
     def product(self) -> Expression:
         return self.operations("*", self.factor)
 
-    def operations(self, signs: str, operand) -> Expression:
+    def operations(self, signs: str, operand: Callable[[], Expression]) -> Expression:
         whole = operand()
         while self.peek() and self.peek() in signs:
             whole = Expression("operation", self.take(), (whole, operand()))
@@ -144,7 +147,7 @@ class Reader:
     def condition(self) -> Condition:
         return self.joined("||", lambda: self.joined("&&", self.literal))
 
-    def joined(self, sign: str, operand) -> Condition:
+    def joined(self, sign: str, operand: Callable[[], Condition]) -> Condition:
         start = self.start()
         whole = operand()
         while self.takes(sign):

@@ -3,12 +3,22 @@
 import base64
 import json
 import os
+import select
 import shutil
 import subprocess
+import sys
 import tempfile
 from pathlib import Path
 from typing import Any, Optional
 
+SECONDS = 120
+# Gives the pipes the numbers 3 and 4, which the browser expects.
+LAUNCH = """import fcntl, os, sys
+pipes = [fcntl.fcntl(int(word), fcntl.F_DUPFD, 10) for word in sys.argv[1:3]]
+for pipe, number in zip(pipes, (3, 4)):
+    os.dup2(pipe, number)
+os.execv(sys.argv[3], sys.argv[3:])
+"""
 NAMES = ("chromium", "chromium-browser", "google-chrome", "google-chrome-stable")
 
 
@@ -20,15 +30,13 @@ class Browser:
     """A browser with one page. Its descriptors 3 and 4 are pipes of JSON texts that end with a 0 byte."""
 
     def __init__(self, program: str) -> None:
-        self.folder = tempfile.TemporaryDirectory(ignore_cleanup_errors=True)
+        self.folder = tempfile.mkdtemp()
         to_read, self.to = os.pipe()
         self.from_, to_write = os.pipe()
         words = [program, "--headless", "--no-sandbox", "--disable-gpu", "--disable-dev-shm-usage", "--remote-debugging-pipe",
-                 f"--user-data-dir={self.folder.name}", "about:blank"]
-        # The shell gives the pipes the numbers that the browser expects.
-        script = f'exec 3<&{to_read} 4>&{to_write}; exec "$@"'
-        self.process = subprocess.Popen(["sh", "-c", script, "sh", *words], pass_fds=(to_read, to_write),
-                                        stdout=subprocess.DEVNULL, stderr=subprocess.DEVNULL)
+                 f"--user-data-dir={self.folder}", "about:blank"]
+        self.process = subprocess.Popen([sys.executable, "-c", LAUNCH, str(to_read), str(to_write), *words],
+                                        pass_fds=(to_read, to_write), stdout=subprocess.DEVNULL, stderr=subprocess.DEVNULL)
         os.close(to_read)
         os.close(to_write)
         self.count, self.left = 0, b""
@@ -54,6 +62,8 @@ class Browser:
 
     def read(self) -> dict[str, Any]:
         while b"\0" not in self.left:
+            if not select.select([self.from_], [], [], SECONDS)[0]:
+                raise RuntimeError(f"the browser did not answer within {SECONDS} seconds")
             more = os.read(self.from_, 1 << 16)
             if not more:
                 raise RuntimeError("the browser has ended")
@@ -102,4 +112,4 @@ class Browser:
             self.process.wait()
         os.close(self.to)
         os.close(self.from_)
-        self.folder.cleanup()
+        shutil.rmtree(self.folder, ignore_errors=True)

@@ -13,7 +13,7 @@ EXAMPLES = TOP / "examples"
 FILES = ("holds/program-unswitched.kat", "fails/assignment-hoisted.kat", "fails/unswitched-loop.kat", "flow/lock-forgotten.flow",
          "flow/state-machine.flow", "refused/missing-comma.kat", "fails/invariant-lost.kat", "guarded/choice-exchanged.gkat")
 MOST_BYTES = 200_000
-EMPTY = {"meta", "br"}
+EMPTY = {"meta", "br", "wbr"}
 
 
 def setUpModule() -> None:
@@ -87,6 +87,10 @@ class Pages(unittest.TestCase):
 
 @unittest.skipUnless(found_browser(), "Chromium is not installed")
 class InBrowser(unittest.TestCase):
+    folder: "tempfile.TemporaryDirectory[str]"
+    page: Path
+    browser: Browser
+
     @classmethod
     def setUpClass(cls) -> None:
         cls.folder = tempfile.TemporaryDirectory()

@@ -1,10 +1,10 @@
 """Follows strings and runs sides together, and compares with what the program says of the examples."""
 
 import unittest
-from pathlib import Path
 
 from report.cases import Case, case_of, last_lines
 from report.facts import used_facts
+from report.problems import statement_at
 from report.prover import DIFFERENT, TOP, Kat, found_program
 from report.questions import facts_of
 from report.runs import Knowledge, groups_of
@@ -63,6 +63,8 @@ class Examples(unittest.TestCase):
                 relates = f"{side.name} relates the ends" in lines[0]
                 self.assertEqual(relates, steps[-1].status == "ended" and len(steps) == len(case.states), (case.title, side.name))
                 for line in lines:
+                    if side.term and line.startswith((f"{side.name} cannot continue at ", f"{side.name} has more to do")):
+                        self.assertEqual(statement_at(side.term, line.split()[-1]), steps[-1].way.span, case.title)
                     if line.startswith(f"{side.name} cannot continue at "):
                         self.assertEqual(int(line.split()[4].rstrip(":")), len(steps) - 1, case.title)
 
@@ -73,6 +75,7 @@ class Examples(unittest.TestCase):
 
     def test_dead_branches_and_groups(self) -> None:
         case = self.case("holds/program-unswitched.kat")
+        assert case.together
         words = [tuple(sorted({case.text[slice(*span)] for span in spans}) for spans in group) for group in groups_of(case.together.pairs)]
         self.assertIn((["i := i + 1"], ["i := i + 1"]), words)
         self.assertEqual(len(words), 7)

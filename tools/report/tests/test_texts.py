@@ -3,11 +3,11 @@
 import unittest
 
 from report.flows import live_variables, places_of, read_flow
-from report.forms import Sorts, comparison_of, comparison_text, form_of, form_text
-from report.listing import Mark, lines_of, listing
+from report.forms import Comparison, Sorts, comparison_of, comparison_text, form_of, form_text
+from report.listing import Mark, is_crowded, lines_of, listing
 from report.prover import Refusal, read_replay, refusal_of
 from report.problems import read_problem
-from report.refusals import fault_of
+from report.refusals import REASONS, Fault, fault_of
 from report.tokens import Reader, Span, Unreadable
 
 FLOW = """var u32 x; var u8 c; fun u32 f(u32);
@@ -87,18 +87,24 @@ class Forms(unittest.TestCase):
             self.assertEqual(form_text(form_of(Reader(words).expression(), 32, {}, SORTS)), wanted)
         for words, wanted in (("slt(x, y)", "slt(x, y)"), ("sge(x, 1)", "sge(x, 1)"), ("x == y + 1", "x == y + 1"), ("slt(x, 0 - 1)", "slt(x, -1)")):
             found, positive = compared(words)
-            self.assertEqual(comparison_text(found, positive, True), wanted)
+            self.assertIsInstance(found, Comparison)
+            if isinstance(found, Comparison):
+                self.assertEqual(comparison_text(found, positive, True), wanted)
 
 
 class Listings(unittest.TestCase):
     def test_lines_as_written(self) -> None:
         text = "var x;\nprog P {\n  x := 1;\n}\ngoal equal P, P;"
-        lines = lines_of(text, (Span(7, text.index("}") + 1),), True)
+        code = (Span(7, text.index("}") + 1),)
+        self.assertFalse(is_crowded(text, code))
+        lines = lines_of(text, code, False)
         self.assertEqual([line.number for line in lines], [2, 3, 4])
 
     def test_crowded_blocks_are_laid_out_anew(self) -> None:
         text = "var x; prog P { x := 1; if x < 2 { x := 3; } else { skip; } x := 2; }"
-        lines = lines_of(text, (Span(7, len(text)),), True)
+        code = (Span(7, len(text)),)
+        self.assertTrue(is_crowded(text, code))
+        lines = lines_of(text, code, True)
         shown = ["  " * line.depth + " ".join(text[slice(*part)] for part in line.parts) for line in lines]
         self.assertEqual(shown, ["prog P {", "  x := 1;", "  if x < 2 {", "    x := 3;", "  } else {", "    skip;", "  }", "  x := 2;", "}"])
 
@@ -113,11 +119,10 @@ class Lines(unittest.TestCase):
     def test_a_fault_is_found_by_bytes(self) -> None:
         data = "# é\ntest b;\ngoal equal b ü b;\n".encode()
         fault = fault_of(data, Refusal("Syntax", data.index("ü".encode())))
-        self.assertEqual((fault.line, fault.text, fault.start, fault.end), (3, "goal equal b ü b;", 13, 14))
+        self.assertEqual(fault, Fault(3, "goal equal b ü b;", 13, 14, REASONS["Syntax"]))
 
     def test_a_fault_at_the_end(self) -> None:
-        fault = fault_of(b"test b;\ngoal", Refusal("Syntax", 12))
-        self.assertEqual((fault.line, fault.start, fault.end), (2, 4, 5))
+        self.assertEqual(fault_of(b"test b;\ngoal", Refusal("Syntax", 12)), Fault(2, "goal", 4, 5, REASONS["Syntax"]))
 
     def test_refusals(self) -> None:
         self.assertEqual(refusal_of("refused: Syntax 31\n"), Refusal("Syntax", 31))
