@@ -55,21 +55,15 @@ class Flow:
 
 def read_flow(text: str) -> Flow:
     """Reads a text that the program accepts."""
-    try:
-        return FlowReader(text).flow()
-    except RecursionError:
-        raise Unreadable("nested too deep") from None
+    reader = FlowReader(text)
+    reader.read_items()
+    return reader.found
 
 
 class FlowReader(Reader):
     def __init__(self, text: str) -> None:
         super().__init__(text)
         self.found = Flow(text)
-
-    def flow(self) -> Flow:
-        while self.peek():
-            self.item()
-        return self.found
 
     def item(self) -> None:
         start, word = self.start(), self.take()

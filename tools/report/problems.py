@@ -1,14 +1,11 @@
 """Problem files: their definitions, programs as terms with places, and the goal."""
 
-import sys
 from dataclasses import dataclass, field
 from typing import Callable, Container, NamedTuple, Optional
 
 from .tokens import ALWAYS, Condition, Expression, Reader, Span, Unreadable
 
 NOWHERE = Span(0, 0)
-# The calls in each other that 200 levels of a text need, which the program allows.
-MOST_CALLS = 6000
 
 
 class Term(NamedTuple):
@@ -57,11 +54,9 @@ class Problem:
 
 def read_problem(text: str) -> Problem:
     """Reads a text that the program accepts."""
-    sys.setrecursionlimit(max(MOST_CALLS, sys.getrecursionlimit()))
-    try:
-        return ProblemReader(text).problem()
-    except RecursionError:
-        raise Unreadable("nested too deep") from None
+    reader = ProblemReader(text)
+    reader.read_items()
+    return reader.found
 
 
 def sequence(parts: list[Term]) -> Term:
@@ -77,11 +72,6 @@ class ProblemReader(Reader):
         super().__init__(text)
         self.found = Problem(text)
         self.used: list[str] = []
-
-    def problem(self) -> Problem:
-        while self.peek():
-            self.item()
-        return self.found
 
     def item(self) -> None:
         start, word = self.start(), self.take()

@@ -95,8 +95,8 @@ def different_html(case: Case, prefix: str) -> str:
     ways = [{name: state for step in side for name, state in step.items()} for side in marks]
     script = f'<script type="application/json">{json.dumps(data, separators=(",", ":"))}</script>'
     states = "".join(tag("template", state_html(case, views, k), data_state=str(k)) for k in range(len(case.states)))
-    note = tag("p", "The answer, the states and the lines above are what kat says. The places in the code and in the graphs are "
-                    "worked out by this script and not proved.", class_="note")
+    note = tag("p", "The answer, the states and the lists are what kat says. The places in the code and in the graphs are worked "
+                    "out by this script and not proved.", class_="note")
     return (proved + stores_html(case) + stepper_html() + sides_html(case, prefix, views, ways) + legend(views) + note
             + states_table(case, views) + names_html(case) + states + script)
 
@@ -157,17 +157,18 @@ def side_words(case: Case, view: View, steps: list[Step], k: int) -> str:
         return f"stopped in state {len(steps) - 1}: " + stop_words(case, view, steps[-1])
     step, blocks = steps[k], blocks_words(view, steps[k])
     if step.status == "acts":
-        return blocks + action_words(case, step) + where_words(view, step)
+        return blocks + action_words(case, view, step) + where_words(view, step)
     if step.status == "ended":
         return blocks + "has ended"
     return blocks + tag("span", "parts: ", class_="parts") + stop_words(case, view, step)
 
 
 def parted_words(case: Case, view: View, steps: list[Step]) -> str:
-    """Where a side parts from the string, as this script works it out."""
-    if not steps or steps[-1].status == "ended":
+    """Where a side parts from the string, as this script works it out; of programs `explain` says it."""
+    if view.side.kind == "prog" or not steps or steps[-1].status == "ended":
         return ""
-    return tag("p", f"In state {len(steps) - 1} {text(view.side.name)} parts from the string: " + stop_words(case, view, steps[-1]) + ".")
+    name = tag("b", text(view.side.name))
+    return tag("p", f"In state {len(steps) - 1}, as worked out by this script, {name} {stop_words(case, view, steps[-1])}.")
 
 
 def where_words(view: View, step: Step) -> str:
@@ -175,15 +176,16 @@ def where_words(view: View, step: Step) -> str:
     return f" ({place})" if place else ""
 
 
-def action_words(case: Case, step: Step) -> str:
-    if step.way.action is not None and step.way.action >= 0:
+def action_words(case: Case, view: View, step: Step) -> str:
+    """The action of a way: as a program has it, but for a graph, whose blocks make one assignment."""
+    if step.way.action is not None and step.way.action >= 0 and not step.way.words and view.side.kind == "graph":
         return code(case.question.action_words(step.way.action))
-    return code(case.text[slice(*step.way.span)]) if step.way.span else "an action"
+    return code(case.text[slice(*step.way.span)].rstrip(";")) if step.way.span else "an action"
 
 
 def stop_words(case: Case, view: View, step: Step) -> str:
     """Why a side cannot follow the string."""
-    does, where = action_words(case, step), where_words(view, step)
+    does, where = action_words(case, view, step), where_words(view, step)
     return {"ended": "has ended",
             "early": "has ended too early, actions of the string are left",
             "stops": f"cannot continue{where}, " + with_code(step.way.words.replace("a test", f"the test `{written(case, step)}`")),

@@ -48,8 +48,9 @@ def lines_apart(words: str, left: View, right: View) -> tuple[frozenset[int], fr
     apart: tuple[set[int], set[int]] = (set(), set())
     for kind, *places in SequenceMatcher(None, texts[0], texts[1], autojunk=False).get_opcodes():
         if kind != "equal":
-            apart[0].update(line.number for line in left.lines[1:][places[0]:places[1]])
-            apart[1].update(line.number for line in right.lines[1:][places[2]:places[3]])
+            for k, view in enumerate((left, right)):
+                first, last = places[2 * k:2 * k + 2]
+                apart[k].update(view.lines[1 + at].number for at in range(first, last) if texts[k][at].strip("} {") not in ("", "else"))
     return frozenset(apart[0]), frozenset(apart[1])
 
 

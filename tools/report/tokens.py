@@ -1,10 +1,13 @@
 """Tokens, expressions and conditions, which problem files and flow files share."""
 
 import re
+import sys
 from typing import Callable, NamedTuple
 
 TOKEN = re.compile(r"(?P<skip>[ \t\r\n]+|\#[^\n]*)|(?P<name>[^\W\d]\w*)|(?P<number>[0-9]+)"
                    r"|(?P<sign>:=|==|!=|<=|>=|&&|\|\||[-<>!+*.()\[\]{},;=^])")
+# The calls in each other that 200 levels of a text need, which the program allows.
+MOST_CALLS = 6000
 RELATIONS = ("==", "!=", "<", "<=", ">", ">=")
 SIGNED = ("slt", "sle", "sgt", "sge")
 CONVERSIONS = ("u8", "u16", "u32", "u64", "s8", "s16", "s32", "s64")
@@ -66,6 +69,18 @@ class Reader:
     def __init__(self, text: str) -> None:
         self.text, self.tokens, self.place = text, tokens_of(text), 0
         self.last = Span(0, 0)
+
+    def item(self) -> None:
+        """Reads an item of the text."""
+        raise NotImplementedError
+
+    def read_items(self) -> None:
+        sys.setrecursionlimit(max(MOST_CALLS, sys.getrecursionlimit()))
+        try:
+            while self.peek():
+                self.item()
+        except RecursionError:
+            raise Unreadable("nested too deep") from None
 
     def peek(self, ahead: int = 0) -> str:
         place = self.place + ahead

@@ -23,7 +23,7 @@ NAMES = ("chromium", "chromium-browser", "google-chrome", "google-chrome-stable"
 
 
 def found_browser() -> Optional[str]:
-    return next((path for path in map(shutil.which, NAMES) if path), None)
+    return next((path for path in (shutil.which(name) for name in NAMES) if path), None)
 
 
 class Browser:
