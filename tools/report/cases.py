@@ -32,7 +32,7 @@ class Case:
     def __init__(self, title: str, text: str, answer: Answer) -> None:
         self.title, self.text, self.answer = title, text, answer
         self.problem_text = text
-        self.data = b""
+        self.data, self.source = b"", ""
         self.notes: list[str] = []
         self.goal: Optional[Goal] = None
         self.goal_text = ""
@@ -101,7 +101,7 @@ def read_sides(kat: Kat, case: Case, file: Path, is_flow: bool) -> None:
         return
     if case.problem_text != case.text:
         case.notes.append("The code is the problem file that was made of the text.")
-        case.text = case.problem_text
+        case.source, case.text = case.text, case.problem_text
     problem = read_problem(case.text)
     case.goal = problem.goals[0]
     case.goal_text = goal_text(case.text)
@@ -119,7 +119,7 @@ def read_sides(kat: Kat, case: Case, file: Path, is_flow: bool) -> None:
 def said_names(text: str, problem: Problem) -> dict[str, str]:
     """What comments `# NAME is ..` say of declared tests and actions, as those that `flow` prints."""
     names = {*problem.tests, *problem.actions}
-    return {name: words for name, words in re.findall(r"^# (\w+) is (.*)$", text, re.M) if name in names and re.fullmatch(r"[ta]\d+", name)}
+    return {name: words for name, words in re.findall(r"^# ([ta]\d+) is (.*)$", text, re.M) if name in names}
 
 
 def machine_of(term: Term, question: Question, is_program: bool) -> Optional[Machine]:

@@ -6,6 +6,7 @@ from pathlib import Path
 from typing import Iterator
 
 from .cases import Case, case_of
+from .html_text import counted
 from .page import page_html
 from .prover import DIFFERENT, EQUAL, Kat, found_program
 
@@ -71,10 +72,10 @@ def first_proved(kat: Kat, name: str, files: list[Path], turns: int) -> Case:
     if len(files) > 1 or name != files[0].stem:
         case.title = f"{name} ({(proved or differ or files)[0].name})"
     if case.answer.status == DIFFERENT:
-        case.notes.append(f"None of {len(files)} choices of cuts gave a proof; this is the first. That is no fault of the pass by itself: "
-                          "the question knows little about operations.")
+        case.notes.append(f"None of {counted(len(files), 'choice')} of cuts gave a proof; this is the first. That is not a bug "
+                          "in the pass by itself: the question knows little about operations.")
     elif case.answer.status == EQUAL and len(files) > 1:
-        case.notes.append(f"`validate` tried {len(files)} choices of cuts.")
+        case.notes.append(f"`validate` tried {counted(len(files), 'choice')} of cuts.")
     return case
 
 

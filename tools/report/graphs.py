@@ -191,14 +191,17 @@ def picture(drawing: Drawing, names: tuple[str, str, str], groups: dict[Span, in
 
 
 def shown_lines(node: Node) -> list[str]:
-    lines = node.lines if len(node.lines) <= MOST_LINES else [*node.lines[:MOST_LINES - 1], f".. {len(node.lines) - MOST_LINES + 1} more"]
+    lines = node.lines
+    if len(lines) > MOST_LINES:
+        lines = [*lines[:MOST_LINES - 1], f".. {len(lines) - MOST_LINES + 1} more"]
     return [line if len(line) <= MOST_LETTERS else line[:MOST_LETTERS - 2] + ".." for line in lines]
 
 
 def box_of(node: Node, groups: dict[Span, int]) -> Box:
     lines = shown_lines(node)
     widest = max(len(line) for line in lines)
-    return Box(widest * LETTER + (34 if node.kind == "test" else 16) + (20 if any(span in groups for span in node.spans) else 0), len(lines) * LINE + 10)
+    sides = (34 if node.kind == "test" else 16) + (20 if any(span in groups for span in node.spans) else 0)
+    return Box(widest * LETTER + sides, len(lines) * LINE + 10)
 
 
 def drawn_link(mark: str, link: Link, curve: list[Point], label: Point, is_way: bool) -> str:
@@ -221,8 +224,8 @@ def tip(before: Point, end: Point) -> str:
 def drawn_node(mark: str, node: Node, box: Box, at: Point, groups: dict[Span, int], is_way: bool) -> str:
     lines = shown_lines(node)
     numbers = [groups.get(span) for span in node.spans[:len(lines)]] if len(lines) == len(node.lines) else []
-    rows = [drawn_line(line, Point(at.x, at.y - box.height / 2 + k * LINE), box.width, numbers[k] if k < len(numbers) else None,
-                       k == 0 and line == node.name) for k, line in enumerate(lines)]
+    rows = [drawn_line(line, Point(at.x, at.y - box.height / 2 + k * LINE), box.width,
+                       numbers[k] if k < len(numbers) else None, k == 0 and line == node.name) for k, line in enumerate(lines)]
     kind = f"node {node.kind}" + (" way" if is_way else "")
     whole = html.escape("\n".join(node.lines))
     return f'<g class="{kind}" data-m="{mark}"><title>{whole}</title>{outline(node, box, at)}{"".join(rows)}</g>'
@@ -233,7 +236,8 @@ def drawn_line(line: str, top: Point, width: float, group: Optional[int], is_nam
     name = NAME if is_name else ""
     if group is None:
         return f'<text{name} x="{top.x:.0f}" y="{top.y + 17:.0f}">{html.escape(line)}</text>'
-    back = f'<rect class="g{group % 8}" x="{top.x - width / 2 + 4:.0f}" y="{top.y + 5:.0f}" width="{width - 8:.0f}" height="{LINE:.0f}"/>'
+    back = (f'<rect class="g{group % 8}" x="{top.x - width / 2 + 4:.0f}" y="{top.y + 5:.0f}" width="{width - 8:.0f}" '
+            f'height="{LINE:.0f}"/>')
     return (f'{back}<text{name} x="{top.x:.0f}" y="{top.y + 17:.0f}">{html.escape(line)}'
             f'<tspan class="number" dx="5">{group + 1}</tspan></text>')
 
@@ -245,5 +249,6 @@ def outline(node: Node, box: Box, at: Point) -> str:
         return f'<rect x="{left:.0f}" y="{top:.0f}" width="{box.width:.0f}" height="{box.height:.0f}" rx="{radius:.0f}"/>'
     corner = min(14, box.height / 2)
     right, bottom = left + box.width, top + box.height
-    points = [(left + corner, top), (right - corner, top), (right, at.y), (right - corner, bottom), (left + corner, bottom), (left, at.y)]
+    points = [(left + corner, top), (right - corner, top), (right, at.y), (right - corner, bottom), (left + corner, bottom),
+              (left, at.y)]
     return '<polygon points="' + " ".join(f"{x:.0f},{y:.0f}" for x, y in points) + '"/>'

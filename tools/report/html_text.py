@@ -38,7 +38,7 @@ def counted(count: int, what: str) -> str:
 def table(caption: str, heads: list[str], rows: list[list[str]], class_: str = "", row_class: dict[int, str] = {}) -> str:
     """A table whose cells are HTML; the first cell of a row is its heading."""
     head = tag("thead", tag("tr", "".join(tag("th", text(it), scope="col") for it in heads)))
-    body = "".join(tag("tr", tag("th", row[0], scope="row") + "".join(tag("td", cell) for cell in row[1:]), class_=row_class.get(k, ""))
-                   for k, row in enumerate(rows))
+    body = "".join(tag("tr", tag("th", row[0], scope="row") + "".join(tag("td", cell) for cell in row[1:]),
+                       class_=row_class.get(k, "")) for k, row in enumerate(rows))
     whole = tag("table", tag("caption", text(caption)) + head + tag("tbody", body), class_=class_)
     return tag("div", whole, class_="wide", tabindex="0", role="region", aria_label=caption)

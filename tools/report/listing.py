@@ -106,7 +106,8 @@ def listing(text: str, lines: list[Line], marks: list[Mark], label: str, end: st
         shown = " ".join(marked(text, part, marks) for part in line.parts)
         name = f' data-m="{end}"' if line is lines[-1] else ""
         apart = " apart" if line.number in only_here else ""
-        rows.append(f'<div class="line{apart}"{name}><span class="number">{line.number}</span><span class="sign" aria-hidden="true"></span>'
+        rows.append(f'<div class="line{apart}"{name}><span class="number">{line.number}</span>'
+                    '<span class="sign" aria-hidden="true"></span>'
                     f'<code style="--depth:{line.depth}">{shown}</code></div>')
     return "".join([*rows, "</div>"])
 

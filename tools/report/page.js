@@ -47,6 +47,8 @@ addEventListener("DOMContentLoaded", () => {
   addEventListener("keydown", event => {
     const move = { ArrowLeft: -1, ArrowRight: 1 }[event.key];
     if (!move || !sections.length || event.altKey || event.ctrlKey || event.metaKey || event.shiftKey) return;
+    const scrolls = document.activeElement.closest(".wide, .picture");
+    if (scrolls && scrolls.scrollWidth > scrolls.clientWidth) return;
     const box = active && active.getBoundingClientRect();
     const section = box && box.bottom > 0 && box.top < innerHeight ? active : nearest(sections);
     show(section, section.at + move);

@@ -29,7 +29,8 @@ def section_html(case: Case, k: int) -> str:
         facts = [counted(case.answer.size, "pair" if case.answer.status == EQUAL else "action"),
                  counted(case.answer.hypotheses, "hypothesis"), *facts]
     head = tag("h2", path_text(case.title), id=f"p{k}")
-    line = tag("p", tag("span", text(word), class_=f"answer {case.kind()}") + " " + tag("span", text(", ".join(facts)), class_="facts"))
+    answer = tag("span", text(word), class_=f"answer {case.kind()}")
+    line = tag("p", answer + " " + tag("span", text(", ".join(facts)), class_="facts"))
     goal = tag("p", "goal " + code(case.goal_text)) if case.goal_text else ""
     notes = "".join(tag("p", with_code(note), class_="note") for note in case.notes)
     if case.answer.status == DIFFERENT:
@@ -39,7 +40,11 @@ def section_html(case: Case, k: int) -> str:
     else:
         body = refused_html(case)
     has_steps = bool(case.states and case.sides)
-    return tag("section", head + line + goal + body + notes, class_="steps" if has_steps else "", aria_labelledby=f"p{k}")
+    made = ""
+    if case.source:
+        made = tag("details", tag("summary", "The text that it was made of") + tag("pre", text(case.source)))
+    class_ = "steps" if has_steps else ""
+    return tag("section", head + line + goal + body + notes + made, class_=class_, aria_labelledby=f"p{k}")
 
 
 # Refused
@@ -52,7 +57,7 @@ def refused_html(case: Case) -> str:
     if not fault:
         return tag("p", with_code(reason_of(refusal.word)))
     token = fault.text[fault.start:fault.end]
-    there = f"at {code(token)}. " if token.strip() else "at the end of the line. " if fault.start < len(fault.text) else "at the end. "
+    there = f"at {code(token)}. " if token.strip() else "at the end. "
     heading = tag("p", tag("strong", f"Line {fault.line}, column {fault.start + 1}, ") + there + with_code(fault.reason))
     return heading + tag("div", fault_lines(case.text, fault), class_="side")
 
@@ -121,9 +126,14 @@ def stepper_html() -> str:
 
 
 def legend(views: list[View]) -> str:
-    words = [*CODE_LEGEND, *([DIFFERS] if any(view.only_here for view in views) else []),
-             *(GRAPH_LEGEND if any(view.drawing for view in views) else ())]
-    return tag("ul", "".join(tag("li", text(it)) for it in words), class_="legend", aria_label="legend")
+    return legend_of(CODE_LEGEND, views, GRAPH_LEGEND)
+
+
+def legend_of(first: tuple[str, ...], views: list[View], last: tuple[str, ...]) -> str:
+    """What marks mean: in the code, beside lines that differ, and in graphs, if there are any."""
+    words = [*first, *([DIFFERS] if any(view.only_here for view in views) else []),
+             *(last if any(view.drawing for view in views) else ())]
+    return "" if not words else tag("ul", "".join(tag("li", text(it)) for it in words), class_="legend", aria_label="legend")
 
 
 def state_html(case: Case, views: list[View], k: int) -> str:
@@ -186,15 +196,12 @@ def action_words(case: Case, view: View, step: Step) -> str:
 def stop_words(case: Case, view: View, step: Step) -> str:
     """Why a side cannot follow the string."""
     does, where = action_words(case, view, step), where_words(view, step)
+    there = case.text[slice(*step.way.span)] if step.way.span else ""
     return {"ended": "has ended",
             "early": "has ended too early, actions of the string are left",
-            "stops": f"cannot continue{where}, " + with_code(step.way.words.replace("a test", f"the test `{written(case, step)}`")),
+            "stops": f"cannot continue{where}, " + with_code(step.way.words.replace("a test", f"the test `{there}`")),
             "other": f"cannot continue with the string, it does {does}{where}",
             "more": f"has more to do, {does}{where}"}[step.status]
-
-
-def written(case: Case, step: Step) -> str:
-    return case.text[slice(*step.way.span)] if step.way.span else ""
 
 
 def blocks_words(view: View, step: Step) -> str:
@@ -240,8 +247,11 @@ def stores_html(case: Case) -> str:
 
 def equal_html(case: Case, prefix: str) -> str:
     views = views_of(case) if case.sides else []
-    parts = [sides_html(case, prefix, views, []) if views else "", groups_html(case, views), used_html(case), names_html(case)]
-    return "".join(parts)
+    marks = [mark for view in views for mark in view.marks]
+    words = (*(["number and colour: both sides do this together"] if any(mark.group is not None for mark in marks) else []),
+             *(["struck out: no run gets here"] if any(mark.is_never for mark in marks) else []))
+    sides = sides_html(case, prefix, views, []) + legend_of(words, views, ()) if views else ""
+    return sides + groups_html(case, views) + used_html(case) + names_html(case)
 
 
 def groups_html(case: Case, views: list[View]) -> str:
@@ -262,7 +272,8 @@ def groups_html(case: Case, views: list[View]) -> str:
                + ". This is worked out in the same way.", class_="note") if never else ""
     if not rows:
         return gone
-    return tag("h3", "What belongs together") + note + table("Steps that both sides do together", ["number", *(view.side.name for view in views)], rows) + gone
+    heads = ["number", *(view.side.name for view in views)]
+    return tag("h3", "What belongs together") + note + table("Steps that both sides do together", heads, rows) + gone
 
 
 def places_words(case: Case, view: View, span: Span) -> str:
@@ -308,4 +319,5 @@ def row_of(case: Case, k: int) -> list[str]:
     if case.answer.evidence:
         size = counted(case.answer.size, "pair" if case.answer.status == EQUAL else "action")
     word = case.answer.word or "no answer"
-    return [tag("a", path_text(case.title), href=f"#p{k}"), tag("span", text(word), class_=case.kind()), size, f"{case.answer.seconds:.3f} s"]
+    link, answer = tag("a", path_text(case.title), href=f"#p{k}"), tag("span", text(word), class_=case.kind())
+    return [link, answer, size, f"{case.answer.seconds:.3f} s"]

@@ -76,7 +76,8 @@ class Examples(unittest.TestCase):
     def test_dead_branches_and_groups(self) -> None:
         case = self.case("holds/program-unswitched.kat")
         assert case.together
-        words = [tuple(sorted({case.text[slice(*span)] for span in spans}) for spans in group) for group in groups_of(case.together.pairs)]
+        words = [tuple(sorted({case.text[slice(*span)] for span in spans}) for spans in group)
+                 for group in groups_of(case.together.pairs)]
         self.assertIn((["i := i + 1"], ["i := i + 1"]), words)
         self.assertEqual(len(words), 7)
         shown = section_html(case, 0)
