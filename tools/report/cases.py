@@ -2,6 +2,7 @@
 
 import re
 import tempfile
+import time
 from pathlib import Path
 from typing import NamedTuple, Optional
 
@@ -62,10 +63,11 @@ def case_in(kat: Kat, file: Path, turns: int, made: Path) -> Case:
     source, command = source_of(kat, file, text)
     if command:
         text = source.read_text("utf-8", "replace")
+        begun = time.perf_counter()
         status, printed = kat.call(command, str(source))
         if status != 0:
             word = "no answer in time" if status is None else printed.strip()
-            case = Case(str(source), text, Answer(status, word, "", 0, 0, 0.0))
+            case = Case(str(source), text, Answer(status, word, "", 0, 0, time.perf_counter() - begun))
             case.data = source.read_bytes()
             return case
         made.write_text(printed, "utf-8")

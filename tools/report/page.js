@@ -34,6 +34,7 @@ function nearest(sections) {
 }
 
 addEventListener("DOMContentLoaded", () => {
+  for (const it of document.querySelectorAll(".picture")) it.scrollLeft = (it.scrollWidth - it.clientWidth) / 2;
   const sections = document.querySelectorAll("section.steps");
   for (const section of sections) {
     section.steps = JSON.parse(section.querySelector("script[type='application/json']").textContent);

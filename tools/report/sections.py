@@ -266,8 +266,10 @@ def groups_html(case: Case, views: list[View]) -> str:
         cells = ["".join(places_words(case, view, span) for span in sorted(spans)) for view, spans in zip(views, group)]
         rows.append([tag("span", str(k + 1), class_=f"chip g{k % 8}"), *cells])
     never = [f"{view.side.name} {view.place(mark.span)}" for view in views for mark in view.marks if mark.is_never]
-    note = tag("p", "In every run that ends, both sides do the same steps in the same order. Those with one number and colour are "
-                    "done together. This script works them out from the facts of the question; they are not proved.", class_="note")
+    whose = f" of {views[0].side.name}" if case.goal and case.goal.kind == "below" else ""
+    note = tag("p", text(f"In every run{whose} that ends, both sides do the same steps in the same order. Those with one number and "
+                         "colour are done together. This script works them out from the facts of the question; they are not "
+                         "proved."), class_="note")
     gone = tag("p", "No run gets to the parts that are struck out: " + text(", ".join(dict.fromkeys(never)))
                + ". This is worked out in the same way.", class_="note") if never else ""
     if not rows:
