@@ -40,7 +40,8 @@ def main(words: list[str], description: str) -> int:
 
 
 def cases_of(kat: Kat, file: Path, turns: int) -> Iterator[Case]:
-    """A case for a file; for a folder that `validate --keep` left one for each function, otherwise for each of its files."""
+    """A case for a file; for a folder with flow texts, as `validate --keep` leaves it, one for each function, and for another
+    one for each of its files."""
     if not file.is_dir():
         yield case_of(kat, file, turns)
         return

@@ -96,6 +96,7 @@ class InBrowser(unittest.TestCase):
         cls.folder = tempfile.TemporaryDirectory()
         cls.page = page_of(Path(cls.folder.name), *FILES)
         cls.browser = Browser(found_browser() or "")
+        cls.browser.open(cls.page)
 
     @classmethod
     def tearDownClass(cls) -> None:
@@ -105,7 +106,6 @@ class InBrowser(unittest.TestCase):
     def setUp(self) -> None:
         self.browser.size(1200, 800)
         self.browser.scheme("light")
-        self.browser.open(self.page)
 
     def states(self) -> list[str]:
         return self.browser.value("[...document.querySelectorAll('.at')].map(it => it.textContent)")
@@ -122,6 +122,7 @@ class InBrowser(unittest.TestCase):
         self.assertNotEqual(self.browser.value(color), light)
 
     def test_keys_and_buttons_step(self) -> None:
+        self.browser.open(self.page)
         self.browser.value("document.querySelector('.stepper').scrollIntoView({block: 'center'})")
         self.assertEqual(self.states()[0], "state 0 of 1")
         self.browser.key("ArrowRight")
@@ -137,6 +138,7 @@ class InBrowser(unittest.TestCase):
         self.assertEqual(self.states()[:2], ["state 0 of 1", "state 1 of 2"])
 
     def test_places_are_marked_in_code_and_graph(self) -> None:
+        self.browser.open(self.page)
         marked = "[...document.querySelector('section.steps').querySelectorAll('.line.%s code')].map(it => it.textContent.trim())"
         self.assertEqual(self.browser.value(marked % "stop"), ["sum := sum + i;"])
         self.assertEqual(self.browser.value(marked % "now"), ["i := i + 1;"])
