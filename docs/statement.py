@@ -95,7 +95,7 @@ WORD = re.compile(r"[\s\[\](){},;.λ×]+")
 
 def imports(text: str) -> Imported:
     """What each name of a file stands for: a module and the name there."""
-    found = {}
+    found: Imported = {}
     for module, items in USE.findall(text):
         for item in filter(None, (it.strip() for it in items.split(","))):
             name, _, alias = item.partition(" as ")
@@ -160,7 +160,8 @@ class Specs:
     def read(self, path: Path, module: str) -> None:
         text = path.read_text()
         self.imported[module] = imports(text)
-        now, comment = None, []
+        now: Optional[Definition] = None
+        comment: list[str] = []
         for number, line in enumerate(text.split("\n"), 1):
             if line.startswith("-- ----"):
                 comment, now = [], None
@@ -269,7 +270,8 @@ def counted(definitions: list[Definition]) -> tuple[int, int]:
 
 def shown(definitions: list[Definition]) -> list[str]:
     """The definitions as text of the page, those of one file that follow one another in one block."""
-    lines, path = [], None
+    lines: list[str] = []
+    path = None
     for it in definitions:
         if it.path != path:
             lines += ["```", ""] if path else []
@@ -293,7 +295,7 @@ def roots_of(part: Part, specs: Specs, lines: list[str]) -> list[Definition]:
 
 def doubles(definitions: list[Definition]) -> dict[str, list[Path]]:
     """The names that have two or more of these definitions, each with its files."""
-    found = {}
+    found: dict[str, dict[Path, None]] = {}
     for it in definitions:
         names = [it.name]
         if " data " in f" {it.head} ":
@@ -305,7 +307,7 @@ def doubles(definitions: list[Definition]) -> dict[str, list[Path]]:
 
 def parts(specs: Specs) -> Iterator[tuple[list[str], int, list[Definition]]]:
     """Each part as lines, with the number of its lines of definitions, and its definitions."""
-    placed = set()
+    placed: set[Definition] = set()
     for number, part in enumerate(PARTS, 1):
         lines = [f"## {number}. {part.title}", "", part.about, ""]
         gathered = specs.gather(roots_of(part, specs, lines), part.later, placed)
