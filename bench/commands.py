@@ -122,7 +122,7 @@ def outcome(words: list[str], status: int, printed: bytes) -> str:
     lines = printed.splitlines()
     steps = sum(line.startswith(b"S") for line in lines)
     if words[0] == "optimise" and status == 0:
-        return f"{steps:,} steps, {lines[steps].decode()}"
+        return f"{steps:,} step{'s' if steps != 1 else ''}, {lines[steps].decode()}"
     return lines[0].decode() if words[0] == "bench" and lines else ""
 
 

@@ -51,6 +51,7 @@ class Commands(unittest.TestCase):
     def test_a_log_ends_with_its_steps(self) -> None:
         printed = b"S a\nS b\ndone\nprog P { }\n"
         self.assertEqual(commands.outcome(["optimise", "f", "P"], 0, printed), "2 steps, done")
+        self.assertEqual(commands.outcome(["optimise", "f", "P"], 0, printed.replace(b"S b\n", b"")), "1 step, done")
         self.assertEqual(commands.outcome(["bench", "1"], 0, b"problems 1\n"), "problems 1")
         self.assertEqual(commands.outcome(["decide", "f"], 0, b"kat 1 equal\n"), "")
 
