@@ -75,7 +75,7 @@ class Flows(unittest.TestCase):
         self.assertEqual(flows.condition_text(b), "slt(x, 0)")
 
     def test_a_change_that_keeps_values_keeps_what_is_returned(self) -> None:
-        for seed in range(40):
+        for seed in range(8):
             chance = random.Random(seed)
             maker = flows.Maker(chance)
             graph = maker.graph()
