@@ -79,6 +79,10 @@ module _ (q : ProblemParts) where
       subst (λ x. Leads x g) l.start
       (chain_leads (λ x. x) (λ path. path) (λ a b rule path inner h. h) l.chain g l.lines (subst (λ x. Leads x g) (sym l.end) m))
 
+  -- chains lead from each term to the other
+  abbrev Both : Term → Term → Type 0
+  Both e f = Leads e f × Leads f e
+
   -- a chain in place k of a term
   module _ (C : Term → Term) (k : ℕ)
       (outside : (path : List ℕ) (e f : Term) → AreEqualOutside path e f → AreEqualOutside (k ∷ path) (C e) (C f))
@@ -100,38 +104,28 @@ module _ (q : ProblemParts) where
         (chain_leads C (λ path. k ∷ path) holds_within l.chain (C f) l.lines
         (subst (λ x. Leads (C x) (C f)) (sym l.end) (leads_itself (C f))))
 
-  -- ---- derivations give chains, in both directions
+    both_within : (e f : Term) → Both e f → Both (C e) (C f)
+    both_within e f b = (leads_within e f b.0, leads_within f e b.1)
 
-  abbrev Both : Term → Term → Type 0
-  Both e f = Leads e f × Leads f e
+  -- ---- derivations give chains, in both directions
 
   both_trans : (e f g : Term) → Both e f → Both f g → Both e g
   both_trans e f g b c = (leads_trans e f g b.0 c.0, leads_trans g f e c.1 b.1)
 
-  both_sum_left : (e f g : Term) → Both e f → Both (sum e g) (sum f g)
-  both_sum_left e f g b =
-      let within = leads_within (λ x. sum x g) 0 (λ path x y o. (o, refl)) (λ path x. refl) in
-      (within e f b.0, within f e b.1)
+  both_sum : (e f g h : Term) → Both e g → Both f h → Both (sum e f) (sum g h)
+  both_sum e f g h b c =
+      both_trans _ _ _
+      (both_within (λ x. sum x f) 0 (λ path x y o. (o, refl)) (λ path x. refl) e g b)
+      (both_within (λ x. sum g x) 1 (λ path x y o. (refl, o)) (λ path x. refl) f h c)
 
-  both_sum_right : (e f g : Term) → Both e f → Both (sum g e) (sum g f)
-  both_sum_right e f g b =
-      let within = leads_within (λ x. sum g x) 1 (λ path x y o. (refl, o)) (λ path x. refl) in
-      (within e f b.0, within f e b.1)
-
-  both_product_left : (e f g : Term) → Both e f → Both (product e g) (product f g)
-  both_product_left e f g b =
-      let within = leads_within (λ x. product x g) 0 (λ path x y o. (o, refl)) (λ path x. refl) in
-      (within e f b.0, within f e b.1)
-
-  both_product_right : (e f g : Term) → Both e f → Both (product g e) (product g f)
-  both_product_right e f g b =
-      let within = leads_within (λ x. product g x) 1 (λ path x y o. (refl, o)) (λ path x. refl) in
-      (within e f b.0, within f e b.1)
+  both_product : (e f g h : Term) → Both e g → Both f h → Both (product e f) (product g h)
+  both_product e f g h b c =
+      both_trans _ _ _
+      (both_within (λ x. product x f) 0 (λ path x y o. (o, refl)) (λ path x. refl) e g b)
+      (both_within (λ x. product g x) 1 (λ path x y o. (refl, o)) (λ path x. refl) f h c)
 
   both_star : (e f : Term) → Both e f → Both (star e) (star f)
-  both_star e f b =
-      let within = leads_within (λ x. star x) 0 (λ path x y o. o) (λ path x. refl) in
-      (within e f b.0, within f e b.1)
+  both_star e f b = both_within (λ x. star x) 0 (λ path x y o. o) (λ path x. refl) e f b
 
   -- one line by an axiom, in both directions
   both_by_axiom : (rule : Axiom) (inner : Option Equation) (s : Equation) → IsInstance q rule inner s → IsShown inner → Both s.left s.right
@@ -144,8 +138,8 @@ module _ (q : ProblemParts) where
   proves_both (itself e) = (leads_itself e, leads_itself e)
   proves_both (symmetric p) = let b = proves_both p in (b.1, b.0)
   proves_both (transitive p r) = both_trans _ _ _ (proves_both p) (proves_both r)
-  proves_both (sums p r) = both_trans _ _ _ (both_sum_left _ _ _ (proves_both p)) (both_sum_right _ _ _ (proves_both r))
-  proves_both (products p r) = both_trans _ _ _ (both_product_left _ _ _ (proves_both p)) (both_product_right _ _ _ (proves_both r))
+  proves_both (sums p r) = both_sum _ _ _ _ (proves_both p) (proves_both r)
+  proves_both (products p r) = both_product _ _ _ _ (proves_both p) (proves_both r)
   proves_both (stars p) = both_star _ _ (proves_both p)
   proves_both (axiom_without rule s h) = both_by_axiom rule None s h tt
   proves_both (axiom_with rule premise s h p) = both_by_axiom rule (Some premise) s h (proves_both p).0

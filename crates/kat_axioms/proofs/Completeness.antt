@@ -17,7 +17,7 @@ use Rattle.kat_model.proofs.ReachedPairs.{start_pair}
 use Rattle.string_tables.proofs.Counterexamples.{refuted_not_same}
 use Rattle.string_tables.proofs.Elimination.{differ_refuted}
 use Rattle.kat_axioms.specs.Derivations.{Proves, itself, symmetric, transitive, sums, products}
-use Rattle.kat_axioms.specs.Laws.{ClosedAcceptSameStrings}
+use Rattle.kat_axioms.specs.Laws.{AcceptSameStrings}
 use Rattle.kat_axioms.proofs.Orders.{total_equal}
 use Rattle.kat_axioms.proofs.Paths.{paths}
 use Rattle.kat_axioms.proofs.Terms.{terms, equal_tests, hyp_zero}
@@ -98,7 +98,7 @@ module _ (q : ProblemParts) where
   equal_unless_differ false false none = refl
 
   -- the closed sides of a question whose sides are the same accept the same strings
-  pub same_closed_alike : Same q → ClosedAcceptSameStrings q
+  pub same_closed_alike : Same q → AcceptSameStrings q (closed q).left (closed q).right
   same_closed_alike same x fits =
       equal_unless_differ _ _ (λ differ. refuted_not_same q x (differ_refuted q x fits differ) same)
 

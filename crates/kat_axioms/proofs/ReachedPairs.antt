@@ -100,7 +100,7 @@ module _ (tests actions : ℕ) where
   IsClosed ps = (p : SetPair) → Has ps p → (atom : Atom) → length atom ≡ tests → (a : ℕ) → a < actions → IsListed ps (next_pair p atom a).left (next_pair p atom a).right
 
   -- a step that leaves the list
-  record HasLeft (ps : List SetPair) : Type 0 where
+  record LeavesList (ps : List SetPair) : Type 0 where
     from : SetPair
     listed : Has ps from
     atom : Atom
@@ -109,22 +109,22 @@ module _ (tests actions : ℕ) where
     within : act < actions
     unlisted : IsListed ps (next_pair from atom act).left (next_pair from atom act).right → ⊥
 
-  closed_or_left : (ps : List SetPair) → IsClosed ps ⊎ HasLeft ps
-  closed_or_left ps =
+  closed_or_leaves : (ps : List SetPair) → IsClosed ps ⊎ LeavesList ps
+  closed_or_leaves ps =
       ⊎_elim
       (λ all. inl (λ p h atom wide a lt. all p h atom (subst (λ n. Has (all_bits n) atom) wide (all_bits_has atom)) a (has_numbers actions a lt)))
       (λ s. inr s.2)
       (all_or_some
       (λ p. (atom : Atom) → Has (all_bits tests) atom → (a : ℕ) → Has (numbers actions) a → IsListed ps (next_pair p atom a).left (next_pair p atom a).right)
-      (λ p. HasLeft ps) ps (λ p h.
+      (λ p. LeavesList ps) ps (λ p h.
       ⊎_elim inl (λ s. inr s.2)
       (all_or_some
       (λ atom. (a : ℕ) → Has (numbers actions) a → IsListed ps (next_pair p atom a).left (next_pair p atom a).right)
-      (λ atom. HasLeft ps) (all_bits tests) (λ atom k.
+      (λ atom. LeavesList ps) (all_bits tests) (λ atom k.
       ⊎_elim inl (λ s. inr s.2)
       (all_or_some
       (λ a. IsListed ps (next_pair p atom a).left (next_pair p atom a).right)
-      (λ a. HasLeft ps) (numbers actions) (λ a n.
+      (λ a. LeavesList ps) (numbers actions) (λ a n.
       ⊎_elim inl
       (λ none. inr (record { from = p; listed = h; atom = atom; wide = all_bits_length tests atom k; act = a; within = numbers_below actions a n; unlisted = none }))
       (listed_or_not ps (next_pair p atom a))))))))
@@ -145,7 +145,7 @@ module _ (tests actions : ℕ) where
       alike = λ p h. ⊎_elim (λ e. subst IsAlike e alike) (λ n. absurd n) h;
     }
 
-    found_next : (ps : List SetPair) (s : HasLeft ps) → AreFound ps → AreFound (next_pair s.from s.atom s.act ∷ ps)
+    found_next : (ps : List SetPair) (s : LeavesList ps) → AreFound ps → AreFound (next_pair s.from s.atom s.act ∷ ps)
     found_next ps s f =
         let next = next_pair s.from s.atom s.act in
         let own = f.reached s.from s.listed in
@@ -171,11 +171,11 @@ module _ (tests actions : ℕ) where
         let more = found_next ps s f in
         let few : length (next_pair s.from s.atom s.act ∷ ps) ≤ bound = pairs_bound l r (next_pair s.from s.atom s.act ∷ ps) more.differ more.reached in
         absurd (omega (arith, few, le)))
-        (closed_or_left ps)
+        (closed_or_leaves ps)
     closed_from (suc fuel) ps f le =
         ⊎_elim (λ closed. (ps, f, closed))
         (λ s. closed_from fuel (next_pair s.from s.atom s.act ∷ ps) (found_next ps s f) (omega (arith, le)))
-        (closed_or_left ps)
+        (closed_or_leaves ps)
 
     pub reached_pairs : IsAlike (start_pair l r) → (all : List SetPair) × AreFound all × IsClosed all
     reached_pairs alike = closed_from bound (start_pair l r ∷ []) (found_first alike) (omega arith)

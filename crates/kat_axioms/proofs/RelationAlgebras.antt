@@ -1,10 +1,13 @@
 -- The relations on the states of a frame are a Kleene algebra with tests. Its tests are the decidable parts of the
--- identity, and a term denotes the relation that it denotes in the frame.
+-- identity, and a term denotes the relation that it denotes in the frame. So what has a chain holds in every relational
+-- model, whatever its states are and whether or not its actions are decidable.
 use Rattle.std.proofs.Common.{◌≡◌, ◌↔◌, ◌⊎◌, ℕ, zero as nought, suc, inl, inr, ⊎_elim, List, Bool, true, false, not, ◌&&◌, ◌||◌, slice_index_or, refl, sym, ◌∙◌, subst}
 use Rattle.std.specs.Bool.{IsTrue}
 use Rattle.std.proofs.lemmas.Bool.{false≢true, or_cases, or_left, or_right, and_parts, and_from, not-true, both_ways}
 use Rattle.std.proofs.Math.Bool.{and_comm, or-and_distrib_left, or-not_self, and-not_self}
 use Rattle.kat_model.specs.Trees.{TestTree, bottom, top, prim, complement, meet, join, Term, zero, one, test, act, sum, product, star}
+use Rattle.kat_model.specs.Members.{Has}
+use Rattle.kat_model.specs.Problems.{ProblemParts, IsProblem}
 use Rattle.kat_model.specs.Steps.{truth}
 use Rattle.kat_model.specs.Relations.{Frame, Along, RelatesIn}
 use Rattle.kat_model.proofs.Closure.{along_weaken}
@@ -12,7 +15,9 @@ use Rattle.chain_rules.specs.Chains.{equation}
 use Rattle.chain_rules.specs.declared.chain.Axiom.TheVariants.{Assoc, Comm, Idem, Zero, SeqAssoc, OneLeft, OneRight, ZeroLeft, ZeroRight, DistLeft, DistRight, UnfoldLeft, UnfoldRight, Lfp, Rfp}
 use Rattle.chain_rules.proofs.AxiomsHold.{axiom_holds}
 use Rattle.kat_axioms.specs.Algebras.{Operations, IsCongruence, IsKleeneAlgebra, IsBooleanAlgebra}
-use Rattle.kat_axioms.specs.Meanings.{Interpretation, test_value, value}
+use Rattle.kat_axioms.specs.Meanings.{Interpretation, test_value, value, AreZero}
+use Rattle.kat_axioms.specs.Laws.{HasChain}
+use Rattle.kat_axioms.proofs.Validity.{chains_hold}
 
 module _ {S : Type 0} (frame : Frame S) where
   abbrev pub Relation : Type 1
@@ -189,3 +194,14 @@ module _ {S : Type 0} (frame : Frame S) where
   value_relates (sum e f) = relations_congruence.sums _ _ _ _ (value_relates e) (value_relates f)
   value_relates (product e f) = relations_congruence.products _ _ _ _ (value_relates e) (value_relates f)
   value_relates (star e) = relations_congruence.stars _ _ (value_relates e)
+
+  -- what has a chain holds in every frame in which no hypothesis relates any state to any state
+  pub chains_relate : (q : ProblemParts) → IsProblem q → HasChain q
+      → ((h : Term) → Has q.hyps h → (i j : S) → frame.IsState i → frame.IsState j → RelatesIn frame h i j → ⊥)
+      → AreSame (RelatesIn frame q.left) (RelatesIn frame q.right)
+  chains_relate q is chain none =
+      relations_congruence.transitive _ _ _ (relations_congruence.symmetric _ _ (value_relates q.left))
+      (relations_congruence.transitive _ _ _ (chains_hold frame_interpretation q is chain zeros) (value_relates q.right))
+    where
+      zeros : AreZero frame_interpretation q.hyps
+      zeros h has i j si sj = ((λ v. none h has i j si sj ((value_relates h i j si sj).0 v)), (λ n. absurd n))

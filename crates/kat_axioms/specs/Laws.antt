@@ -1,6 +1,7 @@
 -- The laws of chains, of provable equations and of algebras. Each is the contract of a function of the crate that does
 -- nothing.
 use Rattle.std.specs.Prelude.{◌≡◌, ◌↔◌, []}
+use Rattle.kat_model.specs.Trees.{Term}
 use Rattle.kat_model.specs.Problems.{ProblemParts, IsProblem}
 use Rattle.kat_model.specs.Relations.{Same}
 use Rattle.kat_model.specs.Strings.{GuardedString, IsString, accepts}
@@ -15,8 +16,8 @@ pub record HasChain (q : ProblemParts) : Type 0 where
   pub chain : ChainTree
   pub is : IsChained q chain
 
--- the axioms are complete: both sides are the same exactly where the axioms and the hypotheses prove that they are
--- equal, and exactly where there is a chain
+-- The axioms are sound and complete: both sides are the same exactly where there is a chain, and exactly where the axioms
+-- and the hypotheses prove that they are equal.
 pub record AxiomsAreComplete (q : ProblemParts) : Type 0 where
   pub chains : Same q ↔ HasChain q
   pub proves : Proves q q.left q.right ↔ HasChain q
@@ -24,18 +25,15 @@ pub record AxiomsAreComplete (q : ProblemParts) : Type 0 where
 abbrev pub SameHaveChains : Type 0
 SameHaveChains = (q : ProblemParts) → IsProblem q → AxiomsAreComplete q
 
--- both sides of the question accept the same guarded strings over its tests and actions
-abbrev pub AcceptSameStrings : ProblemParts → Type 0
-AcceptSameStrings q = (x : GuardedString) → IsString q.tests q.actions x → accepts q.left x.first x.rest ≡ accepts q.right x.first x.rest
+-- the terms accept the same guarded strings over the tests and actions of the question
+abbrev pub AcceptSameStrings : ProblemParts → Term → Term → Type 0
+AcceptSameStrings q e f = (x : GuardedString) → IsString q.tests q.actions x → accepts e x.first x.rest ≡ accepts f x.first x.rest
 
--- the closed sides accept the same guarded strings
-abbrev pub ClosedAcceptSameStrings : ProblemParts → Type 0
-ClosedAcceptSameStrings q = (x : GuardedString) → IsString q.tests q.actions x → accepts (closed q).left x.first x.rest ≡ accepts (closed q).right x.first x.rest
-
--- sameness as equality of languages of guarded strings
+-- sameness is equality of languages of guarded strings: those of the closed sides, and without hypotheses those of the
+-- sides
 pub record IsSameLanguage (q : ProblemParts) : Type 0 where
-  pub closed_sides : Same q ↔ ClosedAcceptSameStrings q
-  pub sides : q.hyps ≡ [] → Same q ↔ AcceptSameStrings q
+  pub closed_sides : Same q ↔ AcceptSameStrings q (closed q).left (closed q).right
+  pub sides : q.hyps ≡ [] → Same q ↔ AcceptSameStrings q q.left q.right
 
 abbrev pub SameAcceptAlike : Type 0
 SameAcceptAlike = (q : ProblemParts) → IsSameLanguage q

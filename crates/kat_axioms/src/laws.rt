@@ -4,8 +4,9 @@ ghost use Rattle.kat_axioms.specs.Laws.{SameHaveChains, SameAcceptAlike, ChainsH
 
 use crate::algebras::Interprets;
 
-/// Both sides of a problem are the same exactly where there is a chain that is a proof (Kozen 1994; Kozen and Smith
-/// 1996; hypotheses of the form `e = 0`: Cohen 1994).
+/// The axioms of Kleene algebra with tests are sound and complete, also under hypotheses of the form `e = 0`: both sides
+/// of a problem are the same exactly where there is a chain that is a proof (Kozen 1994; Kozen and Smith 1996; hypotheses:
+/// Cohen 1994, Kozen 2000).
 pub fn same_have_chains()
     ensures { SameHaveChains }
 {}
