@@ -4,8 +4,9 @@ from dataclasses import dataclass, field
 
 from ir import Unread, located
 from names import live
+from operations import Operations
 from terms import fresh, plain, relation
-from values import Values, call_name
+from values import call_name
 
 MEMORY = "mem", "m"
 
@@ -19,7 +20,7 @@ class Block:
     cut: bool = False
 
 
-class Builder(Values):
+class Builder(Operations):
     def build(self):
         self.blocks = {}
         self.labels = {label: self.add(plain(label)) for label in self.code}

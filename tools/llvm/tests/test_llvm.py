@@ -16,8 +16,9 @@ sys.path[:0] = [str(HERE), str(HERE.parent)]
 import flow_reader  # noqa: E402
 import pairs  # noqa: E402
 from graph import Builder  # noqa: E402
-from ir import Module, Unread, read_function  # noqa: E402
+from ir import Unread  # noqa: E402
 from ir_runner import Meaning, Run  # noqa: E402
+from module import Module, read_function  # noqa: E402
 
 EXAMPLES = HERE.parent / "examples"
 PASSES = json.loads((EXAMPLES / "passes.json").read_text())["passes"]
