@@ -1,27 +1,37 @@
 """Functions of LLVM IR: types, values, instructions and blocks.
 
-A type is ("int", bits), ("float", bits), ("ptr", 64), ("void",), ("array", count, type), ("struct", is packed, types),
-("function", type) or ("named", name). A value is ("%", name), ("@", name), ("int", number), ("float", text), ("undef", word)
-or ("ins", Ins) for a constant that is computed."""
+A type is ("int", bits), ("float", bits) for half, float and double, ("opaque", word) for another of floating point,
+("vector", word of the count, type), ("ptr", address space), ("void",), ("array", count, type), ("struct", is packed, types),
+("function", type) or ("named", name). A value is ("%", name), ("@", name), ("int", number), ("float", text), ("text", text)
+for a constant of an opaque type or a vector, ("undef", word), ("zero", ""), ("list", pairs) for a constant structure or array,
+or ("ins", Ins) for a constant that is computed. An operand is a pair of a type and a value."""
 
-from collections import namedtuple
 from contextlib import contextmanager
 from dataclasses import dataclass, field
 
-CASTS = set("trunc zext sext fptrunc fpext fptoui fptosi uitofp sitofp ptrtoint inttoptr bitcast".split())
-ENDS = {"br", "switch", "ret", "unreachable"}
-BIT, PTR, VOID = ("int", 1), ("ptr", 64), ("void",)
-Function = namedtuple("Function", "type params blocks")
+CASTS = set("trunc zext sext fptrunc fpext fptoui fptosi uitofp sitofp ptrtoint inttoptr bitcast addrspacecast".split())
+BINARY = set("add sub mul udiv sdiv urem srem shl lshr ashr and or xor fadd fsub fmul fdiv frem".split())
+ENDS = {"br", "switch", "ret", "unreachable", "invoke", "resume"}
+BIT, PTR, VOID = ("int", 1), ("ptr", 0), ("void",)
 
 
 class Unread(Exception):
-    """What the reader refuses: the reason, and mostly the instruction."""
+    """What the reader refuses: the construct, and where it is known the instruction, the line and the file."""
+
+    def __init__(self, reason: str, text: str = "", line: int = 0, file: str = ""):
+        super().__init__(reason, text, line, file)
+        self.reason, self.text, self.line, self.file = reason, text, line, file
+
+    def __str__(self) -> str:
+        place = f" ({self.file + ' ' * bool(self.file)}line {self.line})" if self.line else ""
+        return self.reason + f": {self.text}" * bool(self.text) + place
 
 
 @dataclass
 class Ins:
-    """An instruction: its result or None, operation, type, and operands as pairs (type, value). The word is the relation of
-    a comparison or the function of a call, which may have a signature of its own."""
+    """An instruction: its result or None, operation, type and operands. The word is the relation of a comparison, the function
+    of a call or the operation of `atomicrmw`. `mode` has the words of an access that is volatile or atomic, and `site` what is
+    written at a call. `results` are the parts of a result that is a structure."""
     name: str
     op: str
     text: str
@@ -31,18 +41,34 @@ class Ins:
     flags: set = field(default_factory=set)
     labels: list = field(default_factory=list)
     signature: bool = False
+    mode: str = ""
+    site: set = field(default_factory=set)
+    shape: str = ""
+    results: list = field(default_factory=list)
+    line: int = 0
+
+
+@dataclass
+class Function:
+    """A function: the type of its result, its parameters as pairs (name, type), its blocks by label, and its file."""
+    type: tuple
+    params: list
+    blocks: dict
+    file: str = ""
 
 
 @contextmanager
-def located(place):
-    """A refusal inside says at which instruction: the place, or the text that it has."""
+def located(text: str, line: int = 0, file: str = ""):
+    """A refusal inside says at which instruction, if it does not say so yet."""
     try:
         yield
-    except (Unread, LookupError, ValueError, RecursionError) as why:
-        raise Unread(f"{why}: {getattr(place, 'text', place)}") from why
+    except Unread as why:
+        raise Unread(why.reason, why.text or text, why.line or line, why.file or file) from why
+    except (LookupError, ValueError, RecursionError) as why:
+        raise Unread(f"no sense in {why}", text, line, file) from why
 
 
-def reached(blocks):
+def reached(blocks: dict) -> list:
     """The labels of the blocks that some run reaches, in their order. Other blocks may have values that need themselves."""
     found, new = set(), {next(iter(blocks))}
     while new:

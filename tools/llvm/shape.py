@@ -44,12 +44,23 @@ def pruned(blocks):
         return end(blocks[name].jump[2][0], (*seen, name)) if on else name
 
     before, entry = None, next(iter(blocks))
+    blocks = entered(blocks)
     while blocks != before:
         before, found = blocks, live(blocks)
         blocks = {name: replace(block, stmts=[stmt for stmt, _ in found[name][0]]) for name, block in blocks.items()}
         ends = {name: end(name) for name in blocks}
         blocks = {name: aimed(block, ends) for name, block in blocks.items() if name in (entry, ends[name])}
     return blocks
+
+
+def entered(blocks):
+    """The blocks that a run can reach."""
+    found, new = set(), [next(iter(blocks))]
+    while new:
+        name = new.pop()
+        new += [other for other in blocks[name].jump[2] if other not in found and other not in new] if name not in found else []
+        found.add(name)
+    return {name: block for name, block in blocks.items() if name in found}
 
 
 def copied(blocks, twice):

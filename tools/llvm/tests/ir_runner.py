@@ -1,19 +1,26 @@
-"""Runs functions of LLVM IR under an interpretation of memory and of calls, and interprets functions at random."""
+"""Runs functions of LLVM IR under an interpretation of memory, of calls and of opaque operations, and interprets functions at
+random. Numbers have their meaning in LLVM; structures are lists; a value of another type is a number without meaning."""
 
 import hashlib
 import re
 
-from ir import CASTS
+import effects
+from folding import binary, signed, unary
+from ir import BINARY, CASTS
 from terms import exact
-from values import call_name
+from values import call_name, type_word
+
+RELATIONS = {"oeq": "=", "ogt": ">", "oge": ">=", "olt": "<", "ole": "<=", "one": "<>", "ord": "<=>", "uno": "?", "ueq": "=?",
+             "ugt": ">?", "uge": ">=?", "ult": "<?", "ule": "<=?", "une": "<>?", "true": "<=>?", "false": ""}
 
 
-def signed(number, width):
-    return number - (number >> (width - 1) << width)
+class Left(Exception):
+    """The run ends at a call: the memory that it returns."""
 
 
 class Meaning:
-    """Bit operations and divisions as they are, and of all other functions a random one for each seed."""
+    """Operations on numbers as they are, comparisons of floating point that agree with one another, and of all other functions
+    a random one for each seed. Calls rarely end a run."""
 
     def __init__(self, seed):
         self.seed = seed
@@ -21,107 +28,253 @@ class Meaning:
     def __call__(self, name, args):
         found = re.fullmatch(r"(and|or|xor|shl|lshr|ashr|udiv|sdiv|urem|srem)_(\d+)", name)
         if found:
-            return bits(found[1], *args, int(found[2]))
-        number = int.from_bytes(hashlib.blake2b(repr((self.seed, name, args)).encode(), digest_size=8).digest(), "big")
+            return binary(found[1], *args, int(found[2])) or 0
+        found = re.fullmatch(r"sext_(\d+)_(\d+)", name)
+        if found and int(found[1]) < 64:
+            return signed(args[0], int(found[1])) % 2 ** int(found[2])
+        found = re.fullmatch(r"fcmp_(\w+?)_(\w+)", name)
+        if found and found[1] in RELATIONS:
+            return int(self.relation(*args) in RELATIONS[found[1]])
+        found = re.fullmatch("llvm\u02cc(bswap|bitreverse|ctpop|ctlz|cttz)\u02cci(\\d+)(?:\u02c8[_\\d]+)?_value", name)
+        if found:
+            return unary(found[1], args[0], int(found[2]))
+        if re.match(r"fadd_|fmul_|(and|or|xor|add|mul)_(v|128)|icmp_(eq|ne)_v", name):
+            args = sorted(args)
+        number = self.random(name, args)
+        if re.search(r"_(leaves|ends|unwinds)$", name):
+            return int(number % 7 == 0)
         number = (number >> 8) % 3 if number % 4 == 0 else 47 + (number >> 8) % 12 if number % 4 == 1 else number >> 3
-        return number % 2 if name == "load_1" else number
+        small = re.match(r"(?:load|extractelement)_(\d+)\b", name)
+        return number % 2 if name == "load_1" else number % 2 ** int(small[1]) if small and int(small[1]) < 64 else number
 
+    def random(self, *what):
+        return int.from_bytes(hashlib.blake2b(repr((self.seed, *what)).encode(), digest_size=8).digest(), "big")
 
-def bits(op, left, right, width):
-    if op in ("shl", "lshr", "ashr"):
-        if right >= width:
-            return 0
-        return (left << right if op == "shl" else (signed(left, width) if op == "ashr" else left) >> right) % 2 ** width
-    if op in ("and", "or", "xor"):
-        return {"and": left & right, "or": left | right, "xor": left ^ right}[op]
-    if right == 0:
-        return 0
-    if op[0] == "u":
-        return left // right if op == "udiv" else left % right
-    a, b = signed(left, width), signed(right, width)
-    quotient = abs(a) // abs(b) * (1 if (a < 0) == (b < 0) else -1)
-    return (quotient if op == "sdiv" else a - quotient * b) % 2 ** width
+    def relation(self, left, right):
+        """One of `< > = ?` for two numbers of floating point."""
+        if left == right:
+            return "=?"[self.random("nan", left) % 3 == 0]
+        least, most = sorted((left, right))
+        found = "<>=?"[self.random("relation", least, most) % 4]
+        return found if left < right else {"<": ">", ">": "<"}.get(found, found)
 
 
 class Run:
-    def __init__(self, module, function, args, memory, meaning):
-        self.module, self.function, self.meaning, self.memory = module, function, meaning, memory
+    def __init__(self, module, function, args, memory, meaning, options):
+        self.module, self.function, self.meaning, self.memory, self.options = module, function, meaning, memory, options
         self.env = {name: arg for (name, _), arg in zip(function.params, args)}
 
-    def width(self, type):
-        return 64 if type[0] == "ptr" else type[1]
+    def bits(self, type):
+        """The bits of a number; a value that is none has 64."""
+        if type[0] in ("vector", "opaque", "void", "struct", "array", "named"):
+            return 64
+        return min(self.module.layout.bits(type), 64)
+
+    def word(self, type):
+        return type_word(type, self.module.layout)
+
+    def is_number(self, type):
+        return type[0] in ("int", "float", "ptr") and self.module.layout.bits(type) <= 64
+
+    def fields(self, type):
+        """The types of the fields of a structure or array, None for another type."""
+        type = self.module.named(type)
+        return [type[2]] * type[1] if type[0] == "array" else type[2] if type[0] == "struct" else None
+
+    def flat(self, value):
+        return [part for one in value for part in self.flat(one)] if isinstance(value, list) else [value]
 
     def value(self, pair):
         type, (kind, what) = pair
         if kind == "undef":
             raise LookupError("undefined value")
+        if kind == "zero":
+            return [self.value((field, ("zero", ""))) for field in self.fields(type)] if self.fields(type) is not None else self.value(
+                (type, ("float", "0.000000e+00") if type[0] == "float" else ("int", 0) if type[0] in ("int", "ptr") else ("text", "zeroinitializer")))
+        if kind == "list":
+            return [self.value(one) for one in what]
+        if kind == "int" and not self.is_number(type):
+            return self.meaning(f"\u02c8int_{self.word(type)}_{what % 2 ** self.module.layout.bits(type)}", []) % 2 ** 64
         if kind == "int":
-            return what % 2 ** self.width(type)
-        if kind == "float":
-            return self.meaning(f"{exact(what)}\u02c8{self.width(type)}", []) % 2 ** self.width(type)
+            return what % 2 ** self.bits(type)
+        if kind in ("float", "text"):
+            return self.meaning(f"{exact(what)}\u02c8{self.word(type)}", []) % 2 ** self.bits(type)
         if kind == "@":
-            return self.meaning(f"{exact(what)}_address", []) % 2 ** 64
+            return self.meaning(f"{exact(what)}_address", []) % 2 ** self.bits(type)
         return self.compute(what) if kind == "ins" else self.env[what]
 
     def compute(self, ins):
-        op, width = ins.op, self.width(ins.type) if ins.type != ("void",) else 0
-        if op == "load":
-            return self.meaning(f"load_{width}", [self.memory, self.value(ins.args[0])]) % 2 ** width
+        """The value of an instruction that is no call and does not write memory."""
+        op = ins.op
         if op == "getelementptr":
             return self.address(ins)
-        if op == "call":
-            return self.call(ins, width)
-        values = [self.value(pair) if pair[1][0] != "none" else 0 for pair in ins.args]
-        old = self.width(ins.args[0][0]) if op != "alloca" else 0
-        if op in ("add", "sub", "mul"):
-            return {"add": values[0] + values[1], "sub": values[0] - values[1], "mul": values[0] * values[1]}[op] % 2 ** width
-        if op[0] == "f" and op != "freeze" or op in ("uitofp", "sitofp"):
-            if op == "fcmp":
-                return self.meaning(f"{op}_{ins.word}_{old}", values) % 256 != 0
-            return self.meaning(f"{op}_{width}" if len(values) > 1 else f"{op}_{old}_{width}", values) % 2 ** width
-        if op == "alloca":
-            args = [self.module.layout(ins.args[0][0])[0], *values[1:], self.memory]
-            self.memory = self.meaning(f"alloca\u02c8{len(values)}_memory", args) % 2 ** 64
-            return self.meaning(f"alloca\u02c8{len(values)}_value", args) % 2 ** 64
-        if op == "icmp":
-            a, b = [signed(one, old) for one in values] if ins.word[0] == "s" else values
-            return int({"e": a == b, "n": a != b, "l": a < b, "g": a > b}[ins.word.lstrip("us")[0]] or
-                       ins.word[-1] == "e" and ins.word[-2] in "lg" and a == b)
-        if op in CASTS or op == "freeze":
-            return (signed(values[0], old) if op == "sext" else values[0]) % 2 ** width
-        if op == "select":
+        if op == "load":
+            return self.load(ins.type, self.value(ins.args[0]), ins.args[0][0][1])
+        if op in ("extractvalue", "insertvalue"):
+            return self.part(ins)
+        values, old, new = [self.value(pair) for pair in ins.args], ins.args[0][0], ins.type
+        if op == "freeze" or op == "bitcast" and self.is_number(old) and self.is_number(new):
+            return values[0]
+        if op == "select" and old == ("int", 1):
             return values[1] if values[0] else values[2]
-        return bits(op, *values, width) % 2 ** width
+        if op == "icmp" and self.is_number(old):
+            return self.compare(ins.word, values, self.bits(old))
+        if op == "fcmp" and new == ("int", 1):
+            return int(self.meaning.relation(*values) in RELATIONS[ins.word])
+        if op in ("trunc", "zext", "sext", "ptrtoint", "inttoptr") and self.is_number(old) and self.is_number(new):
+            return (signed(values[0], self.bits(old)) if op == "sext" else values[0]) % 2 ** self.bits(new)
+        if op in BINARY and op[0] != "f" and self.is_number(new):
+            found = binary(op, *values, self.bits(new))
+            return 0 if found is None else found
+        return self.opaque(ins, values)
+
+    def opaque(self, ins, values):
+        op, words = ins.op, [self.word(type) for type, _ in ins.args]
+        if op == "addrspacecast":
+            words = [str(ins.args[0][0][1]), str(ins.type[1])]
+        elif op in CASTS or op == "fneg":
+            words = [words[0], self.word(ins.type)]
+        elif op in ("icmp", "fcmp"):
+            if op == "icmp" and ins.type == ("int", 1):
+                return self.wide_compare(ins.word, values, words[0])
+            words = [ins.word, words[0]]
+            if op == "icmp" and ins.word[1] == "g":
+                words, values = [f"{ins.word[0]}l{ins.word[2]}", words[1]], values[::-1]
+        elif op in BINARY:
+            words = words[:1]
+        found = self.meaning("_".join([op, *words]), values) % 2 ** self.bits(ins.type)
+        return found if ins.type != ("int", 1) else int(self.meaning("_".join([op, *words]), values) % 256 != 0)
+
+    def wide_compare(self, word, values, name):
+        if word in ("eq", "ne"):
+            return int((values[0] == values[1]) == (word == "eq"))
+        if word[1:] in ("gt", "le"):
+            values = values[::-1]
+        less = self.meaning(f"icmp_{word[0]}lt_{name}", values) % 256 != 0
+        return int(less == (word[2] == "t"))
+
+    def compare(self, word, values, bits):
+        a, b = [signed(one, bits) for one in values] if word[0] == "s" else values
+        return int({"e": a == b, "n": a != b, "l": a < b, "g": a > b}[word.lstrip("us")[0]] or
+                   word[-1] == "e" and word[-2] in "lg" and a == b)
+
+    def part(self, ins):
+        path = [what for _, (_, what) in ins.args[1 if ins.op == "extractvalue" else 2:]]
+        whole = self.value(ins.args[0])
+        if ins.op == "extractvalue":
+            for at in path:
+                whole = whole[at]
+            return whole
+        return self.put(whole, path, self.value(ins.args[1]))
+
+    def put(self, whole, path, value):
+        return [self.put(one, path[1:], value) if at == path[0] else one for at, one in enumerate(whole)] if path else value
+
+    def places(self, type):
+        """The offsets of the fields in memory."""
+        inner = self.module.named(type)
+        return self.module.measure(type)[2] if inner[0] == "struct" else [self.module.measure(inner[2])[0] * at for at in range(inner[1])]
+
+    def load(self, type, address, space):
+        if self.fields(type) is not None:
+            return [self.load(field, address + at, space) for field, at in zip(self.fields(type), self.places(type))]
+        return self.meaning(f"load_{self.word(type)}" + f"\u02c8{space}" * (space != 0), [self.memory, address]) % 2 ** self.bits(type)
+
+    def store(self, type, value, address, space):
+        if self.fields(type) is not None:
+            for field, at, one in zip(self.fields(type), self.places(type), value):
+                self.store(field, one, address + at, space)
+        else:
+            name = f"store_{self.word(type)}" + f"\u02c8{space}" * (space != 0)
+            self.memory = self.meaning(name, [self.memory, address, value]) % 2 ** 64
 
     def address(self, ins):
-        type, total = ("array", 0, ins.args[0][0]), self.value(ins.args[1])
+        type, total, bits = ("array", 0, ins.args[0][0]), self.value(ins.args[1]), self.bits(ins.args[1][0])
         for pair in ins.args[2:]:
             type = self.module.named(type)
             if type[0] == "struct":
-                total += self.module.layout(type)[2][pair[1][1]]
+                total += self.module.measure(type)[2][pair[1][1]]
                 type = type[2][pair[1][1]]
             else:
+                size = self.module.measure(type[2])[0] if type[0] == "array" else self.bits(type[2]) // 8
                 type = type[2]
-                total += signed(self.value(pair), self.width(pair[0])) * self.module.layout(type)[0]
-        return total % 2 ** 64
+                total += signed(self.value(pair), self.bits(pair[0])) * size
+        return total % 2 ** bits
 
-    def call(self, ins, width):
+    def alloca(self, ins):
+        values = [self.value(pair) for pair in ins.args[1:]]
+        args = [self.module.measure(ins.args[0][0])[0], *values, self.memory]
+        name = f"alloca\u02c8{len(ins.args)}" + f"\u02c8{ins.type[1]}" * (ins.type[1] != 0)
+        self.memory = self.meaning(f"{name}_memory", args) % 2 ** 64
+        return self.meaning(f"{name}_value", args) % 2 ** self.bits(ins.type)
+
+    def result(self, name, type, args):
+        """The result of a call or access: a structure has a function for each part."""
+        leaves = self.flat(self.shaped(type, [("%", "")]))
+        if self.fields(type) is None:
+            return self.meaning(name, args) % 2 ** self.bits(type) if type != ("int", 1) else int(self.meaning(name, args) % 256 != 0)
+        found = [self.result(f"{name}_{at}", leaf, args) for at, leaf in enumerate(leaves)]
+        return self.shaped(type, found)
+
+    def shaped(self, type, values):
+        """A structure of the values of its parts; without values it has the types of the parts."""
+        if values == [("%", "")]:
+            return [self.shaped(field, values) for field in self.fields(type)] if self.fields(type) is not None else type
+        values = iter(values) if isinstance(values, list) else values
+        return [self.shaped(field, values) for field in self.fields(type)] if self.fields(type) is not None else next(values)
+
+    def named_call(self, ins):
+        """The name of a call's function, as the reader has it after structures have become parts."""
+        parts = [self.flat(self.shaped(type, [("%", "")])) for type, _ in ins.args]
+        shape = ins.shape + " parts " + " ".join(str(len(part)) for part in parts) if any(len(part) != 1 for part in parts) else ins.shape
+        results = [("", leaf) for leaf in self.flat(self.shaped(ins.type, [("%", "")]))] if self.fields(ins.type) is not None else []
+        made = type(ins)(**{**vars(ins), "args": [(leaf, None) for part in parts for leaf in part], "results": results, "shape": shape})
+        return call_name(made, self.module.layout)
+
+    def call(self, ins):
         args = [self.value(pair) for pair in ins.args]
-        which = re.match(r"llvm\.([us](?:min|max)|abs)\.", ins.word)
-        if which and which[1] == "abs":
-            return abs(signed(args[0], width)) % 2 ** width
-        if which:
-            a, b = [signed(arg, width) for arg in args] if which[1][0] == "s" else args
-            return (min if which[1][1:] == "min" else max)(a, b) % 2 ** width
-        effect = self.module.effect(ins.word)
-        args += [] if effect == "none" else [self.memory]
-        result = self.meaning(f"{call_name(ins)}_value", args) % 2 ** width
+        if ins.op == "call" and ins.word.startswith("llvm.") and not ins.shape:
+            found = known(ins, args, self.bits(ins.args[0][0]) if ins.args else 0)
+            if found is not None:
+                return found
+        name, effect = self.named_call(ins), "writes"
+        if ins.op in ("call", "invoke"):
+            effect = self.module.effect(ins.word, ins.site)
+        args = [part for arg in args for part in self.flat(arg)] + ([] if effect == "none" else [self.memory])
+        words = self.module.attributes.get(ins.word, "")
+        if effect == "writes" and ins.op != "invoke" and not self.options.returns_only and not effects.returns(ins, words):
+            if "noreturn" in words.split() or "noreturn" in ins.site or self.meaning(f"{name}_leaves", args) % 256:
+                raise Left(self.meaning(f"{name}_left", args) % 2 ** 64)
+        result = self.result(f"{name}_value", ins.type, args) if ins.type != ("void",) else None
         if effect == "writes":
-            self.memory = self.meaning(f"{call_name(ins)}_memory", args) % 2 ** 64
+            self.memory = self.meaning(f"{name}_memory", args) % 2 ** 64
         return result
 
+    def invoke(self, ins):
+        """The label at which the run goes on."""
+        words = self.module.attributes.get(ins.word, "").split()
+        if "nounwind" in words:
+            self.env[ins.name] = self.call(ins)
+            return ins.labels[0]
+        name, args = self.named_call(ins), [part for pair in ins.args for part in self.flat(self.value(pair))] + [self.memory]
+        if not self.options.returns_only and "willreturn" not in words and self.meaning(f"{name}_ends", args) % 256:
+            raise Left(self.meaning(f"{name}_ended", args) % 2 ** 64)
+        if self.meaning(f"{name}_unwinds", args) % 256:
+            self.memory = self.meaning(f"{name}_unwound", args) % 2 ** 64
+            return ins.labels[1]
+        self.env[ins.name] = self.result(f"{name}_value", ins.type, args) if ins.type != ("void",) else None
+        self.memory = self.meaning(f"{name}_memory", args) % 2 ** 64
+        return ins.labels[0]
+
     def run(self, turns):
-        """The result and the memory, None where the run is stuck, or `more` where it has not ended after so many blocks."""
+        """The results and the memory, None where the run is stuck, or `more` where it has not ended after so many blocks."""
+        try:
+            return self.blocks(turns)
+        except Left as end:
+            leaves = [] if self.function.type == ("void",) else self.flat(self.shaped(self.function.type, [("%", "")]))
+            return [0 if self.is_number(leaf) else self.meaning(f"\u02c8nothing_{self.word(leaf)}", []) % 2 ** 64 for leaf in leaves], end.args[0]
+
+    def blocks(self, turns):
         label, before = next(iter(self.function.blocks)), None
         for _ in range(turns):
             block = self.function.blocks[label]
@@ -129,22 +282,64 @@ class Run:
             self.env.update(zip([ins.name for ins in phis],
                                 [self.value(ins.args[ins.labels.index(before)]) for ins in phis]))
             for ins in block[len(phis):]:
-                if ins.op == "store":
-                    size = self.width(ins.args[0][0])
-                    args = [self.memory, self.value(ins.args[1]), self.value(ins.args[0])]
-                    self.memory = self.meaning(f"store_{size}", args) % 2 ** 64
-                elif ins.op == "unreachable" or ins.word == "llvm.assume" and not self.value(ins.args[0]):
+                if ins.op == "unreachable" or ins.word == "llvm.assume" and not self.value(ins.args[0]):
                     return None
-                elif ins.op == "ret":
-                    return [self.value(pair) for pair in ins.args], self.memory
-                elif ins.op == "br":
-                    taken = ins.labels[0 if not ins.args or self.value(ins.args[0]) else 1]
-                elif ins.op == "switch":
-                    cases = [self.value(pair) for pair in ins.args]
-                    taken = ins.labels[cases.index(cases[0], 1) if cases[0] in cases[1:] else 0]
-                elif ins.name:
-                    self.env[ins.name] = self.compute(ins)
-                elif ins.word != "llvm.assume":
-                    self.call(ins, 1)
+                if ins.op == "ret":
+                    return [part for pair in ins.args for part in self.flat(self.value(pair))], self.memory
+                taken = self.step(ins)
             label, before = taken, label
         return "more"
+
+    def step(self, ins):
+        """Runs an instruction; the label at which the run goes on, where it ends its block."""
+        if ins.op == "br":
+            return ins.labels[0 if not ins.args or self.value(ins.args[0]) else 1]
+        if ins.op == "switch":
+            cases = [self.value(pair) for pair in ins.args]
+            return ins.labels[cases.index(cases[0], 1) if cases[0] in cases[1:] else 0]
+        if ins.op == "invoke":
+            return self.invoke(ins)
+        if ins.op == "resume":
+            args = self.flat(self.value(ins.args[0]))
+            if self.options.returns_only:
+                raise LookupError("the run does not return")
+            leaves = self.flat(self.shaped(ins.args[0][0], [("%", "")]))
+            raise Left(self.meaning("\u02c8resume" + "".join(f"_{self.word(leaf)}" for leaf in leaves) + "_left", [*args, self.memory]) % 2 ** 64)
+        if ins.op == "store" and not ins.mode:
+            self.store(ins.args[0][0], self.value(ins.args[0]), self.value(ins.args[1]), ins.args[1][0][1])
+        elif ins.op == "alloca":
+            self.env[ins.name] = self.alloca(ins)
+        elif ins.op == "landingpad":
+            self.env[ins.name] = self.result(self.named_call(ins), ins.type, [self.memory])
+        elif ins.op in ("call", "cmpxchg", "atomicrmw", "fence", "va_arg") or ins.mode:
+            self.env[ins.name] = self.call(ins) if ins.word != "llvm.assume" else None
+        elif ins.name:
+            self.env[ins.name] = self.compute(ins)
+        return None
+
+
+def known(ins, args, bits):
+    """The result of an intrinsic that has a meaning, else None."""
+    if re.match(r"llvm\.(expect|ssa\.copy|launder\.invariant\.group|strip\.invariant\.group)\.", ins.word):
+        return args[0]
+    found = re.fullmatch(r"llvm\.([\w.]+)\.i\d+", ins.word)
+    word = found[1] if found else ""
+    if word in ("umin", "umax", "smin", "smax"):
+        keys = [signed(arg, bits) if word[0] == "s" else arg for arg in args]
+        return (min if word[1:] == "min" else max)(keys) % 2 ** bits
+    if word == "abs":
+        return abs(signed(args[0], bits)) % 2 ** bits
+    if word in ("fshl", "fshr") and ins.args[2][1][0] == "int":
+        both, count = args[0] << bits | args[1], args[2] % bits
+        return (both << count >> bits if word == "fshl" else both >> count) % 2 ** bits
+    if word in ("uadd.sat", "usub.sat"):
+        return max(0, min(2 ** bits - 1, args[0] + args[1] if word[1:4] == "add" else args[0] - args[1]))
+    found = re.fullmatch(r"([us])(add|sub|mul)\.with\.overflow", word)
+    if found and (found[2] != "mul" or bits <= 32):
+        a, b = [signed(arg, bits) if found[1] == "s" else arg for arg in args]
+        exact_result = {"add": a + b, "sub": a - b, "mul": a * b}[found[2]]
+        low = exact_result % 2 ** bits
+        return [low, int((signed(low, bits) if found[1] == "s" else low) != exact_result)]
+    if word in ("bswap", "bitreverse", "ctpop", "ctlz", "cttz") and unary(word, args[0], bits) is not None:
+        return unary(word, args[0], bits)
+    return None
