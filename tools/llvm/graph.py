@@ -59,7 +59,7 @@ class Builder(Calls):
         elif ins.mode or op in CALLS:
             if kind != "pure":
                 self.call(ins)
-        elif op in ("load", "store", "alloca"):
+        elif op in ("load", "store", "alloca", "slot"):
             getattr(self, op)(ins)
         elif op != "phi" and kind == "fixed":
             sides = args[1:] or [(ins.type, ("int", 1 if op == "zext" else -1)), (ins.type, ("int", 0))]
@@ -79,6 +79,11 @@ class Builder(Calls):
         if self.options.loads:
             self.block.stmts.append({"": f"{self.apply(f'valid_{place}', 'u8', MEMORY, address)} != 0"})
         self.assign(ins, f"load_{place}", [MEMORY, address])
+
+    def slot(self, ins: Ins) -> None:
+        """A statement of a variable for local memory: its value is kept, or set."""
+        term = self.number(ins.args[0])  # which may begin a block
+        self.block.stmts.append({self.var(ins.name, ins.type): term})
 
     def alloca(self, ins: Ins) -> None:
         name = f"alloca\u02c8{len(ins.args)}" + f"\u02c8{ins.type[1]}" * (ins.type[1] != 0)

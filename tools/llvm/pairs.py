@@ -2,7 +2,6 @@
 
 import argparse
 import sys
-from pathlib import Path
 
 from graph import Builder
 from ir import Unread
@@ -21,11 +20,9 @@ CHOICES = FIRST + OTHERS.split(";") + [
 sys.setrecursionlimit(10_000)
 
 
-def options(doc, **after):
+def options(doc):
     """A reader of the words of a command, with what both commands have."""
     parser = argparse.ArgumentParser(description=doc)
-    parser.add_argument("before", type=Path)
-    parser.add_argument("after", type=Path, **after)
     parser.add_argument("--strict", action="store_true",
                         help="assert what the flags nuw, nsw, exact and inbounds promise, and that divisions are defined")
     parser.add_argument("--loads", choices=["strict"], help="assert before each load that its address is valid")

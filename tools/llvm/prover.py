@@ -5,13 +5,24 @@ import subprocess
 from itertools import islice
 from pathlib import Path
 from textwrap import indent
+from typing import NamedTuple
 
 from ir import Unread
+from module import Module
 from pairs import tries
 from terms import exact
 from values import Options
 
 KAT = Path(__file__).resolve().parents[2] / "kat"
+LIMIT = re.compile(r"refused: ([A-Z]\w+)")
+
+
+class Answer(NamedTuple):
+    """An answer, `equal`, `not proved` or `not read`; the cuts of the proof or why there is none; and the difference that was
+    found, if it was asked for."""
+    word: str
+    why: str
+    difference: str = ""
 
 
 class Prover:
@@ -21,14 +32,14 @@ class Prover:
         self.program, self.folder = program, Path(folder)
         self.folder.mkdir(parents=True, exist_ok=True)
 
-    def kat(self, word, *files, output="printed"):
+    def kat(self, word: str, *files: str, output: str = "printed") -> tuple:
         """The status of a command, and what it prints."""
         words = [self.program, word, *(self.folder / file for file in files)]
         ended = subprocess.run(words, stdout=subprocess.PIPE, encoding="utf-8")
         (self.folder / output).write_text(ended.stdout, "utf-8")
         return ended.returncode, ended.stdout
 
-    def ask(self, text, name, refine=False):
+    def ask(self, text: str, name: str, refine: bool = False) -> str:
         """Whether a flow text is proved: `equal`, `different`, or what is refused. With `refine` the question is only whether
         the second graph returns what the first one does, where that returns: the goal of the problem is another one."""
         (self.folder / f"{name}.flow").write_text(text, "utf-8")
@@ -45,23 +56,40 @@ class Prover:
                 return answer
         return printed.strip() or f"status {status}"
 
-    def explain(self, name):
+    def explain(self, name: str) -> str:
         """What `explain` says of a difference, with comparisons and assignments for the names of tests and actions."""
         said = dict(re.findall(r"^# ([ta]\d+) is (.*)$", (self.folder / f"{name}.kat").read_text("utf-8"), re.M))
         printed = self.kat("explain", f"{name}.kat", f"{name}.evidence")[1]
-        return "\n" + indent(re.sub(r"\b[ta]\d+\b", lambda found: said.get(found[0], found[0]), printed.strip()), "    ")
+        return indent(re.sub(r"\b[ta]\d+\b", lambda found: said.get(found[0], found[0]), printed.strip()), "    ")
 
-    def validate(self, before, after, name, options=Options(), most=None):
-        """The answer for a function, and its cuts or the reason."""
-        answers, file = {}, exact(name)[:100]
+    def validate(self, before: Module, after: Module, name: str, options: Options = Options(), most: int = None,
+                 explain: bool = False) -> Answer:
+        """The answer for a function of two modules."""
+        answers, file, first = {}, exact(name)[:100], ""
         try:
             for number, (choice, text) in enumerate(islice(tries(before, after, name, options), most)):
+                first = first or text
                 answer = self.ask(text, f"{file}-{number}", options.refine)
                 if answer == "equal":
-                    return answer, choice
+                    return Answer(answer, choice)
                 answers.setdefault(answer, f"{file}-{number}")
         except Unread as why:
-            return "not read", str(why)
-        if "different" in answers:
-            return "different", self.explain(answers["different"])
-        return "refused", "; ".join(answers)
+            return Answer("not read", str(why))
+        difference = self.explain(answers["different"]) if explain and "different" in answers else ""
+        return Answer("not proved", reason(answers, first), difference)
+
+
+def reason(answers: dict, text: str) -> str:
+    """Why there is no proof: the operations that only one side has, and the limits that some choices of cuts met."""
+    found = [operations(text)] if "different" in answers else []
+    limits = dict.fromkeys(word for answer in answers for word in LIMIT.findall(answer) or [answer] if answer != "different")
+    return "; ".join(found + [f"refused: {', '.join(limits)}"] * bool(limits))
+
+
+def operations(text: str) -> str:
+    """The functions that only one graph of a text has."""
+    graphs = re.findall(r"^graph \w+ \{\n(.*?)^\}", text, re.M | re.S)
+    left, right = (set(re.findall(r"\b(?![us](?:8|16|32|64)\(|s[lg][te]\()(\w+)\(", graph)) for graph in graphs)
+    parts = [f"only {side}: {', '.join(sorted(names)[:4])}{', ..' * (len(names) > 4)}"
+             for side, names in (("before", left - right), ("after", right - left)) if names]
+    return "; ".join(parts) or "the same operations on both sides"

@@ -8,6 +8,7 @@ from ir import BIT, Function, Ins, Unread
 from layouts import Layout
 from module import Module
 from parts import scalar
+from slots import slotted
 from terms import exact, plain
 
 WIDTHS = 8, 16, 32, 64
@@ -68,7 +69,7 @@ class Values:
         """`params` are names of parameters; where there are none they get their own."""
         self.module, self.scope, self.options = module, scope, options
         self.layout, self.text, self.line = module.layout, "", 0
-        self.function = function = expanded(scalar(module, function))
+        self.function = function = expanded(slotted(module, scalar(module, function)))
         self.names = {name: own for (name, _), own in zip(function.params, params)}
         self.own = set(self.names.values())
         self.bits = {own for (_, type), own in zip(function.params, params) if type == BIT}
@@ -104,7 +105,7 @@ class Values:
             return "fixed" if ins.mode else "load"
         chosen = ins.op == "select" and ins.type != BIT and ins.args[0][0] == BIT
         chosen = chosen or ins.op in ("zext", "sext") and ins.args[0][0] == BIT
-        fixed = chosen or ins.op in ("alloca", "cmpxchg", "atomicrmw", "va_arg", "invoke", "landingpad")
+        fixed = chosen or ins.op in ("alloca", "slot", "cmpxchg", "atomicrmw", "va_arg", "invoke", "landingpad")
         return "fixed" if fixed or ins.op == "phi" and not self.copied(ins) else "pure"
 
     def copied(self, ins: Ins):

@@ -3,15 +3,21 @@ random. Numbers have their meaning in LLVM; structures are lists; a value of ano
 
 import hashlib
 import re
+from collections import namedtuple
 
 import effects
+import slots
 from folding import binary, signed, unary
 from ir import BINARY, CASTS
+from parts import scalar
 from terms import exact
 from values import call_name, type_word
 
 RELATIONS = {"oeq": "=", "ogt": ">", "oge": ">=", "olt": "<", "ole": "<=", "one": "<>", "ord": "<=>", "uno": "?", "ueq": "=?",
              "ugt": ">?", "uge": ">=?", "ult": "<?", "ule": "<=?", "une": "<>?", "true": "<=>?", "false": ""}
+
+
+Place = namedtuple("Place", "name at")
 
 
 class Left(Exception):
@@ -63,6 +69,21 @@ class Run:
     def __init__(self, module, function, args, memory, meaning, options):
         self.module, self.function, self.meaning, self.memory, self.options = module, function, meaning, memory, options
         self.env = {name: arg for (name, _), arg in zip(function.params, args)}
+        self.private = {local.ins.name: {} for local in slots.found(module, scalar(module, function))}
+
+    def own(self, type, address, value=None):
+        """Reads or writes the bytes of local memory that nobody else sees; a byte that nothing has written has no value."""
+        bytes, at = self.private[address.name], address.at
+        if self.fields(type) is not None:
+            parts = zip(self.fields(type), self.places(type), value or [None] * len(self.fields(type)))
+            return [self.own(field, Place(address.name, at + more), one) for field, more, one in parts]
+        size = -(-self.module.layout.bits(type) // 8)
+        if value is not None:
+            halves = list(value.to_bytes(8, "little")[:size]) if self.is_number(type) else [value] * size
+            bytes.update(zip(range(at, at + size), halves))
+            return None
+        halves = [bytes[one] for one in range(at, at + size)]
+        return int.from_bytes(halves, "little") if self.is_number(type) else halves[0]
 
     def bits(self, type):
         """The bits of a number; a value that is none has 64."""
@@ -113,7 +134,7 @@ class Run:
         if op in ("extractvalue", "insertvalue"):
             return self.part(ins)
         values, old, new = [self.value(pair) for pair in ins.args], ins.args[0][0], ins.type
-        if op == "freeze" or op == "bitcast" and self.is_number(old) and self.is_number(new):
+        if op == "freeze" or isinstance(values[0], Place) or op == "bitcast" and self.is_number(old) and self.is_number(new):
             return values[0]
         if op == "select" and old == ("int", 1):
             return values[1] if values[0] else values[2]
@@ -176,11 +197,16 @@ class Run:
         return self.module.measure(type)[2] if inner[0] == "struct" else [self.module.measure(inner[2])[0] * at for at in range(inner[1])]
 
     def load(self, type, address, space):
+        if isinstance(address, Place):
+            return self.own(type, address)
         if self.fields(type) is not None:
             return [self.load(field, address + at, space) for field, at in zip(self.fields(type), self.places(type))]
         return self.meaning(f"load_{self.word(type)}" + f"\u02c8{space}" * (space != 0), [self.memory, address]) % 2 ** self.bits(type)
 
     def store(self, type, value, address, space):
+        if isinstance(address, Place):
+            self.own(type, address, value)
+            return
         if self.fields(type) is not None:
             for field, at, one in zip(self.fields(type), self.places(type), value):
                 self.store(field, one, address + at, space)
@@ -189,7 +215,8 @@ class Run:
             self.memory = self.meaning(name, [self.memory, address, value]) % 2 ** 64
 
     def address(self, ins):
-        type, total, bits = ("array", 0, ins.args[0][0]), self.value(ins.args[1]), self.bits(ins.args[1][0])
+        type, base, bits = ("array", 0, ins.args[0][0]), self.value(ins.args[1]), self.bits(ins.args[1][0])
+        total = base.at if isinstance(base, Place) else base
         for pair in ins.args[2:]:
             type = self.module.named(type)
             if type[0] == "struct":
@@ -199,9 +226,12 @@ class Run:
                 size = self.module.measure(type[2])[0] if type[0] == "array" else self.bits(type[2]) // 8
                 type = type[2]
                 total += signed(self.value(pair), self.bits(pair[0])) * size
-        return total % 2 ** bits
+        return Place(base.name, total) if isinstance(base, Place) else total % 2 ** bits
 
     def alloca(self, ins):
+        if ins.name in self.private:
+            self.private[ins.name].clear()
+            return Place(ins.name, 0)
         values = [self.value(pair) for pair in ins.args[1:]]
         args = [self.module.measure(ins.args[0][0])[0], *values, self.memory]
         name = f"alloca\u02c8{len(ins.args)}" + f"\u02c8{ins.type[1]}" * (ins.type[1] != 0)
@@ -233,6 +263,8 @@ class Run:
 
     def call(self, ins):
         args = [self.value(pair) for pair in ins.args]
+        if ins.word.startswith("llvm.lifetime.") and isinstance(args[-1], Place):
+            return self.private[args[-1].name].clear()
         if ins.op == "call" and ins.word.startswith("llvm.") and not ins.shape:
             found = known(ins, args, self.bits(ins.args[0][0]) if ins.args else 0)
             if found is not None:

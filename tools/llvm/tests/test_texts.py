@@ -1,12 +1,9 @@
 """Tests of the reader of LLVM IR: what is printed is a flow text that runs as the IR does, and what is refused."""
 
 import re
-import subprocess
-import tempfile
 import unittest
-from pathlib import Path
 
-from comparing import HERE, compare, small  # first, since it says where the modules are
+from comparing import compare, small  # first, since it says where the modules are
 import flow_reader
 import pairs
 from ir import Unread
@@ -245,23 +242,6 @@ class Texts(unittest.TestCase):
         with self.assertRaises(Unread) as found:
             read_function("define i32 @f(ptr %p) { store i32 5, ptr %p\nret i32 0\n")
         self.assertIn("code in a heading", str(found.exception))
-
-    def test_validate(self):
-        """The command `validate` with a stub for `kat`: the table and the statuses."""
-        with tempfile.TemporaryDirectory() as folder:
-            same, other, unread = (Path(folder) / name for name in ("same.ll", "other.ll", "unread.ll"))
-            text = f'define i32 @"{"long/" * 60}"(i32 %x, i32 %y) {{{{\n%a = {{}}\nret i32 %a\n}}}}\n'
-            same.write_text(text.format("add nsw i32 %x, %y"))
-            other.write_text(text.format("add i32 %x, %y"))
-            unread.write_text(text.format("catchpad within none []"))
-            wrong = Path(folder) / "wrong.ll"
-            wrong.write_text(text.format("sub i32 %x, %y"))
-            for after, status, answer in ((same, 0, ""), (other, 0, "equal"), (wrong, 1, "different"), (unread, 2, "not read")):
-                ended = subprocess.run([HERE.parent / "validate", "--kat", HERE / "kat_stub", same, after],
-                                       stdout=subprocess.PIPE, text=True)
-                self.assertEqual(status, ended.returncode, ended.stdout)
-                self.assertIn(answer, ended.stdout)
-                self.assertEqual(after == wrong, "    0 x < y" in ended.stdout)
 
 
 if __name__ == "__main__":

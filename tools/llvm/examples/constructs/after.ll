@@ -28,6 +28,9 @@ declare i32 @llvm.ssa.copy.i32(i32) #0
 declare void @llvm.va_start(ptr)
 declare void @llvm.va_end(ptr)
 
+declare void @llvm.lifetime.start.p0(i64, ptr)
+declare void @llvm.lifetime.end.p0(i64, ptr)
+
 attributes #0 = { nounwind readnone willreturn }
 attributes #1 = { noreturn nounwind }
 attributes #2 = { convergent nounwind readnone willreturn }
@@ -338,4 +341,37 @@ define i32 @unnamed(i64 %i, i32 %x) {
   %c = add i32 %x, 4
   call void @put(i32 %c)
   ret i32 %c
+}
+
+define i32 @local(i32 %n, ptr %p, i1 %b) {
+entry:
+  %i = alloca i32
+  %q = alloca { ptr, i16, [2 x i8] }
+  %c = alloca i1
+  store i32 0, ptr %i
+  %h = getelementptr { ptr, i16, [2 x i8] }, ptr %q, i32 0, i32 2, i64 1
+  store i8 7, ptr %h
+  store ptr %p, ptr %q
+  store i1 %b, ptr %c
+  br label %head
+head:
+  %v = load i32, ptr %i
+  %k = icmp sgt i32 %n, %v
+  br i1 %k, label %body, label %end
+body:
+  %a = load ptr, ptr %q
+  store i32 %v, ptr %a
+  %d = add i32 %v, 2
+  store i32 %d, ptr %i
+  %e = getelementptr i8, ptr %a, i64 4
+  store ptr %e, ptr %q
+  br label %head
+end:
+  %s = freeze i32 %v
+  %w = load i8, ptr %h
+  %x = zext i8 %w to i32
+  %z = load i1, ptr %c
+  %y = sub i32 %s, %x
+  %r = select i1 %z, i32 %y, i32 %s
+  ret i32 %r
 }
