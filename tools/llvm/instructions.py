@@ -241,11 +241,12 @@ def read_actuals(line: Line, ins: Ins) -> None:
 
 
 def read_bundles(line: Line, ins: Ins) -> None:
-    """Operand bundles: their words are words of the call, and their values are arguments after the others."""
+    """Operand bundles: their words and numbers of values are words of the call, and the values are arguments after the others."""
     while not line.take("]"):
-        ins.shape += " bundle " + line.pop().strip('"')
+        word, before = line.pop().strip('"'), len(ins.args)
         line.want("(")
         read_actuals(line, ins)
+        ins.shape += f" bundle {word} {len(ins.args) - before}"
         line.take(",")
     ins.site |= {"bundle"}
 

@@ -51,7 +51,7 @@ class Meaning:
             return int(number % 7 == 0)
         number = (number >> 8) % 3 if number % 4 == 0 else 47 + (number >> 8) % 12 if number % 4 == 1 else number >> 3
         small = re.match(r"(?:load|extractelement)_(\d+)\b", name)
-        return number % 2 if name == "load_1" else number % 2 ** int(small[1]) if small and int(small[1]) < 64 else number
+        return number % 2 if re.search(r"^load_1$|_1_value$", name) else number % 2 ** int(small[1]) if small and int(small[1]) < 64 else number
 
     def random(self, *what):
         return int.from_bytes(hashlib.blake2b(repr((self.seed, *what)).encode(), digest_size=8).digest(), "big")

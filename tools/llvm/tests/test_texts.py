@@ -7,6 +7,7 @@ from comparing import compare, small  # first, since it says where the modules a
 import flow_reader
 import pairs
 from ir import Unread
+from ir_runner import Meaning
 from module import Module, read_function
 from values import Options
 
@@ -101,8 +102,12 @@ DIFFERENT = [
     ('define i32 @g(i32 %"#1") {\nret i32 0\n}\ndefine i32 @f(i32 %x) {\n%a = call i32 @g(i32 %x)\nBODY\n%c = sub i32 %a, %b\n'
      "ret i32 %c\n}\nattributes #1 = { nounwind willreturn readnone }", "%b = call i32 @g(i32 %x)", "%b = add i32 %a, 0"),
     ("define i32 @f(i32, i32 %x) {\nBODY\n}", "ret i32 %x", "ret i32 %0"),
-    ("%t = type { BODY }\ndefine i32 @f(ptr %p) {\n%a = getelementptr %t, ptr %p, i64 1\n%r = load i32, ptr %a\nret i32 %r\n}",
-     "i32", "i64"),
+    ("define i32 @f(i32 %x) {\n%r = call i32 @g(i32 BODY\nret i32 %r\n}", '1) [ "a"(i32 %x), "b"(i32 2, i32 3) ]', '1) [ "a"(i32 %x, i32 2), "b"(i32 3) ]'),
+    ("define i32 @f(i32 %x) {\n%r = call i32 @g(i32 BODY\nret i32 %r\n}", '%x) [ "a"(i32 2) ]', '%x, i32 2) [ "a"() ]'),
+    ("declare void @put(i32)\ndeclare void @exit(i32) #0\ndefine void @f() {\nBODY\nunreachable\n}\nattributes #0 = { noreturn nounwind }",
+     "call void @put(i32 1)\ncall void @exit(i32 1)", "call void @exit(i32 0)"),
+    ("declare void @put(i32)\ndeclare void @exit(i32)\ndefine void @f(ptr %p) {\nBODY\nunreachable\n}",
+     "store i32 1, ptr %p\ncall void @exit(i32 1)", "call void @exit(i32 1)\nstore i32 1, ptr %p"),
 ]
 
 
@@ -122,7 +127,15 @@ class Texts(unittest.TestCase):
             before, after = pairs.modules(*(heads.replace("BODY", body) for body in (before, after)))
             self.assertIn("f", pairs.changed(before, after))
             _, text = next(pairs.tries(before, after, "f"))
-            self.assertTrue(any(compare(self, before, after, "f", text, [seed])[1] for seed in range(20)), text)
+            self.assertTrue(any(compare(self, before, after, "f", text, [seed])[1] for seed in range(60)), text)
+
+    def test_loops_without_end(self):
+        """A loop that calls for ever, or writes volatile memory, returns in some run, where an empty one does not."""
+        for head, line in (("declare void @put(i32)\n", "call void @put(i32 1)"), ("", "store volatile i32 1, ptr %p"), ("", "fence seq_cst")):
+            modules = pairs.modules(*(f"{head}define void @f(ptr %p) {{\nbr label %h\nh:\n{code}\nbr label %h\n}}" for code in (line, "")))
+            file = flow_reader.Reader(next(pairs.tries(*modules, "f"))[1]).file()
+            sides = [[flow_reader.run(file, side, {"m": 3, "p": 8}, Meaning(seed), 500) for seed in range(9)] for side in ("before", "after")]
+            self.assertEqual((True, {"more"}), (any(found != "more" for found in sides[0]), set(sides[1])))
 
     def text(self, before, after=None, head="define i32 @f(i32 %x, i32 %y)", **options):
         before = small(before, head)
