@@ -27,7 +27,7 @@
 
 /* The version of the release that this header belongs to, as CHANGELOG.md names it. The library has no call that answers its
  * own: link the archive that came with the header, or the shared object whose name has the same number (docs/embedding.md). */
-#define KAT_VERSION "0.5.9"
+#define KAT_VERSION "0.6.0"
 
 #ifdef __cplusplus
 extern "C" {
