@@ -1,0 +1,13 @@
+pub mod Soundness
+pub mod MarkedLiterals
+pub mod Statuses
+pub mod HintSteps
+pub mod KnownEntries
+pub mod LineSteps
+pub mod WholeProofs
+pub mod GapSplits
+pub mod LeftWords
+pub mod WideNumbers
+pub mod ReadSteps
+pub mod HeaderSteps
+pub mod LineWords

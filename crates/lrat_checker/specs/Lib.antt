@@ -1,0 +1,11 @@
+pub mod Literals
+pub mod CnfParts
+pub mod Propagation
+pub mod Accepted
+pub mod Answers
+pub mod Words
+pub mod Numbers
+pub mod CnfTexts
+pub mod ProofTexts
+pub mod Laws
+pub mod Working

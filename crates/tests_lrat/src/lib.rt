@@ -1,0 +1,5 @@
+//! Tests of the checker of LRAT proofs.
+#![tactic(auto)]
+
+#[cfg(test)]
+mod proofs;
