@@ -9,7 +9,7 @@ use Rattle.lrat_checker.specs.declared.status.Status.{Status}
 use Rattle.lrat_checker.specs.declared.status.Status.TheVariants.{AllFalse, OneOpen, TwoOpen}
 
 module _ (falses done : List Literal) (l : Literal) where
-  -- a literal more in a clause that is neither falsified nor unit
+  -- an additional literal in a clause that is neither falsified nor unit
   pub open_more : IsOpen falses done → IsOpen falses (done ++ l ∷ [])
   open_more both = record {
     not_falsified = λ all. both.not_falsified (λ m h. all m (has_left done (l ∷ []) m h));
@@ -26,7 +26,7 @@ module _ (falses done : List Literal) (l : Literal) where
     others = λ m h. ⊎_elim (λ k. u.others m k) (λ e. last m e) (has_pushed done l m h);
   }
 
-  -- a false literal more
+  -- an additional literal that is false
   pub status_false : Has falses l → (s : Status) → IsStatus falses done s → IsStatus falses (done ++ l ∷ []) s
   status_false here AllFalse all = λ m h. ⊎_elim (λ k. all m k) (λ e. subst (λ x. Has falses x) e here) (has_pushed done l m h)
   status_false here (OneOpen first) u = unit_more first (λ m e. inr (subst (λ x. Has falses x) e here)) u

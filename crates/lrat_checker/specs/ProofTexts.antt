@@ -39,7 +39,7 @@ abbrev pub with_id : List Line → ℕ → Option NumberParts → Result ProofRe
 with_id lines line (Some (plus k)) = below (2 ^ 64) k (NotId line) (reading lines (after_id k))
 with_id lines line o = Err (NotId line)
 
--- a literal more
+-- an additional literal
 abbrev pub pushed : List Line → ℕ → List Literal → ℕ → Literal → Result ProofRead ProofFault
 pushed lines id clause line l = below (2 ^ 31) l.variable (NotLiteral line) (reading lines (in_clause id (clause ++ l ∷ [])))
 

@@ -84,7 +84,7 @@ fn answer_of(alloc: Global, clauses: &[Clause], lines: &[Line]) -> Result<Answer
 /// line that is wrong. An added clause is right if its id is greater than all before, and if unit propagation along its
 /// hints leads to a conflict when all its literals are false: the clause of each hint has exactly one literal that is
 /// not false, which becomes true, up to one whose literals are all false. Hints after the conflict have no meaning. A
-/// deleted clause is no hint. Takes time linear in the size of the clauses and the proof. Fails only when out of memory.
+/// deleted clause is no hint. Fails only when out of memory.
 pub fn check(alloc: Global, clauses: &[Clause], proof: &Proof) -> Result<Answer, NoMemory>
     // The answer is correct: a rejection has the first line that is wrong.
     ensures answer { IfOk result (Answers clauses.now proof.now) }

@@ -9,7 +9,7 @@ use Rattle.lrat_checker.specs.declared.cnf_text.CnfHeader.{CnfHeader}
 use Rattle.lrat_checker.proofs.ReadSteps.{cnf_fault_passes}
 use Rattle.lrat_checker.proofs.cnf_text.read_clauses.Goals as goal
 
--- the whole text, as it is when no word was read
+-- the whole text, of which no word was read
 whole_text : (bytes : List ℕ) (last : ℕ) (left : List WordParts) → left ≡ words_of bytes → last ≡ last_line bytes → after_header last (clauses_from last) left ≡ cnf_of bytes
 whole_text bytes last left words end = ap₂ (λ (n : ℕ) (ws : List WordParts). after_header n (clauses_from n) ws) end words
 
