@@ -4,7 +4,7 @@
     tools/report.py [--kat PROGRAM] [--turns N] [--seconds N] FILE.. -o report.html
 
 A FILE is a problem file, a flow file (.flow), a text of guarded programs (.gkat), or a folder: one that `validate --keep`
-left, of which the page has each function, or one of files. For each the page has the answer of `decide` and both sides of
+left, of which the page has each function, or one of files and folders. For each the page has the answer of `decide` and both sides of
 the goal beside each other, as code with numbered lines and as control-flow graphs. For a difference it steps through the
 string: what holds in each state, where each side is, and where they part. For a proof it says what the proof used, and
 marks the steps that both sides do together. For a refusal it shows the line and the place. The page is one file, needs no

@@ -8,6 +8,7 @@ from typing import NamedTuple, Optional
 
 from .flows import Flow, Graph, read_flow
 from .forms import Sorts
+from .guarded import read_guarded
 from .machines import FlowMachine, Machine, TermMachine, results_of
 from .problems import Goal, Problem, Term, read_problem
 from .prover import DIFFERENT, EQUAL, Answer, Kat, read_replay
@@ -17,7 +18,7 @@ from .tokens import Span, Unreadable
 
 
 class CaseSide(NamedTuple):
-    """A side of a goal: its name, what it is called in the text of the goal, and how it runs."""
+    """A side of a goal: its name, its kind (`prog`, `guarded program`, `term` or `graph`), and how it runs."""
 
     name: str
     kind: str
@@ -26,6 +27,10 @@ class CaseSide(NamedTuple):
     graph: Optional[Graph]
     machine: Optional[Machine]
 
+    def is_program(self) -> bool:
+        """Whether it is a program of conditions, loops and steps in a row, of which a graph can be drawn."""
+        return self.kind in ("prog", "guarded program")
+
 
 class Case:
     """A file that `kat` was asked about. `text` is what the user wrote; `problem_text` is what `decide` read."""
@@ -33,7 +38,7 @@ class Case:
     def __init__(self, title: str, text: str, answer: Answer) -> None:
         self.title, self.text, self.answer = title, text, answer
         self.problem_text = text
-        self.data, self.source = b"", ""
+        self.data = b""
         self.notes: list[str] = []
         self.goal: Optional[Goal] = None
         self.goal_text = ""
@@ -78,7 +83,7 @@ def case_in(kat: Kat, file: Path, turns: int, made: Path) -> Case:
         case.problem_text = made.read_text("utf-8")
     if case.answer.status in (EQUAL, DIFFERENT):
         try:
-            read_sides(kat, case, file, command == "flow")
+            read_sides(kat, case, file, command)
         except (Unreadable, KeyError, IndexError) as why:
             case.notes.append(f"The sides are not shown: {why}.")
         explain(kat, case, file, turns)
@@ -94,17 +99,15 @@ def source_of(kat: Kat, file: Path, text: str) -> tuple[Path, str]:
     return file, {".flow": "flow", ".gkat": "gkat"}.get(file.suffix, "")
 
 
-def read_sides(kat: Kat, case: Case, file: Path, is_flow: bool) -> None:
-    if is_flow:
+def read_sides(kat: Kat, case: Case, file: Path, command: str) -> None:
+    """Reads the text that the user wrote, and the question that `show` prints of the problem file."""
+    if command == "flow":
         flow = read_flow(case.text)
         case.goal_text = f"equal {', '.join(flow.sides)}"
         case.question = Question(case.problem_text, flow.known(), results_of(flow))
         case.sides = [flow_side(flow, name, case.question) for name in flow.sides]
         return
-    if case.problem_text != case.text:
-        case.notes.append("The code is the problem file that was made of the text.")
-        case.source, case.text = case.text, case.problem_text
-    problem = read_problem(case.text)
+    problem = read_guarded(case.text) if command == "gkat" else read_problem(case.text)
     case.goal = problem.goals[0]
     case.goal_text = goal_text(case.text)
     status, shown = kat.call("show", str(file))
@@ -113,7 +116,8 @@ def read_sides(kat: Kat, case: Case, file: Path, is_flow: bool) -> None:
     sorts = Sorts(dict.fromkeys(problem.variables, problem.width), {}, False)
     case.question = Question(shown, sorts, said_names=said_names(case.text, problem))
     names = ("body",) if case.goal.kind == "triple" else ("left", "right")
-    case.sides = [CaseSide(side.name or name, "prog" if side.is_program else "term", side.code, side.term, None,
+    kind = "guarded program" if command == "gkat" else "prog"
+    case.sides = [CaseSide(side.name or name, kind if side.is_program else "term", side.code, side.term, None,
                            machine_of(side.term, case.question, side.is_program))
                   for side, name in zip(case.goal.sides, names)]
 
@@ -137,9 +141,9 @@ def flow_side(flow: Flow, name: str, question: Question) -> CaseSide:
 
 
 def goal_text(text: str) -> str:
-    """The goal as it is written."""
-    found = re.search(r"\bgoal\s+([^;]*);", re.sub(r"#[^\n]*", "", text))
-    return " ".join(found[1].split()) if found else ""
+    """The goal as it is written: of a text of guarded programs, its equation."""
+    found = re.search(r"\bgoal\s+([^;]*);|\b(equal\s[^;]*);", re.sub(r"#[^\n]*", "", text))
+    return " ".join((found[1] or found[2]).split()) if found else ""
 
 
 # What the answer rests on

@@ -40,17 +40,33 @@ def main(words: list[str], description: str) -> int:
 
 
 def cases_of(kat: Kat, file: Path, turns: int) -> Iterator[Case]:
-    """A case for a file; for a folder with flow texts, as `validate --keep` leaves it, one for each function, and for another
-    one for each of its files."""
+    """A case for a file. For a folder and each one in it: where it has flow texts, as `validate --keep` leaves them, a case for
+    each function, and otherwise one for each of its files."""
     if not file.is_dir():
         yield case_of(kat, file, turns)
         return
-    groups = groups_of(sorted(file.glob("*.flow")))
-    for name, files in groups.items():
-        yield first_proved(kat, name, files, turns)
-    if not groups:
-        for each in sorted([*file.glob("*.kat"), *file.glob("*.gkat")]):
-            yield case_of(kat, each, turns)
+    for folder in [file, *sorted(found for found in file.rglob("*") if found.is_dir())]:
+        groups = groups_of(sorted(folder.glob("*.flow")))
+        for name, files in groups.items():
+            case = first_proved(kat, name, files, turns)
+            case.title = where_of(file, folder) + case.title
+            yield case
+        if not groups:
+            for each in sorted([*folder.glob("*.kat"), *folder.glob("*.gkat")]):
+                yield case_of(kat, each, turns)
+
+
+def where_of(top: Path, folder: Path) -> str:
+    """What comes before the name of a function: its folder below the one that is shown. `validate --keep` has a folder for
+    each file of IR, in whose name letters that are not ASCII stand for signs, and in it one for each step of a pipeline."""
+    parts = [re.sub(r"^\u02c8n(?=\d)", "", part) for part in folder.relative_to(top).parts]
+    words = re.sub("\u02c8([0-9a-f]+)\u02c8", lambda found: chr(int(found[1], 16)), "/".join(parts).replace("\u02cc", "."))
+    step = re.fullmatch(r"(.*\.ll)/(\d+)", words)
+    if step and len(list(folder.parent.iterdir())) > 1:
+        words = f"{step[1]}, step {step[2]}"
+    elif step:
+        words = step[1]
+    return words + ": " if words != "." and words else ""
 
 
 def groups_of(files: list[Path]) -> dict[str, list[Path]]:

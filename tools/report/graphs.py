@@ -14,7 +14,7 @@ LETTER, LINE, MOST_LETTERS, MOST_LINES, MOST_NODES = 7.0, 16.0, 34, 7, 120
 START, END = "start", "end"
 NAME = ' class="name"'
 # How small a picture is drawn where a page is narrow, before it scrolls.
-SMALLEST = 0.7
+SMALLEST = 0.6
 
 
 @dataclass
@@ -69,9 +69,9 @@ class ProgramGraph:
         if term.kind == ".":
             for part in term.parts:
                 self.add(part)
-        elif term.kind in ("act", "skip", "assert"):
+        elif term.kind in ("act", "skip", "assert", "test"):
             self.add_statement(term)
-        elif term.kind == "abort":
+        elif term.kind in ("abort", "0"):
             self.place(self.new(term.span, "stop"))
             self.open = []
         elif term.kind in ("if", "while"):

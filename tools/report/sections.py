@@ -41,8 +41,8 @@ def section_html(case: Case, k: int) -> str:
         body = refused_html(case)
     has_steps = bool(case.states and case.sides)
     made = ""
-    if case.source:
-        made = tag("details", tag("summary", "The text that it was made of") + tag("pre", text(case.source)))
+    if any(side.kind == "guarded program" for side in case.sides):
+        made = tag("details", tag("summary", with_code("The problem file that `gkat` makes of it")) + tag("pre", text(case.problem_text)))
     class_ = "steps" if has_steps else ""
     return tag("section", head + line + goal + body + notes + made, class_=class_, aria_labelledby=f"p{k}")
 

@@ -83,7 +83,7 @@ def drawing_of(case: Case, side: CaseSide) -> Optional[Drawing]:
     try:
         if side.graph:
             return drawing_of_graph(case.text, side.graph)
-        return drawing_of_program(case.text, side.term) if side.kind == "prog" and side.term else None
+        return drawing_of_program(case.text, side.term) if side.is_program() and side.term else None
     except (Unreadable, RecursionError):
         return None
 
@@ -97,7 +97,7 @@ def leaves_of(side: CaseSide) -> set[Span]:
     left = [side.term] if side.term else []
     while left:
         term = left.pop()
-        if term.kind in ("act", "skip", "abort", "assert", "test", "if", "while"):
+        if term.kind in ("act", "skip", "abort", "assert", "test", "if", "while", "0"):
             found.add(term.span)
         left += term.parts
     return found
@@ -161,7 +161,7 @@ def marks_of_step(view: View, step: Step, walk: Optional[Walk]) -> dict[str, str
         passed = list(step.way.seen)
         if span and (not passed or passed[-1].span != span):
             passed.append(Seen(span))
-        path = walk.path(passed, step.status in ("ended", "early") and view.side.kind == "prog")
+        path = walk.path(passed, step.status in ("ended", "early") and view.side.is_program())
         numbers = {name: k for k, name in enumerate(view.drawing.nodes)}
         marks.update({f"{view.number}gl{k}": "p" for k in path.links})
         marks.update({f"{view.number}gn{numbers[name]}": "p" for name in path.nodes})

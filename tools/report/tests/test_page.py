@@ -5,13 +5,14 @@ import unittest
 from html.parser import HTMLParser
 from pathlib import Path
 
-from report.command import groups_of, main
-from report.prover import TOP
+from report.command import cases_of, groups_of, main
+from report.prover import TOP, Kat, found_program
 from report.tests.browser import Browser, found_browser
 
 EXAMPLES = TOP / "examples"
 FILES = ("holds/program-unswitched.kat", "fails/assignment-hoisted.kat", "fails/unswitched-loop.kat", "flow/lock-forgotten.flow",
-         "flow/state-machine.flow", "refused/missing-comma.kat", "fails/invariant-lost.kat", "guarded/choice-exchanged.gkat")
+         "flow/state-machine.flow", "refused/missing-comma.kat", "fails/invariant-lost.kat", "guarded/choice-exchanged.gkat",
+         "guarded/loop-runs-once.gkat")
 MOST_BYTES = 200_000
 EMPTY = {"meta", "br", "wbr"}
 
@@ -83,6 +84,25 @@ class Pages(unittest.TestCase):
             self.assertEqual(text.count("<section"), 2)
             self.assertIn("f (f-1.flow)", text)
             self.assertIn("refused: UncutLoop", text)
+
+
+    def test_a_folder_of_validate_has_a_folder_for_each_file_and_step(self) -> None:
+        with tempfile.TemporaryDirectory() as folder:
+            for place in ("a\u02ccll/0", "\u02c8n1sub\u02c82f\u02c8name\u02ccll/0", "\u02c8n1sub\u02c82f\u02c8name\u02ccll/3"):
+                Path(folder, place).mkdir(parents=True)
+                text = (EXAMPLES / "flow/search-loop.flow").read_text("utf-8")
+                Path(folder, place, "find-0.flow").write_text(text, "utf-8")
+            cases = list(cases_of(Kat(found_program(), 60), Path(folder), 10))
+        self.assertEqual([case.title for case in cases], ["a.ll: find (find-0.flow)", "1sub/name.ll, step 0: find (find-0.flow)",
+                                                          "1sub/name.ll, step 3: find (find-0.flow)"])
+
+    def test_guarded_programs_are_shown_as_they_are_written(self) -> None:
+        with tempfile.TemporaryDirectory() as folder:
+            text = page_of(Path(folder), "guarded/nested-loops.gkat").read_text("utf-8")
+        self.assertIn("goal <code>equal (p . q^[c])^[b], p . (q +[c] p)^[b || c] +[b] 1</code>", text)
+        self.assertEqual(text.count("<svg"), 2)
+        self.assertIn("What belongs together", text)
+        self.assertNotIn("The sides are not shown", text)
 
 
 @unittest.skipUnless(found_browser(), "Chromium is not installed")

@@ -4,6 +4,7 @@ import unittest
 
 from report.flows import live_variables, places_of, read_flow
 from report.forms import Comparison, Sorts, comparison_of, comparison_text, form_of, form_text
+from report.guarded import read_guarded
 from report.listing import Mark, is_crowded, lines_of, listing
 from report.prover import Refusal, read_replay, refusal_of
 from report.problems import read_problem
@@ -47,6 +48,22 @@ class Problems(unittest.TestCase):
         for text in ("goal equal b;", "test b; goal equal b ? b;", "test b; goal"):
             with self.assertRaises(Unreadable):
                 read_problem(text)
+
+
+class Guarded(unittest.TestCase):
+    def test_choices_and_loops_are_those_of_programs(self) -> None:
+        text = "test b, c; action p, q;\nequal (p . q^[c])^[!b] +[b || c] 0, [b].1;"
+        left, right = read_guarded(text).goals[0].sides
+        self.assertEqual([text[slice(*side.code[0])] for side in (left, right)], ["(p . q^[c])^[!b] +[b || c] 0", "[b].1"])
+        loop, zero = left.term.parts
+        self.assertEqual((left.term.kind, loop.kind, loop.parts[0].kind, zero.kind), ("if", "while", ".", "0"))
+        self.assertEqual([text[slice(*term.span)] for term in (left.term, loop, loop.parts[0].parts[1])], ["b || c", "!b", "c"])
+        self.assertEqual([part.kind for part in right.term.parts], ["test", "1"])
+
+    def test_second_operators_need_parentheses(self) -> None:
+        for expression in ("p +[b] p +[b] p", "p^[b]^[b]", "p + p", "p*"):
+            with self.assertRaises(Unreadable):
+                read_guarded(f"test b; action p; equal {expression}, p;")
 
 
 class Flows(unittest.TestCase):
