@@ -25,6 +25,7 @@ VERSION_LINES = {
     "include/kat.h": r'^#define KAT_VERSION "(.*)"$',
     "release/kat.5": r'^\.TH KAT 5 "" "kat (.*)" "File Formats"$',
     "release/kat.pc": r"^Version: (.*)$",
+    "release/cmake/katConfigVersion.cmake": r'^set\(PACKAGE_VERSION "(.*)"\)$',
     "python/kat/_version.py": r'^VERSION = "(.*)"$',
     "rust/Cargo.toml": r'^version = "(.*)"$',
     "CITATION.cff": r"^version: (.*)$",

@@ -17,7 +17,18 @@ LISTED = "libexec/kat/installed"
 PROGRAM = {"bin/kat", "libexec/kat/kat", "libexec/kat/help.txt", "libexec/kat/KIT", "share/man/man1/kat.1", "share/man/man5/kat.5",
            "share/bash-completion/completions/kat", "share/zsh/site-functions/_kat", "share/fish/vendor_completions.d/kat.fish",
            "share/doc/kat/README.md", "share/doc/kat/language.md", LISTED}
-LIBRARY = {"lib/libkat.a", "include/kat.h", "include/kat.hpp", "lib/pkgconfig/kat.pc"}
+LIBRARY = {"lib/libkat.a", "include/kat.h", "include/kat.hpp", "lib/pkgconfig/kat.pc", "lib/cmake/kat/katConfig.cmake",
+           "lib/cmake/kat/katConfigVersion.cmake"}
+# A project of two programs, one linked with the shared object and one with the archive, that wants a version of the library.
+PROJECT = """
+cmake_minimum_required(VERSION 3.13)
+project(rewritings C)
+find_package(kat ${{kat_WANTED}} REQUIRED)
+add_executable(rewritings "{source}")
+target_link_libraries(rewritings PRIVATE kat::kat)
+add_executable(rewritings_static "{source}")
+target_link_libraries(rewritings_static PRIVATE kat::kat_static)
+"""
 
 
 def has_program() -> bool:
@@ -105,6 +116,40 @@ class Install(unittest.TestCase):
         self.assertEqual((ran.returncode, ran.stdout), (0, (TOP / "examples/c/rewritings.out").read_bytes()))
         # Without the folder of the library the loader does not find it: the program was linked with the shared object.
         self.assertNotEqual(subprocess.run([self.folder / "program"], env={}, capture_output=True).returncode, 0)
+
+    def configure(self, version: str) -> "subprocess.CompletedProcess[str]":
+        """Runs cmake over a project that wants a version of the library."""
+        (self.folder / "project").mkdir(exist_ok=True)
+        (self.folder / "project/CMakeLists.txt").write_text(PROJECT.format(source=TOP / "examples/c/rewritings.c"))
+        words = ["cmake", "-S", self.folder / "project", "-B", self.folder / f"build {version}", f"-DCMAKE_PREFIX_PATH={self.folder}",
+                 f"-Dkat_WANTED={version}"]
+        return subprocess.run(words, capture_output=True, text=True)
+
+    def test_library_is_found_by_cmake(self) -> None:
+        if not shutil.which("cc") or not shutil.which("cmake") or not shutil.which("make"):
+            self.skipTest("there is no cc, no cmake, or no make")
+        self.folder = self.folder.with_name("a folder")
+        self.install("--library")
+        version = re.search(r'KAT_VERSION "(.*)"', (self.folder / "include/kat.h").read_text())[1]
+        major = int(version.partition(".")[0])
+        for wanted in (f"{major}.999.0", f"{major + 1}.0.0"):
+            self.assertNotEqual(self.configure(wanted).returncode, 0, wanted)
+        for wanted in ("", version, f"{major}.0"):
+            ran = self.configure(wanted)
+            self.assertEqual(ran.returncode, 0, ran.stderr)
+        built = self.folder / "build "
+        subprocess.run(["cmake", "--build", built], stdout=subprocess.DEVNULL, check=True)
+        # CMake writes the folder of the shared object into a program of the folder where it was built.
+        for name in ("rewritings", "rewritings_static"):
+            ran = subprocess.run([built / name], env={}, capture_output=True)
+            self.assertEqual((ran.returncode, ran.stdout), (0, (TOP / "examples/c/rewritings.out").read_bytes()))
+        (self.folder / "lib/libkat.so.0").rename(self.folder / "moved")
+        self.assertNotEqual(subprocess.run([built / "rewritings"], env={}, capture_output=True).returncode, 0)
+        self.assertEqual(subprocess.run([built / "rewritings_static"], env={}, capture_output=True).returncode, 0)
+        # Where there is no shared object, the archive takes its place.
+        self.assertEqual(self.configure("").returncode, 0)
+        subprocess.run(["cmake", "--build", built], stdout=subprocess.DEVNULL, check=True)
+        self.assertEqual(subprocess.run([built / "rewritings"], env={}, capture_output=True).returncode, 0)
 
     def test_without_a_linker_the_shared_object_is_left_out(self) -> None:
         tools = self.folder / "tools"
