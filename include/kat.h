@@ -1,8 +1,8 @@
 /* SPDX-License-Identifier: MIT OR Apache-2.0 */
-/* The calls of kat for C: each is a command of docs/commands.md on bytes, without files.
+/* The calls of kat for C: each but kat_version is a command of docs/commands.md on bytes, without files.
  *
  * A text is a pointer and a length; it needs no byte 0 at its end. OUT points to ROOM bytes for the output, and NEEDED to a
- * place for the length of the whole output. Each call sets *NEEDED and answers a status:
+ * place for the length of the whole output. Each call of a command sets *NEEDED and answers a status:
  *
  *   0, 1, 2, 3    that of the command, as named below. The output is in the first *NEEDED bytes at OUT; the bytes after
  *                 them are unchanged.
@@ -25,9 +25,13 @@
 #include <stddef.h>
 #include <stdint.h>
 
-/* The version of the release that this header belongs to, as CHANGELOG.md names it. The library has no call that answers its
- * own: link the archive that came with the header, or the shared object whose name has the same number (docs/embedding.md). */
+/* The version of the release that this header belongs to, as CHANGELOG.md names it, and the same as one number, which is greater
+ * for a later version. kat_version answers that of the library. */
 #define KAT_VERSION "0.6.0"
+#define KAT_VERSION_MAJOR 0
+#define KAT_VERSION_MINOR 6
+#define KAT_VERSION_PATCH 0
+#define KAT_VERSION_NUMBER (KAT_VERSION_MAJOR * 1000000 + KAT_VERSION_MINOR * 1000 + KAT_VERSION_PATCH)
 
 #ifdef __cplusplus
 extern "C" {
@@ -42,6 +46,10 @@ enum kat_status {
     KAT_NO_SUCH = 7,    /* the text has no such program, or the store does not fit it */
     KAT_NO_ROOM = 9
 };
+
+/* The version of the library as one number: 1,000,000 times its first number, plus 1,000 times its second, plus its third.
+ * It is KAT_VERSION_NUMBER if the library is of the release that this header belongs to. */
+uint32_t kat_version(void);
 
 /* Decides the goal of a problem file. The output is evidence: a certificate with 0, a shortest string with 1. */
 uint8_t kat_decide(const uint8_t *text, size_t length, uint8_t *out, size_t room, size_t *needed);

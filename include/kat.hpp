@@ -1,5 +1,6 @@
 // SPDX-License-Identifier: MIT OR Apache-2.0
-// The calls of kat for C++17, over those of kat.h: each takes texts as std::string_view and gives a status with its output.
+// The calls of kat for C++17, over those of kat.h: each takes texts as std::string_view and gives a status with its output;
+// library_version gives the version of the library.
 //
 //     kat::Result result = kat::decide(problem);
 //     if (result.status == kat::Status::equal) use(kat::check(problem, result.output));
@@ -79,6 +80,12 @@ inline Result of_two(OfTwo *function, std::string_view text, std::string_view gi
 }
 
 }  // namespace detail
+
+// The version of the library that is linked, as `version` is that of this header.
+inline std::string library_version() {
+    const std::uint32_t number = kat_version();
+    return std::to_string(number / 1000000) + '.' + std::to_string(number / 1000 % 1000) + '.' + std::to_string(number % 1000);
+}
 
 // Decides the goal of a problem file. The output is evidence.
 inline Result decide(std::string_view text) { return detail::of_one(kat_decide, text); }

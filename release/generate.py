@@ -6,8 +6,8 @@
     release/generate.py --check     writes nothing; the status is 1 where a file is not current
 
 From the table it writes what `kat --help` prints, kat(1) and the completions, each from its template in release/templates.
-The version it puts into the lines of include/kat.h and of the packages that name it. It also checks that docs/commands.md
-has the commands of the table, and that manual pages and help refer to pages that an installation has.
+The version it puts into the lines of the library, of include/kat.h and of the packages that name it. It also checks that
+docs/commands.md has the commands of the table, and that manual pages and help refer to pages that an installation has.
 """
 
 import json
@@ -20,15 +20,23 @@ from typing import Callable, Dict, Iterator, List, Tuple
 
 TOP = Path(__file__).resolve().parent.parent
 DOCS = "/usr/share/doc/kat/"
-# The version is the group of the expression.
+# The form of a whole version.
+WHOLE = "{major}.{minor}.{patch}"
+# The lines of each file that name the version: an expression, whose group is what is written there, and the form of that.
 VERSION_LINES = {
-    "include/kat.h": r'^#define KAT_VERSION "(.*)"$',
-    "release/kat.5": r'^\.TH KAT 5 "" "kat (.*)" "File Formats"$',
-    "release/kat.pc": r"^Version: (.*)$",
-    "release/cmake/katConfigVersion.cmake": r'^set\(PACKAGE_VERSION "(.*)"\)$',
-    "python/kat/_version.py": r'^VERSION = "(.*)"$',
-    "rust/Cargo.toml": r'^version = "(.*)"$',
-    "CITATION.cff": r"^version: (.*)$",
+    "crates/kat_c/src/version.rt": [
+        (r"^    ensures \{ result ≡ version_number (.*) \}$", "{major} {minor} {patch}"),
+        (r"^const MAJOR: u32 = (.*);$", "{major}"), (r"^const MINOR: u32 = (.*);$", "{minor}"),
+        (r"^const PATCH: u32 = (.*);$", "{patch}")],
+    "include/kat.h": [
+        (r'^#define KAT_VERSION "(.*)"$', WHOLE), (r"^#define KAT_VERSION_MAJOR (.*)$", "{major}"),
+        (r"^#define KAT_VERSION_MINOR (.*)$", "{minor}"), (r"^#define KAT_VERSION_PATCH (.*)$", "{patch}")],
+    "release/kat.5": [(r'^\.TH KAT 5 "" "kat (.*)" "File Formats"$', WHOLE)],
+    "release/kat.pc": [(r"^Version: (.*)$", WHOLE)],
+    "release/cmake/katConfigVersion.cmake": [(r'^set\(PACKAGE_VERSION "(.*)"\)$', WHOLE)],
+    "python/kat/_version.py": [(r'^VERSION = "(.*)"$', WHOLE)],
+    "rust/Cargo.toml": [(r'^version = "(.*)"$', WHOLE)],
+    "CITATION.cff": [(r"^version: (.*)$", WHOLE)],
 }
 # What prints the names after `prog` in the text of a problem file, without its comments, one in a line: in all three shells.
 PROGRAMS = r"""sed 's/#.*//' | tr '\n\t' '  ' | grep -oE '(^|[^A-Za-z0-9_])prog +[^ {}();,]+' | sed 's/.* //'"""
@@ -155,18 +163,24 @@ def filled(template: str, values: Dict[str, str]) -> str:
 
 def version_of(changes: str) -> str:
     """The first version that is a heading of CHANGELOG.md."""
-    found = re.search(r"^## ([0-9]+\.[0-9]+\.[0-9]+)\b", changes, re.MULTILINE)
+    found = re.search(r"^## ([0-9]+)\.([0-9]+)\.([0-9]+)\b", changes, re.MULTILINE)
     if not found:
         raise ValueError("CHANGELOG.md has no heading that is a version")
-    return found[1]
+    # kat_version of the library has three digits for each of the last two.
+    if max(int(found[2]), int(found[3])) > 999:
+        raise ValueError(f"CHANGELOG.md: the version {found[0][3:]} has a second or third number above 999")
+    return found[0][3:]
 
 
-def with_version(text: str, line: str, version: str) -> str:
-    """The text with the version in the line that an expression describes."""
-    found = re.search(line, text, re.MULTILINE)
-    if not found:
-        raise ValueError(f"no line is {line}")
-    return text[: found.start(1)] + version + text[found.end(1) :]
+def with_version(text: str, lines: List[Tuple[str, str]], version: str) -> str:
+    """The text with the version in the lines that expressions describe, each in its form."""
+    major, minor, patch = version.split(".")
+    for line, form in lines:
+        found = re.search(line, text, re.MULTILINE)
+        if not found:
+            raise ValueError(f"no line is {line}")
+        text = text[: found.start(1)] + form.format(major=major, minor=minor, patch=patch) + text[found.end(1) :]
+    return text
 
 
 def debian_changelog(path: Path, version: str) -> str:
@@ -189,9 +203,9 @@ def generated() -> Iterator[Tuple[Path, str]]:
     for name, make in makers.items():
         template = (TOP / "release/templates" / name).read_text()
         yield TOP / "release" / name, filled(template, {"VERSION": version, **make()})
-    for name, line in VERSION_LINES.items():
+    for name, lines in VERSION_LINES.items():
         path = TOP / name
-        yield path, with_version(path.read_text(), line, version)
+        yield path, with_version(path.read_text(), lines, version)
     path = TOP / "debian/changelog"
     yield path, debian_changelog(path, version)
 

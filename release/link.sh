@@ -55,7 +55,7 @@ headers() {
     mkdir -p "$room/headers"
     echo 'typedef __SIZE_TYPE__ size_t;
 #define NULL ((void *)0)' >"$room/headers/stddef.h"
-    echo 'typedef unsigned char uint8_t; typedef unsigned long uint64_t;' >"$room/headers/stdint.h"
+    echo 'typedef unsigned char uint8_t; typedef unsigned int uint32_t; typedef unsigned long uint64_t;' >"$room/headers/stdint.h"
     echo '#include <stddef.h>
 typedef struct file FILE; extern FILE *stdout, *stderr; int printf(const char *, ...);
 int snprintf(char *, size_t, const char *, ...); int fputs(const char *, FILE *);
@@ -82,7 +82,7 @@ link_with() {
 # The calls of the library, as a version script of the linker, which hides all other names.
 visible_names() {
     echo "{ global:"
-    sed -n 's/^uint8_t \(kat_[a-z_]*\)(.*/\1;/p' include/kat.h
+    sed -n 's/^uint[0-9]*_t \(kat_[a-z_]*\)(.*/\1;/p' include/kat.h
     echo "local: *; };"
 }
 

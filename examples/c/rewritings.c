@@ -74,6 +74,10 @@ static int judge(const char *name, const char *after) {
 int main(void) {
     int failed = 0;
     size_t at;
+    if (kat_version() != KAT_VERSION_NUMBER) {
+        fputs("the library is of another version than kat.h\n", stderr);
+        return 1;
+    }
     for (at = 0; at < sizeof rewritings / sizeof *rewritings; at++)
         failed |= judge(rewritings[at][0], rewritings[at][1]);
     return failed;

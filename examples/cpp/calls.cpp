@@ -69,6 +69,9 @@ void evidence_and_programs() {
 int main() {
     texts_of_one_kind();
     evidence_and_programs();
-    if (kat::version != KAT_VERSION) failed = 1;
+    if (kat::version != KAT_VERSION || kat::library_version() != kat::version || kat_version() != KAT_VERSION_NUMBER) {
+        std::cout << "version: " << kat::library_version() << '\n';
+        failed = 1;
+    }
     return failed;
 }

@@ -90,13 +90,19 @@ class Library:
     def __init__(self, place: Union[str, "os.PathLike[str]", None] = None) -> None:
         library = loaded(places_of(place))
         self._functions = {name: self._function(library, name, kinds) for name, kinds in CALLS.items()}
+        self._version = self._found(library, "version")
+        self._version.argtypes, self._version.restype = [], ctypes.c_uint32
+
+    @staticmethod
+    def _found(library: ctypes.CDLL, name: str) -> Any:
+        try:
+            return getattr(library, f"kat_{name}")
+        except AttributeError:
+            raise LibraryNotFound(f"{library._name} has no call kat_{name}, so it is no library of kat of this version") from None
 
     @staticmethod
     def _function(library: ctypes.CDLL, name: str, kinds: Sequence[str]) -> Any:
-        try:
-            function = getattr(library, f"kat_{name}")
-        except AttributeError:
-            raise LibraryNotFound(f"{library._name} has no call kat_{name}, so it is no library of kat of this version") from None
+        function = Library._found(library, name)
         pointer, length = ctypes.c_char_p, ctypes.c_size_t
         taken: List[Any] = [it for kind in kinds for it in ((ctypes.c_uint64,) if kind == NUMBER else (pointer, length))]
         function.argtypes = [*taken, pointer, length, ctypes.POINTER(length)]
@@ -122,6 +128,12 @@ class Library:
         if status == Status.NO_SUCH:
             raise NoSuch(name, printed)
         return answer(Status(status), printed)
+
+    @property
+    def version(self) -> str:
+        """The version of the library, which may be another than that of this package, `kat.__version__`."""
+        number = self._version()
+        return f"{number // 1_000_000}.{number // 1000 % 1000}.{number % 1000}"
 
     def decide(self, problem: Text) -> Decision:
         """Decides the goal of a problem file."""

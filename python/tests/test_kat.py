@@ -90,6 +90,11 @@ class Calls(unittest.TestCase):
     def setUp(self) -> None:
         self.prover = kat.Library()
 
+    def test_version_of_the_library(self) -> None:
+        self.assertEqual(self.prover.version, kat.__version__)
+        with mock.patch.object(self.prover, "_version", lambda: 12_345_006):
+            self.assertEqual(self.prover.version, "12.345.6")
+
     def test_decisions_and_their_checks(self) -> None:
         for problem, holds in ((EQUAL, True), (DIFFERENT, False)):
             decision = self.prover.decide(problem)

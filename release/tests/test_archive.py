@@ -42,7 +42,7 @@ def script() -> object:
 
 
 def declared() -> Set[str]:
-    return set(re.findall(r"^uint8_t (kat_\w+)\(", (TOP / "include/kat.h").read_text(), re.MULTILINE))
+    return set(re.findall(r"^uint\d+_t (kat_\w+)\(", (TOP / "include/kat.h").read_text(), re.MULTILINE))
 
 
 class Names(unittest.TestCase):

@@ -33,14 +33,22 @@ class Texts(unittest.TestCase):
 
     def test_version_is_the_first_heading(self) -> None:
         self.assertEqual(generate.version_of("# Changes\n\n## 1.2.3\n\n## 1.2.2\n"), "1.2.3")
-        with self.assertRaises(ValueError):
-            generate.version_of("# Changes\n")
+        for changes in ("# Changes\n", "## 1.1000.0\n", "## 1.0.1000\n"):
+            with self.assertRaises(ValueError):
+                generate.version_of(changes)
 
-    def test_only_the_line_of_the_version_changes(self) -> None:
-        line = generate.VERSION_LINES["rust/Cargo.toml"]
-        self.assertEqual(generate.with_version('name = "a"\nversion = "1.0.0"\n', line, "2.0.0"), 'name = "a"\nversion = "2.0.0"\n')
+    def test_only_the_lines_of_the_version_change(self) -> None:
+        lines = generate.VERSION_LINES["rust/Cargo.toml"]
+        self.assertEqual(generate.with_version('name = "a"\nversion = "1.0.0"\n', lines, "2.0.0"), 'name = "a"\nversion = "2.0.0"\n')
         with self.assertRaises(ValueError):
-            generate.with_version("none", line, "2.0.0")
+            generate.with_version("none", lines, "2.0.0")
+
+    def test_the_library_has_the_three_numbers_in_its_code_and_its_contract(self) -> None:
+        name = "crates/kat_c/src/version.rt"
+        text = (RELEASE.parent / name).read_text()
+        changed = generate.with_version(text, generate.VERSION_LINES[name], "12.34.56").splitlines()
+        self.assertIn("    ensures { result ≡ version_number 12 34 56 }", changed)
+        self.assertLess({"const MAJOR: u32 = 12;", "const MINOR: u32 = 34;", "const PATCH: u32 = 56;"}, set(changed))
 
     def test_quotation_marks_in_descriptions_are_refused(self) -> None:
         with self.assertRaises(ValueError):

@@ -1,8 +1,9 @@
 // SPDX-License-Identifier: MIT OR Apache-2.0
-//! The functions of kat.h. Each takes texts by their first byte and length, then the memory for the output, its room, and the
-//! place for the length of the whole output.
+//! The functions of kat.h. Each of a command takes texts by their first byte and length, then the memory for the output, its
+//! room, and the place for the length of the whole output.
 
 extern "C" {
+    pub fn kat_version() -> u32;
     pub fn kat_decide(text: *const u8, length: usize, out: *mut u8, room: usize, needed: *mut usize) -> u8;
     pub fn kat_decide_json(text: *const u8, length: usize, out: *mut u8, room: usize, needed: *mut usize) -> u8;
     pub fn kat_batch(text: *const u8, length: usize, out: *mut u8, room: usize, needed: *mut usize) -> u8;

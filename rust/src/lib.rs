@@ -20,8 +20,36 @@ mod calls;
 use std::error;
 use std::fmt;
 
-/// The version of the release that this crate belongs to.
+/// The version of the release that this crate belongs to. [`version`] gives that of the library.
 pub const VERSION: &str = env!("CARGO_PKG_VERSION");
+
+/// A version. Later ones are greater, and it prints as `0.6.0`.
+#[derive(Clone, Copy, Debug, PartialEq, Eq, PartialOrd, Ord, Hash)]
+pub struct Version {
+    /// The first number.
+    pub major: u32,
+    /// The second number.
+    pub minor: u32,
+    /// The third number.
+    pub patch: u32,
+}
+
+impl fmt::Display for Version {
+    fn fmt(&self, to: &mut fmt::Formatter<'_>) -> fmt::Result {
+        write!(to, "{}.{}.{}", self.major, self.minor, self.patch)
+    }
+}
+
+/// The version of the library that is linked.
+pub fn version() -> Version {
+    // SAFETY: the call takes nothing.
+    version_of(unsafe { calls::kat_version() })
+}
+
+/// The version of the number that kat.h has for it.
+fn version_of(number: u32) -> Version {
+    Version { major: number / 1_000_000, minor: number / 1000 % 1000, patch: number % 1000 }
+}
 
 /// The room for the output of the first call. Where it is longer the call is made again, which does the work again.
 const FIRST_ROOM: usize = 65536;
@@ -228,6 +256,13 @@ mod tests {
         assert_eq!(answer_of(6, Vec::new()), Err(Error::OutOfMemory));
         assert_eq!(answer_of(200, Vec::new()), Err(Error::Unknown(200)));
         assert!(Error::Unknown(200).to_string().contains("200"));
+    }
+
+    #[test]
+    fn versions() {
+        assert_eq!(version().to_string(), VERSION);
+        assert_eq!(version_of(12_345_006), Version { major: 12, minor: 345, patch: 6 });
+        assert!(version_of(1_000_000) > version_of(999_999));
     }
 
     #[test]

@@ -1,1 +1,2 @@
 pub mod CallEnds
+pub mod VersionNumbers
