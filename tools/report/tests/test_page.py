@@ -17,11 +17,6 @@ MOST_BYTES = 200_000
 EMPTY = {"meta", "br", "wbr"}
 
 
-def setUpModule() -> None:
-    if not found_browser():
-        print("tools/report: Chromium is not installed, so the page is not tried in a browser")
-
-
 class Tags(HTMLParser):
     """Checks that elements are closed in order, and that no address is in the page."""
 
