@@ -6,6 +6,8 @@ import re
 from pathlib import Path
 from typing import Any
 
+from refusal_table import hint
+
 from . import refusals
 from .prover import Ended, Kat, OutOfTime
 from .texts import Text
@@ -49,7 +51,7 @@ def refused(text: Text, number: int, ended: Ended, is_of_text: bool) -> Diagnost
     if not is_of_text or found.offset is None:
         return diagnostic(goal_range(text, number), ERROR, found.word, f"{found.word}: {found.sentence}")
     before, token = text.texts_at(found.offset)
-    sentence = found.sentence + refusals.hint(found.word, before, token) if token or found.word != "Syntax" else TOO_EARLY
+    sentence = f"{found.sentence} {hint(found.word, before, token)}".rstrip() if token or found.word != "Syntax" else TOO_EARLY
     return diagnostic(text.fault_range(found.offset), ERROR, found.word, f"{found.word}: {sentence}")
 
 

@@ -8,7 +8,8 @@ from report.guarded import read_guarded
 from report.listing import Mark, is_crowded, lines_of, listing
 from report.prover import Refusal, read_replay, refusal_of
 from report.problems import read_problem
-from report.refusals import REASONS, Fault, fault_of
+from refusal_table import SENTENCES
+from report.refusals import Fault, fault_of
 from report.tokens import Reader, Span, Unreadable
 
 FLOW = """var u32 x; var u8 c; fun u32 f(u32);
@@ -136,10 +137,10 @@ class Lines(unittest.TestCase):
     def test_a_fault_is_found_by_bytes(self) -> None:
         data = "# é\ntest b;\ngoal equal b ü b;\n".encode()
         fault = fault_of(data, Refusal("Syntax", data.index("ü".encode())))
-        self.assertEqual(fault, Fault(3, "goal equal b ü b;", 13, 14, REASONS["Syntax"]))
+        self.assertEqual(fault, Fault(3, "goal equal b ü b;", 13, 14, SENTENCES["Syntax"]))
 
     def test_a_fault_at_the_end(self) -> None:
-        self.assertEqual(fault_of(b"test b;\ngoal", Refusal("Syntax", 12)), Fault(2, "goal", 4, 5, REASONS["Syntax"]))
+        self.assertEqual(fault_of(b"test b;\ngoal", Refusal("Syntax", 12)), Fault(2, "goal", 4, 5, SENTENCES["Syntax"]))
 
     def test_refusals(self) -> None:
         self.assertEqual(refusal_of("refused: Syntax 31\n"), Refusal("Syntax", 31))
