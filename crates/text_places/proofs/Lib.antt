@@ -1,0 +1,3 @@
+pub mod LastLines
+pub mod FirstLines
+pub mod Determined
