@@ -1,7 +1,7 @@
 # SPDX-License-Identifier: MIT OR Apache-2.0
 # Says in words why a text is refused, and where. The script kat calls it with release/refusals.txt and the text. In the
 # environment NAME is what the text is called, WORD the word of the refusal, and NUMBER its number or empty: the offset of
-# the fault in bytes, or, where LINES is 1, a line of evidence or notes.
+# the fault in bytes, or, where LINES is 1, a line of evidence or notes. COMMAND is the command.
 # It prints NAME:LINE:COLUMN: WORD: .., the line, and a caret below the place, as compilers do. LINE and COLUMN count from 1,
 # a column in characters. The locale is C, so that a character of awk is a byte.
 
@@ -21,6 +21,7 @@ function last_token(line,   token, found) {
         sub(/^[ \t\r]+/, "", line)
         if (line == "") return found
         found = token_of(line)
+        if (found in many) item = found
         line = substr(line, length(found) + 1)
     }
 }
@@ -60,6 +61,7 @@ function show(line, start) {
 BEGIN {
     FS = "\t"
     name = ENVIRON["NAME"]; said = ENVIRON["WORD"]; number = ENVIRON["NUMBER"]; is_lines = ENVIRON["LINES"]
+    command = ENVIRON["COMMAND"]
     lines = 0
     too_early = "The text ends too early."
 }
@@ -69,6 +71,8 @@ FILENAME == ARGV[1] {
     if (/^#/) next
     if ($1 == "hint") {
         hint_of[++hints] = $2; pattern[hints] = $3; hint_text[hints] = $4
+    } else if ($1 == "many") {
+        if (command != "flow") many[$2] = $3
     } else if (NF == 3) {
         sentence[$2] = $3; kind[$2] = $1
     }
@@ -98,6 +102,8 @@ END {
     if (!(said in sentence)) exit
     if (found) {
         if (said == "Syntax" && token == "") sentence[said] = too_early
+        if (token in many) item = token
+        if (said == "TooMany" && item != "") sentence[said] = many[item]
         say(":" lines ":" (characters(front) + 1), token)
         show($0, number - at + 1)
     } else if (number != "" && !is_lines && kind[said] == "place") {

@@ -76,6 +76,13 @@ class Places(unittest.TestCase):
         self.assertTrue(self.said(b"x\ny\n", "NumberTooWide", "2", "1")[0].startswith(r"a\n file:2: NumberTooWide: "))
         self.assertEqual(self.said(b"x", "Unknown", "0"), [])
 
+    def test_too_many(self) -> None:
+        names = ", ".join(f"t{k}" for k in range(49))
+        self.assertIn("The 49th test", self.said(f"test {names};".encode(), "TooMany", str(5 + names.index("t48")))[0])
+        self.assertIn("The 8,193rd", self.said(b"test t; hyp", "TooMany", "8")[0])
+        self.assertIn("at most 16 rounds", self.said(b"test t;\nrounds 17;", "TooMany", "15")[0])
+        self.assertIn("too many of these", self.said(b"fun f", "TooMany", "4")[0])
+
     def test_the_token_before_is_on_an_earlier_line(self) -> None:
         hint = self.said(b"hyp p = # no\n\n  # no\n  q;", "Syntax", "23")[0]
         self.assertIn("4:3: Syntax: q: ", hint)
@@ -84,7 +91,7 @@ class Places(unittest.TestCase):
     def test_rows(self) -> None:
         for line in TABLE.read_text().splitlines():
             if not line.startswith("#"):
-                self.assertRegex(line, "^(?:(?:place|line|other)\t\\w+\t[^\t]+|hint\t\\w+\t[^\t]+\t[^\t]+)$")
+                self.assertRegex(line, "^(?:(?:place|line|other|many)\t\\w+\t[^\t]+|hint\t\\w+\t[^\t]+\t[^\t]+)$")
 
 
 def has_program() -> bool:
