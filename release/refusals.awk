@@ -40,7 +40,7 @@ function hint(before, token,   k) {
 }
 
 function say(place, token) {
-    printf "%s%s: %s:%s %s%s\n", name, place, said, token == "" ? "" : " " token ":", sentence[said], hint(before, token)
+    printf "%s%s: %s:%s %s%s\n", name, place, said, (token == "" ? "" : " " token ":"), sentence[said], hint(before, token)
 }
 
 function show(line, start) {
