@@ -2,6 +2,7 @@
 
 import re
 import subprocess
+from functools import cache
 from itertools import islice
 from pathlib import Path
 from textwrap import indent
@@ -15,6 +16,15 @@ from values import Options
 
 KAT = Path(__file__).resolve().parents[2] / "kat"
 LIMIT = re.compile(r"refused: ([A-Z]\w+)")
+
+
+@cache
+def behind(program: str) -> str:
+    """The program that the script of this tree runs, so that a limit of time ends it, and refusals, which are usual here, are
+    not explained on standard error. Any other program is itself."""
+    if program != str(KAT):
+        return program
+    return subprocess.run([program, "--program"], stdout=subprocess.PIPE, encoding="utf-8").stdout.rstrip("\n") or program
 
 
 class Answer(NamedTuple):
@@ -34,7 +44,7 @@ class Prover:
 
     def kat(self, word: str, *files: str, output: str = "printed") -> tuple:
         """The status of a command, and what it prints."""
-        words = [self.program, word, *(self.folder / file for file in files)]
+        words = [behind(str(self.program)), word, *(self.folder / file for file in files)]
         ended = subprocess.run(words, stdout=subprocess.PIPE, encoding="utf-8")
         (self.folder / output).write_text(ended.stdout, "utf-8")
         return ended.returncode, ended.stdout
