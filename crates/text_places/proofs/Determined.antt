@@ -1,5 +1,5 @@
 -- The line and the column of a place determine it.
-use Rattle.std.proofs.Common.{◌≡◌, ◌+◌, ◌-◌, ◌≤◌, ◌<◌, ℕ, suc, true, cond, List, [], ◌∷◌, ◌++◌, length, take, drop, get_or, count_by, refl, sym, ap, ◌∙◌, subst, inl, inr, ⊎_elim, arith}
+use Rattle.std.proofs.Common.{◌≡◌, ◌+◌, ◌-◌, ◌≤◌, ◌<◌, ℕ, suc, true, cond, List, ◌∷◌, ◌++◌, length, take, drop, get_or, count_by, sym, ap, ◌∙◌, ⊎_elim, arith}
 use Rattle.std.specs.List.{after_last}
 use Rattle.std.proofs.Math.Seq.{take-add, drop-cons}
 use Rattle.std.proofs.lemmas.Bool.{cases_order, cond-true}
@@ -20,7 +20,7 @@ clash xs x rest begins lines columns =
     let none = fewer (count_by is_feed xs) (count_by is_feed (x ∷ rest)) (lines ∙ ap (λ n. n + 1) (counts_both is_feed xs (x ∷ rest))) in
     let line = after_last is_feed xs in
     let whole = ap characters (last_continued is_feed xs (x ∷ rest) none) ∙ counts_both begins_character line (x ∷ rest)
-        ∙ ap (λ n. characters line + n) (counts_first begins_character x rest) in
+    ∙ ap (λ n. characters line + n) (counts_first begins_character x rest) in
     more (characters line) (characters rest) (cond (begins_character x) 1 0) (cond-true {A = ℕ} (begins_character x) 1 0 begins) (columns ∙ ap (λ n. n + 1) whole)
 
 gap : (a b : ℕ) → a < b → b ≡ a + suc (b - a - 1)

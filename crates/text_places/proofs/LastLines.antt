@@ -39,7 +39,7 @@ module _ (p : ℕ → Bool) where
       let q = λ (x : ℕ). not (p x) in
       ap (prefix_len q) (reverse-append xs ys) ∙ prefix_len-append q (reverse ys) (reverse xs)
       ∙ cond-true (eqb (prefix_len q (reverse ys)) (length (reverse ys))) (length (reverse ys) + prefix_len q (reverse xs)) (prefix_len q (reverse ys))
-          (eq-eqb (prefix_len q (reverse ys)) (length (reverse ys)) (passed_whole (reverse ys) (counts_reversed ys ∙ e)))
+      (eq-eqb (prefix_len q (reverse ys)) (length (reverse ys)) (passed_whole (reverse ys) (counts_reversed ys ∙ e)))
       ∙ ap (λ n. n + suffix_len q xs) (length-reverse ys)
 
   start_kept : (n m s : ℕ) → n + m - (m + s) ≡ n - s

@@ -1,5 +1,5 @@
 -- Where an offset is in a text: its line, its column, and the text of its line.
-use Rattle.std.specs.Prelude.{◌≡◌, ◌+◌, ◌≤◌, ℕ, Bool, true, ◌==◌, ◌||◌, nat_lt, nat_le, List, ◌++◌, length, take, drop, count_by, slice_get, Option, Some, None}
+use Rattle.std.specs.Prelude.{◌≡◌, ◌+◌, ◌≤◌, ℕ, Bool, true, ◌==◌, ◌||◌, nat_lt, nat_le, List, length, take, drop, count_by, slice_get, Some}
 use Rattle.std.specs.List.{after_last, before_first}
 
 abbrev pub is_feed : ℕ → Bool
