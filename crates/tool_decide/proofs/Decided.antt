@@ -13,6 +13,7 @@ use Rattle.kat_report.specs.Reports.{json_report}
 use Rattle.certificate.proofs.Written.{cert_is_evidence}
 use Rattle.certificate.specs.Decisions.{IsDecision}
 use Rattle.bisim_worklist.proofs.AnswerCerts.{answer_accepted, answer_few}
+use Rattle.kat_axioms.proofs.CompleteChains.{axioms_complete}
 use Rattle.tool_inputs.specs.EvidenceBytes.{evidence_status, Spells}
 use Rattle.tool_decide.specs.Decide.{IsDecided}
 use Rattle.tool_decide.specs.DecideJson.{IsReported}
@@ -33,12 +34,13 @@ module _ (q : ProblemParts) (problem : IsProblem q) where
     pub different_evidence : (x : GuardedString) → e ≡ Different x → IsEvidence e
     different_evidence x is = subst IsEvidence (sym is) (string_evidence x (subst (IsDecision q) is d).1.refutes)
 
-pub decided : (q : ProblemParts) (e : Evidence) (output : List ℕ) → IsDecision q e → Spells output e → IsDecided q (evidence_status e) output
-decided q (Equal c) output d s = inl (refl, record { same = d.0; cert = c; answer = d.1; few = answer_few q c d.1; printed = s })
-decided q (Different x) output d s = inr (refl, record { differ = d.0; string = x; shortest = d.1; printed = s })
+pub decided : (q : ProblemParts) (e : Evidence) (output : List ℕ) → IsProblem q → IsDecision q e → Spells output e → IsDecided q (evidence_status e) output
+decided q (Equal c) output problem d s =
+    inl (refl, record { same = d.0; chain = (axioms_complete q problem).chains.0 d.0; cert = c; answer = d.1; few = answer_few q c d.1; printed = s })
+decided q (Different x) output problem d s = inr (refl, record { differ = d.0; string = x; shortest = d.1; printed = s })
 
 -- the report of a decision is the report of a text that `decide` may print
-pub reported : (q : ProblemParts) (e : Evidence) (output : List ℕ) → IsDecision q e → IsEvidence e → output ≡ json_report q e → IsReported q (evidence_status e) output
-reported q e output d evidence printed =
+pub reported : (q : ProblemParts) (e : Evidence) (output : List ℕ) → IsProblem q → IsDecision q e → IsEvidence e → output ≡ json_report q e → IsReported q (evidence_status e) output
+reported q e output problem d evidence printed =
     let spells : Spells (text_of e) e = record { evidence = evidence; text = refl } in
-    record { text = text_of e; decided = decided q e (text_of e) d spells; report = record { evidence = e; spells = spells; printed = printed } }
+    record { text = text_of e; decided = decided q e (text_of e) problem d spells; report = record { evidence = e; spells = spells; printed = printed } }

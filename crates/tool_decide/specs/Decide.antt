@@ -16,16 +16,18 @@ use Rattle.certificate.specs.declared.evidence.Evidence.TheVariants.{Equal, Diff
 use Rattle.certificate.specs.Decisions.{IsAnswerCert, IsShortest}
 use Rattle.kat_laws.specs.Models.{SameInModels}
 use Rattle.kat_laws.specs.SmallStrings.{IsSmall}
+use Rattle.kat_axioms.specs.Laws.{HasChain}
 use Rattle.tool_inputs.specs.FileProblem.{Poses}
 use Rattle.tool_inputs.specs.TextProblem.{HasNoProblem}
 use Rattle.tool_inputs.specs.EvidenceBytes.{Spells}
 use Rattle.tool_inputs.specs.Steps.{ReplySpec, PosesText}
 
--- Both sides denote one relation in every table that satisfies the hypotheses, and an accepted certificate is printed.
--- No pair of it is redundant; or, only if some hypothesis is short, its pairs are under tests. It has few pairs if both
--- sides are guarded and there are no hypotheses.
+-- Both sides denote one relation in every table that satisfies the hypotheses, a chain of equations leads from one side
+-- to the other, and an accepted certificate is printed. No pair of it is redundant; or, only if some hypothesis is short,
+-- its pairs are under tests. It has few pairs if both sides are guarded and there are no hypotheses.
 pub record IsEqual (q : ProblemParts) (output : List ℕ) : Type 0 where
   pub same : Same q
+  pub chain : HasChain q
   pub cert : CertParts
   pub answer : IsAnswerCert q cert
   pub few : q.hyps ≡ [] → IsGuarded q.left → IsGuarded q.right → length (set_pairs cert) ≤ (acts q.left + 2) * (acts q.right + 2)
@@ -50,11 +52,14 @@ DecidesText text = PosesText text IsDecided
 -- output spells an accepted certificate. It is 1 exactly when they do not; then the output spells a shortest string that
 -- refutes the question. So `check` accepts the output, whatever wrote it. Both sides denote one relation in every table
 -- exactly when they do in every model that satisfies the hypotheses whose states are natural numbers, finitely or
--- infinitely many, and whose tests and actions are decidable relations on them. A shortest string is small.
+-- infinitely many, and whose tests and actions are decidable relations on them; and exactly when a chain of equations
+-- leads from one side to the other by the axioms of Kleene algebra with tests and the hypotheses. A shortest string is
+-- small.
 pub record Headline (q : ProblemParts) (status : ℕ) (output : List ℕ) : Type 0 where
   pub answers : (status ≡ 0) ⊎ (status ≡ 1)
   pub equal : (status ≡ 0) ↔ Same q
   pub models : (status ≡ 0) ↔ SameInModels q
+  pub chains : (status ≡ 0) ↔ HasChain q
   pub different : (status ≡ 1) ↔ (Same q → ⊥)
   pub certificate : status ≡ 0 → (c : CertParts) × IsAccepted q c × Spells output (Equal c)
   pub string : status ≡ 1 → (x : GuardedString) × IsShortest q x × IsSmall q x × Spells output (Different x)

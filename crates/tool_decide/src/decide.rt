@@ -75,6 +75,8 @@ pub(crate) fn decided_reply(
     requires { IsDecision problem.now evidence.now }
     ensures { IfOk result (λ r. IsDecided problem.now r.status r.output.items) }
 {
+    // A problem is within the limits, so if both sides are the same, there is a chain.
+    let _ = problem.tests();
     Ok(Reply {
         status: evidence_status(evidence),
         output: text(alloc, problem, evidence)?,

@@ -22,6 +22,8 @@ fn report_reply(alloc: Global, problem: &Problem) -> Result<Reply, NoMemory>
 {
     let evidence = decide(alloc, problem)?;
     know_numbers(problem, &evidence);
+    // A problem is within the limits, so if both sides are the same, there is a chain.
+    let _ = problem.tests();
     Ok(Reply {
         status: evidence_status(&evidence),
         output: json_report(alloc, problem, &evidence)?,

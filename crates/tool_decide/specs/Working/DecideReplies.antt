@@ -10,6 +10,7 @@ use Rattle.abstraction.specs.Readings.{Reading, KeepsStated, GoalHoldsBy}
 use Rattle.abstraction.proofs.ReadingAgreement.{readings_agree}
 use Rattle.kat_laws.proofs.Theories.{has_one_theory}
 use Rattle.kat_laws.proofs.SmallStrings.{shortest_small}
+use Rattle.chain_rules.proofs.Soundness.{chained_same}
 use Rattle.tool_inputs.specs.FileProblem.{Poses}
 use Rattle.kat_report.specs.InputLines.{too_long_line}
 use Rattle.tool_inputs.specs.Steps.{PosesQuestion}
@@ -27,6 +28,7 @@ decided_headline q status output (inl h) = record {
   answers = inl h.0;
   equal = ((λ _. h.1.same), (λ _. h.0));
   models = ((λ _. (has_one_theory q).models.0 h.1.same), (λ _. h.0));
+  chains = ((λ _. h.1.chain), (λ _. h.0));
   different = ((λ e. absurd (not_both status h.0 e)), (λ differ. absurd (differ h.1.same)));
   certificate = λ e. (h.1.cert, answer_accepted q h.1.cert h.1.answer, h.1.printed);
   string = λ e. absurd (not_both status h.0 e);
@@ -35,6 +37,7 @@ decided_headline q status output (inr h) = record {
   answers = inr h.0;
   equal = ((λ e. absurd (not_both status e h.0)), (λ same. absurd (h.1.differ same)));
   models = ((λ e. absurd (not_both status e h.0)), (λ same. absurd (h.1.differ ((has_one_theory q).models.1 same))));
+  chains = ((λ e. absurd (not_both status e h.0)), (λ c. absurd (h.1.differ (chained_same q c.chain c.is))));
   different = ((λ _. h.1.differ), (λ _. h.0));
   certificate = λ e. absurd (not_both status e h.0);
   string = λ e. (h.1.string, h.1.shortest, shortest_small q h.1.string h.1.shortest, h.1.printed);
