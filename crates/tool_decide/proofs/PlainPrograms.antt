@@ -19,12 +19,12 @@ use Rattle.problem_file.specs.ProgramTexts.{programs_text, triple_text, ArePrint
 use Rattle.problem_file.specs.TextLaws.{PosesPrograms}
 use Rattle.tool_inputs.specs.TextProblem.{HasNoAbstraction}
 use Rattle.tool_inputs.specs.Steps.{PosesQuestion}
-use Rattle.tool_inputs.specs.StoreAnswers.{AlwaysEndAlike, AlwaysMeets, IsLimitLine, goal_file, programs_abstraction, triple_abstraction, StoreHeadline}
+use Rattle.tool_inputs.specs.StoreAnswers.{AlwaysEndAlike, AlwaysMeets, IsLimitLine, goal_file, programs_abstraction, triple_abstraction}
 use Rattle.tool_inputs.specs.Working.Questions.{not_both}
 use Rattle.tool_inputs.proofs.Steps.{one_value, one_line, reads_denoted}
 use Rattle.tool_inputs.proofs.ProgramSentences.{poses_equal, always_alike, poses_triple, always_met}
-use Rattle.tool_decide.specs.Decide.{IsDecided, DecidesText}
-use Rattle.tool_decide.specs.Working.DecideReplies.{text_stores}
+use Rattle.tool_decide.specs.Decide.{IsDecided, DecidesText, Headline, StoreHeadline}
+use Rattle.tool_decide.specs.Working.DecideReplies.{decided_headline, text_stores}
 
 -- ---- a file without an abstraction is too large
 
@@ -44,6 +44,10 @@ limit_line f output none =
 -- two abstractions of a file are one
 same_abstract : (f : FileParts) (a b : AbstractParts) → abstract_of f ≡ Ok a → abstract_of f ≡ Ok b → (P : ProblemParts → Type 0) → P b.problem → P a.problem
 same_abstract f a b is also P h = subst (λ x. P x.problem) (one_value (abstract_of f) b a also is) h
+
+-- the headline of the decided problem is that of each abstraction of the file
+abstract_headline : (f : FileParts) (a : AbstractParts) → abstract_of f ≡ Ok a → (status : ℕ) (output : List ℕ) → IsDecided a.problem status output → (b : AbstractParts) → abstract_of f ≡ Ok b → Headline b.problem status output
+abstract_headline f a is status output d b also = same_abstract f b a also is (λ q. Headline q status output) (decided_headline a.problem status output d)
 
 -- and so are two reasons for its absence, so the printed line is that of the reason
 refused_line : (f : FileParts) (output : List ℕ) → HasNoAbstraction f output → (fault : AbstractFault) → abstract_of f ≡ Err fault → output ≡ abstract_fault_line fault
@@ -93,6 +97,7 @@ module _ (f : FileParts) (Sentence : Type 0) (status : ℕ) (output : List ℕ) 
     same = ((λ zero. absurd (omega (arith, zero, refusal.0))), (λ h. absurd (not_both (abstract_of f) h.0 refusal.1.fault h.1 refusal.1.has_none)));
     different = ((λ one. absurd (omega (arith, one, refusal.0))), (λ h. absurd (not_both (abstract_of f) h.0 refusal.1.fault h.1 refusal.1.has_none)));
     limit = ((λ two. (refusal.1.fault, refusal.1.has_none)), (λ h. refusal.0));
+    headline = λ a is. absurd (not_both (abstract_of f) a refusal.1.fault is refusal.1.has_none);
     equal = denotes;
     refused = λ two. limit_line f output refusal.1;
     line = λ fault none. refused_line f output refusal.1 fault none;
@@ -102,6 +107,7 @@ module _ (f : FileParts) (Sentence : Type 0) (status : ℕ) (output : List ℕ) 
     same = ((λ zero. (a, is, d.1.same)), (λ h. d.0));
     different = ((λ one. absurd (omega (arith, one, d.0))), (λ h. absurd (h.2 (same_abstract f h.0 a h.1 is Same d.1.same))));
     limit = ((λ two. absurd (omega (arith, two, d.0))), (λ h. absurd (not_both (abstract_of f) a h.0 is h.1)));
+    headline = abstract_headline f a is status output (inl d);
     equal = denotes;
     refused = λ two. absurd (omega (arith, two, d.0));
     line = λ fault none. absurd (not_both (abstract_of f) a fault is none);
@@ -111,6 +117,7 @@ module _ (f : FileParts) (Sentence : Type 0) (status : ℕ) (output : List ℕ) 
     same = ((λ zero. absurd (omega (arith, zero, d.0))), (λ h. absurd (d.1.differ (same_abstract f a h.0 is h.1 Same h.2))));
     different = ((λ one. (a, is, d.1.differ)), (λ h. d.0));
     limit = ((λ two. absurd (omega (arith, two, d.0))), (λ h. absurd (not_both (abstract_of f) a h.0 is h.1)));
+    headline = abstract_headline f a is status output (inr d);
     equal = denotes;
     refused = λ two. absurd (omega (arith, two, d.0));
     line = λ fault none. absurd (not_both (abstract_of f) a fault is none);

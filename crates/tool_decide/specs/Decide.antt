@@ -1,5 +1,5 @@
 -- `decide`: its reply to a text, and what it says about the question.
-use Rattle.std.specs.Prelude.{◌≡◌, ◌≤◌, ◌+◌, ◌*◌, ◌⊎◌, ◌↔◌, ℕ, List, [], length, Ok}
+use Rattle.std.specs.Prelude.{◌≡◌, ◌≤◌, ◌+◌, ◌*◌, ◌⊎◌, ◌↔◌, ℕ, List, [], length, Result, Ok, Err}
 use Rattle.kat_model.specs.Trees.{acts}
 use Rattle.kat_model.specs.Guarded.{IsGuarded}
 use Rattle.kat_model.specs.Problems.{ProblemParts}
@@ -10,6 +10,7 @@ use Rattle.problem_file.specs.Reads.{Reads}
 use Rattle.while_lang.specs.Concrete.{IsConcrete, Agrees}
 use Rattle.abstraction.specs.Abstracts.{AbstractParts, abstract_of}
 use Rattle.abstraction.specs.Readings.{Reading, KeepsStated, GoalHoldsBy}
+use Rattle.abstraction.specs.declared.fault.AbstractFault.{AbstractFault}
 use Rattle.certificate.specs.Certs.{CertParts}
 use Rattle.certificate.specs.Accepted.{set_pairs, IsAccepted}
 use Rattle.certificate.specs.declared.evidence.Evidence.TheVariants.{Equal, Different}
@@ -17,9 +18,11 @@ use Rattle.certificate.specs.Decisions.{IsAnswerCert, IsShortest}
 use Rattle.kat_laws.specs.Models.{SameInModels}
 use Rattle.kat_laws.specs.SmallStrings.{IsSmall}
 use Rattle.kat_axioms.specs.Laws.{HasChain}
+use Rattle.kat_report.specs.AbstractRefusals.{abstract_fault_line}
 use Rattle.tool_inputs.specs.FileProblem.{Poses}
 use Rattle.tool_inputs.specs.TextProblem.{HasNoProblem}
 use Rattle.tool_inputs.specs.EvidenceBytes.{Spells}
+use Rattle.tool_inputs.specs.StoreAnswers.{IsLimitLine, ProblemSatisfies}
 use Rattle.tool_inputs.specs.Steps.{ReplySpec, PosesText}
 
 -- Both sides denote one relation in every table that satisfies the hypotheses, a chain of equations leads from one side
@@ -63,6 +66,20 @@ pub record Headline (q : ProblemParts) (status : ℕ) (output : List ℕ) : Type
   pub different : (status ≡ 1) ↔ (Same q → ⊥)
   pub certificate : status ≡ 0 → (c : CertParts) × IsAccepted q c × Spells output (Equal c)
   pub string : status ≡ 1 → (x : GuardedString) × IsShortest q x × IsSmall q x × Spells output (Different x)
+
+-- The answer to the plainest text of a goal about programs. The status is 0 exactly when both sides of the abstraction are
+-- the same, 1 exactly when they are not, and 2 exactly when there is no abstraction; then the line names the exceeded
+-- limit. With an abstraction the headline holds for its problem, so with 0 and 1 the output spells evidence. If the status
+-- is 0, the statement about stores is true. Status 1 says nothing about stores.
+pub record StoreHeadline (abstraction : Result AbstractParts AbstractFault) (Sentence : Type 0) (status : ℕ) (output : List ℕ) : Type 0 where
+  pub answers : (status ≡ 0) ⊎ ((status ≡ 1) ⊎ (status ≡ 2))
+  pub same : (status ≡ 0) ↔ ProblemSatisfies abstraction Same
+  pub different : (status ≡ 1) ↔ ProblemSatisfies abstraction (λ q. Same q → ⊥)
+  pub limit : (status ≡ 2) ↔ ((fault : AbstractFault) × (abstraction ≡ Err fault))
+  pub headline : (a : AbstractParts) → abstraction ≡ Ok a → Headline a.problem status output
+  pub equal : status ≡ 0 → Sentence
+  pub refused : status ≡ 2 → IsLimitLine output
+  pub line : (fault : AbstractFault) → abstraction ≡ Err fault → output ≡ abstract_fault_line fault
 
 -- What a reply of `decide` says about its text. The headline holds for its question. If the status is 0, the goal of a
 -- concrete file holds for all its stores, and the goal of any file holds for them under every reading of its declared

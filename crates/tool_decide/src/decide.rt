@@ -15,8 +15,8 @@ ghost use Rattle.certificate.specs.Decisions.{IsDecision};
 ghost use Rattle.certificate.specs.Texts.{IsEvidence};
 ghost use Rattle.tool_inputs.specs.EvidenceBytes.{Spells, evidence_status};
 ghost use Rattle.tool_inputs.specs.FileProblem.{Poses};
-ghost use Rattle.tool_inputs.specs.StoreAnswers.{AlwaysEndAlike, AlwaysMeets, programs_abstraction, triple_abstraction, StoreHeadline};
-ghost use Rattle.tool_decide.specs.Decide.{IsDecided, Headline, DecideReply};
+ghost use Rattle.tool_inputs.specs.StoreAnswers.{AlwaysEndAlike, AlwaysMeets, programs_abstraction, triple_abstraction};
+ghost use Rattle.tool_decide.specs.Decide.{IsDecided, Headline, StoreHeadline, DecideReply};
 
 use bisim_worklist::decide;
 use certificate::{Evidence, write};

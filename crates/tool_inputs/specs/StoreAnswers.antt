@@ -1,9 +1,8 @@
--- The answer to the plainest text of a goal about programs, and what it means for stores.
-use Rattle.std.specs.Prelude.{◌≡◌, ◌⊎◌, ◌↔◌, ℕ, List, [], length, true, Result, Ok, Err}
+-- What the plainest texts of goals about programs say of stores, and their abstractions.
+use Rattle.std.specs.Prelude.{◌≡◌, ◌⊎◌, ◌↔◌, ℕ, List, [], length, true, Result, Ok}
 use Rattle.kat_model.specs.declared.expression.Width.{Width}
 use Rattle.kat_model.specs.Expressions.{CondTree}
 use Rattle.kat_model.specs.Problems.{ProblemParts}
-use Rattle.kat_model.specs.Relations.{Same}
 use Rattle.kat_model.specs.Stores.{Store, IsStore, holds}
 use Rattle.text_parser.specs.ScopeParts.{empty_scope}
 use Rattle.while_lang.specs.Programs.{ProgTree}
@@ -59,15 +58,3 @@ triple_abstraction w v b p c = abstract_of (goal_file w v (triple b (prog_side p
 -- there is an abstraction, and its problem has this property
 abbrev pub ProblemSatisfies : Result AbstractParts AbstractFault → (ProblemParts → Type 0) → Type 0
 ProblemSatisfies abstraction P = (a : AbstractParts) × (abstraction ≡ Ok a) × P a.problem
-
--- The status is 0 exactly when both sides of the abstraction are the same, 1 exactly when they are not, and 2 exactly
--- when there is no abstraction; then the line names the exceeded limit. If the status is 0, the statement about stores is
--- true. Status 1 says nothing about stores.
-pub record StoreHeadline (abstraction : Result AbstractParts AbstractFault) (Sentence : Type 0) (status : ℕ) (output : List ℕ) : Type 0 where
-  pub answers : (status ≡ 0) ⊎ ((status ≡ 1) ⊎ (status ≡ 2))
-  pub same : (status ≡ 0) ↔ ProblemSatisfies abstraction Same
-  pub different : (status ≡ 1) ↔ ProblemSatisfies abstraction (λ q. Same q → ⊥)
-  pub limit : (status ≡ 2) ↔ ((fault : AbstractFault) × (abstraction ≡ Err fault))
-  pub equal : status ≡ 0 → Sentence
-  pub refused : status ≡ 2 → IsLimitLine output
-  pub line : (fault : AbstractFault) → abstraction ≡ Err fault → output ≡ abstract_fault_line fault

@@ -1,7 +1,7 @@
 use Rattle.std.proofs.Common.{◌≡◌}
 use Rattle.while_lang.specs.Concrete.{Agrees}
-use Rattle.tool_inputs.specs.StoreAnswers.{AlwaysEndAlike, AlwaysMeets, programs_abstraction, triple_abstraction, StoreHeadline}
-use Rattle.tool_decide.specs.Decide.{Headline, DecideReply}
+use Rattle.tool_inputs.specs.StoreAnswers.{AlwaysEndAlike, AlwaysMeets, programs_abstraction, triple_abstraction}
+use Rattle.tool_decide.specs.Decide.{Headline, StoreHeadline, DecideReply}
 use Rattle.kat_c.proofs.Replies.{given_reply}
 use Rattle.kat_c.proofs.deciding.kat_decide.Goals as goal
 
