@@ -24,6 +24,7 @@ use Rattle.tool_inputs.specs.TextProblem.{HasNoProblem}
 use Rattle.tool_inputs.specs.EvidenceBytes.{Spells}
 use Rattle.tool_inputs.specs.StoreAnswers.{IsLimitLine, ProblemSatisfies}
 use Rattle.tool_inputs.specs.Steps.{ReplySpec, PosesText}
+use Rattle.tool_decide.specs.SmallCerts.{IsSmallCert}
 
 -- Both sides denote one relation in every table that satisfies the hypotheses, a chain of equations leads from one side
 -- to the other, and an accepted certificate is printed. No pair of it is redundant; or, only if some hypothesis is short,
@@ -56,15 +57,15 @@ DecidesText text = PosesText text IsDecided
 -- refutes the question. So `check` accepts the output, whatever wrote it. Both sides denote one relation in every table
 -- exactly when they do in every model that satisfies the hypotheses whose states are natural numbers, finitely or
 -- infinitely many, and whose tests and actions are decidable relations on them; and exactly when a chain of equations
--- leads from one side to the other by the axioms of Kleene algebra with tests and the hypotheses. A shortest string is
--- small.
+-- leads from one side to the other by the axioms of Kleene algebra with tests and the hypotheses. A printed certificate
+-- and a shortest string are small.
 pub record Headline (q : ProblemParts) (status : ℕ) (output : List ℕ) : Type 0 where
   pub answers : (status ≡ 0) ⊎ (status ≡ 1)
   pub equal : (status ≡ 0) ↔ Same q
   pub models : (status ≡ 0) ↔ SameInModels q
   pub chains : (status ≡ 0) ↔ HasChain q
   pub different : (status ≡ 1) ↔ (Same q → ⊥)
-  pub certificate : status ≡ 0 → (c : CertParts) × IsAccepted q c × Spells output (Equal c)
+  pub certificate : status ≡ 0 → (c : CertParts) × IsAccepted q c × IsSmallCert q c × Spells output (Equal c)
   pub string : status ≡ 1 → (x : GuardedString) × IsShortest q x × IsSmall q x × Spells output (Different x)
 
 -- The answer to the plainest text of a goal about programs. The status is 0 exactly when both sides of the abstraction are

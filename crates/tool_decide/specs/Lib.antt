@@ -4,6 +4,7 @@ pub mod Working
 pub mod Triples
 pub mod OutlineCheck
 pub mod Outline
+pub mod SmallCerts
 pub mod Decide
 pub mod DecideJson
 pub mod Batch

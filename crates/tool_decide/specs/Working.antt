@@ -6,6 +6,7 @@ pub mod OutlineReplies
 pub mod NotesReplies
 pub mod Goals
 pub mod Tallies
+pub mod FewPairs
 pub mod DecideReplies
 pub mod GoalLists
 pub mod BatchReplies

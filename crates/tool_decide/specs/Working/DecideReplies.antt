@@ -15,6 +15,7 @@ use Rattle.tool_inputs.specs.FileProblem.{Poses}
 use Rattle.kat_report.specs.InputLines.{too_long_line}
 use Rattle.tool_inputs.specs.Steps.{PosesQuestion}
 use Rattle.tool_decide.specs.Decide.{IsDecided, DecidesText, Headline, DecideReply}
+use Rattle.tool_decide.specs.Working.FewPairs.{answer_small}
 use Rattle.tool_inputs.proofs.Steps.{OneStatus, reads_denoted, text_poses, abstracted_none, small_status, text_small, text_long, text_once}
 use Rattle.tool_inputs.proofs.FileReplies.{RefusesLong, HasOneReply}
 use Rattle.tool_inputs.proofs.Ranges.{numbers_in_range}
@@ -30,7 +31,7 @@ decided_headline q status output (inl h) = record {
   models = ((λ _. (has_one_theory q).models.0 h.1.same), (λ _. h.0));
   chains = ((λ _. h.1.chain), (λ _. h.0));
   different = ((λ e. absurd (not_both status h.0 e)), (λ differ. absurd (differ h.1.same)));
-  certificate = λ e. (h.1.cert, answer_accepted q h.1.cert h.1.answer, h.1.printed);
+  certificate = λ e. (h.1.cert, answer_accepted q h.1.cert h.1.answer, answer_small q h.1.cert h.1.answer, h.1.printed);
   string = λ e. absurd (not_both status h.0 e);
 }
 decided_headline q status output (inr h) = record {
