@@ -9,6 +9,7 @@ ghost use Rattle.while_lang.specs.Files.{FileParts};
 ghost use Rattle.problem_file.specs.Reads.{Reads};
 ghost use Rattle.while_lang.specs.Concrete.{IsConcrete, Agrees};
 ghost use Rattle.abstraction.specs.Abstracts.{AbstractParts, abstract_of};
+ghost use Rattle.abstraction.specs.Readings.{Reading, KeepsStated, GoalHoldsBy};
 ghost use Rattle.tool_inputs.specs.FileProblem.{Poses};
 ghost use Rattle.tool_inputs.specs.StoreAnswers.{AlwaysEndAlike, AlwaysMeets};
 ghost use Rattle.tool_check.specs.Check.{CheckHeadline, CheckReply};
@@ -40,6 +41,8 @@ pub extern "C" fn kat_check(
         → GivesReply (λ status output. status ≡ 0 → AlwaysMeets w v b p c) (call_end out.old out.new needed.new result) }
     ensures stores { (f : FileParts) → Reads text.now f → IsConcrete f
         → GivesReply (λ status output. status ≡ 0 → Agrees f) (call_end out.old out.new needed.new result) }
+    ensures readings { (f : FileParts) (a : AbstractParts) (reading : Reading) → Reads text.now f → abstract_of f ≡ Ok a → KeepsStated f a reading
+        → GivesReply (λ status output. status ≡ 0 → GoalHoldsBy f a reading f.goal) (call_end out.old out.new needed.new result) }
     ensures reply { GivesReply (CheckReply text.now evidence.now) (call_end out.old out.new needed.new result) }
 {
     give(check_bytes(alloc, text, evidence), out, needed)
@@ -123,6 +126,8 @@ pub extern "C" fn kat_chain(
         → GivesReply (ChainHeadline proof.now q) (call_end out.old out.new needed.new result) }
     ensures stores { (f : FileParts) → Reads text.now f → IsConcrete f
         → GivesReply (λ status output. status ≡ 0 → Agrees f) (call_end out.old out.new needed.new result) }
+    ensures readings { (f : FileParts) (a : AbstractParts) (reading : Reading) → Reads text.now f → abstract_of f ≡ Ok a → KeepsStated f a reading
+        → GivesReply (λ status output. status ≡ 0 → GoalHoldsBy f a reading f.goal) (call_end out.old out.new needed.new result) }
     ensures reply { GivesReply (ChainReply text.now proof.now) (call_end out.old out.new needed.new result) }
 {
     give(chain_bytes(alloc, text, proof), out, needed)

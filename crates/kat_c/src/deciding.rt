@@ -1,5 +1,5 @@
 //! `decide` and `batch`.
-ghost use Rattle.std.specs.Prelude.{◌≡◌, ℕ, List};
+ghost use Rattle.std.specs.Prelude.{◌≡◌, ℕ, List, Ok};
 ghost use Rattle.kat_model.specs.Problems.{ProblemParts};
 ghost use Rattle.kat_model.specs.Expressions.{CondTree};
 ghost use Rattle.kat_model.specs.declared.expression.Width.{Width};
@@ -9,6 +9,8 @@ ghost use Rattle.problem_file.specs.ProgramTexts.{programs_text, triple_text, Ar
 ghost use Rattle.while_lang.specs.Files.{GoalTree, FileParts};
 ghost use Rattle.problem_file.specs.Reads.{Reads, ReadsAll};
 ghost use Rattle.while_lang.specs.Concrete.{IsConcrete, Agrees};
+ghost use Rattle.abstraction.specs.Abstracts.{AbstractParts, abstract_of};
+ghost use Rattle.abstraction.specs.Readings.{Reading, KeepsStated, GoalHoldsBy};
 ghost use Rattle.tool_inputs.specs.FileProblem.{Poses};
 ghost use Rattle.tool_inputs.specs.StoreAnswers.{AlwaysEndAlike, AlwaysMeets, programs_abstraction, triple_abstraction};
 ghost use Rattle.tool_decide.specs.Decide.{Headline, StoreHeadline, DecideReply};
@@ -33,6 +35,8 @@ pub extern "C" fn kat_decide(alloc: Global, text: &[u8], out: &mut [u8], needed:
         → GivesReply (Headline q) (call_end out.old out.new needed.new result) }
     ensures stores { (f : FileParts) → Reads text.now f → IsConcrete f
         → GivesReply (λ status output. status ≡ 0 → Agrees f) (call_end out.old out.new needed.new result) }
+    ensures readings { (f : FileParts) (a : AbstractParts) (reading : Reading) → Reads text.now f → abstract_of f ≡ Ok a → KeepsStated f a reading
+        → GivesReply (λ status output. status ≡ 0 → GoalHoldsBy f a reading f.goal) (call_end out.old out.new needed.new result) }
     ensures reply { GivesReply (DecideReply text.now) (call_end out.old out.new needed.new result) }
 {
     give(decide_bytes(alloc, text), out, needed)
@@ -50,6 +54,8 @@ pub extern "C" fn kat_decide_json(
         → GivesReply (ReportHeadline q) (call_end out.old out.new needed.new result) }
     ensures stores { (f : FileParts) → Reads text.now f → IsConcrete f
         → GivesReply (λ status output. status ≡ 0 → Agrees f) (call_end out.old out.new needed.new result) }
+    ensures readings { (f : FileParts) (a : AbstractParts) (reading : Reading) → Reads text.now f → abstract_of f ≡ Ok a → KeepsStated f a reading
+        → GivesReply (λ status output. status ≡ 0 → GoalHoldsBy f a reading f.goal) (call_end out.old out.new needed.new result) }
     ensures reply { GivesReply (DecideJsonReply text.now) (call_end out.old out.new needed.new result) }
 {
     give(decide_json_bytes(alloc, text), out, needed)

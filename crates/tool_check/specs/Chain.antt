@@ -1,5 +1,5 @@
 -- `chain`: its reply to a text and a proof, and what that says of the question.
-use Rattle.std.specs.Prelude.{◌≡◌, ◌⊎◌, ◌↔◌, ℕ, List, [], ◌∷◌, ◌++◌, codes}
+use Rattle.std.specs.Prelude.{◌≡◌, ◌⊎◌, ◌↔◌, ℕ, List, [], ◌∷◌, ◌++◌, Ok, codes}
 use Rattle.std.specs.Fmt.{decimal}
 use Rattle.kat_model.specs.Problems.{ProblemParts}
 use Rattle.kat_model.specs.Relations.{Same}
@@ -8,6 +8,8 @@ use Rattle.kat_report.specs.Refusals.{fault_word, fault_place, place_text}
 use Rattle.while_lang.specs.Files.{FileParts}
 use Rattle.problem_file.specs.Reads.{Reads}
 use Rattle.while_lang.specs.Concrete.{IsConcrete, Agrees}
+use Rattle.abstraction.specs.Abstracts.{AbstractParts, abstract_of}
+use Rattle.abstraction.specs.Readings.{Reading, KeepsStated, GoalHoldsBy}
 use Rattle.chain_rules.specs.Chains.{ChainTree}
 use Rattle.chain_rules.specs.Chained.{IsChained, IsReason}
 use Rattle.chain_rules.specs.declared.answer.ChainReason.{ChainReason}
@@ -102,10 +104,12 @@ pub record ChainHeadline (bytes : List ℕ) (q : ProblemParts) (status : ℕ) (o
   pub reason_line : status ≡ 3 → (c : ChainTree) × (reason : ChainReason) × SpellsChain q bytes c × IsReason q c reason × (output ≡ chain_reason_line reason)
 
 -- What a reply of `chain` says about its text and the bytes of a proof from any source. The headline holds for the
--- question of the text. If the file is concrete and the status is 0, its goal holds for all its stores. A text without
--- a question is refused with its line.
+-- question of the text. If the file is concrete and the status is 0, its goal holds for all its stores; the goal of any
+-- file holds for them under every reading of its declared tests and actions that satisfies its stated hypotheses. A text
+-- without a question is refused with its line.
 pub record ChainReply (text bytes : List ℕ) (status : ℕ) (output : List ℕ) : Type 0 where
   pub replies : ProvesTexts text bytes status output
   pub headline : (q : ProblemParts) → Poses text q → ChainHeadline bytes q status output
   pub stores : (f : FileParts) → Reads text f → IsConcrete f → status ≡ 0 → Agrees f
+  pub readings : (f : FileParts) (a : AbstractParts) (r : Reading) → Reads text f → abstract_of f ≡ Ok a → KeepsStated f a r → status ≡ 0 → GoalHoldsBy f a r f.goal
   pub declined : (line : List ℕ) → HasNoProblem text line → (status ≡ 2) × (output ≡ line)

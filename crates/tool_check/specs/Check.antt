@@ -1,5 +1,5 @@
 -- `check`: its reply to a text and evidence, and what that says of the question.
-use Rattle.std.specs.Prelude.{◌≡◌, ◌⊎◌, ◌↔◌, ℕ, List, Some}
+use Rattle.std.specs.Prelude.{◌≡◌, ◌⊎◌, ◌↔◌, ℕ, List, Some, Ok}
 use Rattle.kat_model.specs.Problems.{ProblemParts}
 use Rattle.kat_model.specs.Relations.{Same}
 use Rattle.kat_model.specs.Strings.{GuardedString}
@@ -7,6 +7,8 @@ use Rattle.string_tables.specs.Tables.{Refutes}
 use Rattle.while_lang.specs.Files.{FileParts}
 use Rattle.problem_file.specs.Reads.{Reads}
 use Rattle.while_lang.specs.Concrete.{IsConcrete, Agrees}
+use Rattle.abstraction.specs.Abstracts.{AbstractParts, abstract_of}
+use Rattle.abstraction.specs.Readings.{Reading, KeepsStated, GoalHoldsBy}
 use Rattle.certificate.specs.Certs.{CertParts}
 use Rattle.certificate.specs.Accepted.{IsAccepted}
 use Rattle.certificate.specs.Faults.{line_fault}
@@ -73,10 +75,12 @@ pub record CheckHeadline (evidence : List ℕ) (q : ProblemParts) (status : ℕ)
   pub rejected_output : status ≡ 3 → (e : Evidence) × (reason : Reason) × Spells evidence e × IsFoundBy q e reason × (output ≡ reason_line reason)
 
 -- What a reply of `check` says about its text and the bytes of evidence from any source. The headline holds for the
--- question of the text. If the file is concrete and the status is 0, its goal holds for all its stores. A text without
--- a question is refused with its line.
+-- question of the text. If the file is concrete and the status is 0, its goal holds for all its stores; the goal of any
+-- file holds for them under every reading of its declared tests and actions that satisfies its stated hypotheses. A text
+-- without a question is refused with its line.
 pub record CheckReply (text bytes : List ℕ) (status : ℕ) (output : List ℕ) : Type 0 where
   pub replies : ChecksTexts text bytes status output
   pub headline : (q : ProblemParts) → Poses text q → CheckHeadline bytes q status output
   pub stores : (f : FileParts) → Reads text f → IsConcrete f → status ≡ 0 → Agrees f
+  pub readings : (f : FileParts) (a : AbstractParts) (r : Reading) → Reads text f → abstract_of f ≡ Ok a → KeepsStated f a r → status ≡ 0 → GoalHoldsBy f a r f.goal
   pub declined : (line : List ℕ) → HasNoProblem text line → (status ≡ 2) × (output ≡ line)

@@ -1,10 +1,12 @@
 //! `chain`: checks whether bytes spell a proof of the problem that a text poses.
-ghost use Rattle.std.specs.Prelude.{◌≡◌, ◌≢◌, Some, IfOk};
+ghost use Rattle.std.specs.Prelude.{◌≡◌, ◌≢◌, Some, Ok, IfOk};
 ghost use Rattle.kat_model.specs.declared.limits.TheConstants.{MAX_TEXT_BYTES};
 ghost use Rattle.kat_model.specs.Problems.{ProblemParts};
 ghost use Rattle.while_lang.specs.Files.{FileParts};
 ghost use Rattle.problem_file.specs.Reads.{Reads};
 ghost use Rattle.while_lang.specs.Concrete.{IsConcrete, Agrees};
+ghost use Rattle.abstraction.specs.Abstracts.{AbstractParts, abstract_of};
+ghost use Rattle.abstraction.specs.Readings.{Reading, KeepsStated, GoalHoldsBy};
 ghost use Rattle.text_parser.specs.declared.fault.TextFault.TheVariants.{NoMemory as NoRoom};
 ghost use Rattle.chain_rules.specs.Chained.{HasTermsInRange};
 ghost use Rattle.tool_inputs.specs.Steps.{IsRefusal};
@@ -147,6 +149,8 @@ pub fn chain_bytes(alloc: Global, text: &[u8], proof: &[u8]) -> Result<Reply, No
     ensures headline { (q : ProblemParts) → Poses text.now q
         → IfOk result (λ r. ChainHeadline proof.now q r.status r.output.items) }
     ensures stores { (f : FileParts) → Reads text.now f → IsConcrete f → IfOk result (λ r. r.status ≡ 0 → Agrees f) }
+    ensures readings { (f : FileParts) (a : AbstractParts) (reading : Reading) → Reads text.now f → abstract_of f ≡ Ok a → KeepsStated f a reading
+        → IfOk result (λ r. r.status ≡ 0 → GoalHoldsBy f a reading f.goal) }
     ensures reply { IfOk result (λ r. ChainReply text.now proof.now r.status r.output.items) }
 {
     let reply = reply_to_pair(alloc, &ChainCommand, text, proof)?;

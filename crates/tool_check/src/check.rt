@@ -1,5 +1,5 @@
 //! `check`: checks whether bytes are evidence that shows its claim about the problem that a text poses.
-ghost use Rattle.std.specs.Prelude.{◌≡◌, ℕ, [], None, IfOk};
+ghost use Rattle.std.specs.Prelude.{◌≡◌, ℕ, [], None, Ok, IfOk};
 ghost use Rattle.kat_model.specs.Problems.{ProblemParts};
 ghost use Rattle.kat_model.specs.Expressions.{CondTree};
 ghost use Rattle.kat_model.specs.declared.expression.Width.{Width};
@@ -8,6 +8,8 @@ ghost use Rattle.problem_file.specs.ProgramTexts.{programs_text, triple_text, Ar
 ghost use Rattle.while_lang.specs.Files.{FileParts};
 ghost use Rattle.problem_file.specs.Reads.{Reads};
 ghost use Rattle.while_lang.specs.Concrete.{IsConcrete, Agrees};
+ghost use Rattle.abstraction.specs.Abstracts.{AbstractParts, abstract_of};
+ghost use Rattle.abstraction.specs.Readings.{Reading, KeepsStated, GoalHoldsBy};
 ghost use Rattle.kat_report.specs.Acceptances.{accepted_line};
 ghost use Rattle.kat_report.specs.Reasons.{reason_line};
 ghost use Rattle.tool_inputs.specs.EvidenceBytes.{evidence_status};
@@ -105,6 +107,8 @@ pub fn check_bytes(alloc: Global, text: &[u8], evidence: &[u8]) -> Result<Reply,
     ensures triples { (w : Width) (v : ℕ) (b : CondTree) (p : ProgTree) (c : CondTree) → IsTriplePrintable w v b p c → text.now ≡ triple_text w v b p c
         → IfOk result (λ r. r.status ≡ 0 → AlwaysMeets w v b p c) }
     ensures stores { (f : FileParts) → Reads text.now f → IsConcrete f → IfOk result (λ r. r.status ≡ 0 → Agrees f) }
+    ensures readings { (f : FileParts) (a : AbstractParts) (reading : Reading) → Reads text.now f → abstract_of f ≡ Ok a → KeepsStated f a reading
+        → IfOk result (λ r. r.status ≡ 0 → GoalHoldsBy f a reading f.goal) }
     ensures reply { IfOk result (λ r. CheckReply text.now evidence.now r.status r.output.items) }
 {
     let reply = reply_to_pair(alloc, &CheckCommand, text, evidence)?;

@@ -1,10 +1,12 @@
 -- `outline` of a file: its reply to a text, and what it says about the question.
-use Rattle.std.specs.Prelude.{◌≡◌, ◌⊎◌, ◌↔◌, ℕ, List}
+use Rattle.std.specs.Prelude.{◌≡◌, ◌⊎◌, ◌↔◌, ℕ, List, Ok}
 use Rattle.kat_model.specs.Problems.{ProblemParts}
 use Rattle.kat_model.specs.Relations.{Same}
 use Rattle.while_lang.specs.Files.{FileParts}
 use Rattle.problem_file.specs.Reads.{Reads}
 use Rattle.while_lang.specs.Concrete.{IsConcrete, Agrees}
+use Rattle.abstraction.specs.Abstracts.{AbstractParts, abstract_of}
+use Rattle.abstraction.specs.Readings.{Reading, KeepsStated, GoalHoldsBy}
 use Rattle.outline_rules.specs.NoteLists.{NotesParts}
 use Rattle.outline_rules.specs.Tasks.{TaskParts}
 use Rattle.outline_rules.specs.Follows.{Follows}
@@ -45,10 +47,12 @@ pub record OutlineHeadline (f : FileParts) (q : ProblemParts) (status : ℕ) (ou
   pub refused_line : (line : List ℕ) → HasNoTask f q line → output ≡ line
 
 -- What a reply of `outline` says about its text. The headline holds for its question. If the file is concrete and the
--- status is 0, its goal holds for all its stores. A text that asks no triple with simple hypotheses is refused with its
--- line.
+-- status is 0, its goal holds for all its stores; the goal of any file holds for them under every reading of its declared
+-- tests and actions that satisfies its stated hypotheses. A text that asks no triple with simple hypotheses is refused
+-- with its line.
 pub record OutlineReply (text : List ℕ) (status : ℕ) (output : List ℕ) : Type 0 where
   pub replies : OutlinesText text status output
   pub headline : (q : ProblemParts) (poses : Poses text q) → OutlineHeadline poses.file q status output
   pub stores : (f : FileParts) → Reads text f → IsConcrete f → status ≡ 0 → Agrees f
+  pub readings : (f : FileParts) (a : AbstractParts) (r : Reading) → Reads text f → abstract_of f ≡ Ok a → KeepsStated f a r → status ≡ 0 → GoalHoldsBy f a r f.goal
   pub declined : (line : List ℕ) → PosesNoTask text line → (status ≡ 2) × (output ≡ line)

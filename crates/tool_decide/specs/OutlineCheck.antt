@@ -1,10 +1,12 @@
 -- `outline` of a file and notes: its reply to a text and notes, and what that says of the question.
-use Rattle.std.specs.Prelude.{◌≡◌, ◌⊎◌, ◌↔◌, ℕ, List, Some}
+use Rattle.std.specs.Prelude.{◌≡◌, ◌⊎◌, ◌↔◌, ℕ, List, Some, Ok}
 use Rattle.kat_model.specs.Problems.{ProblemParts}
 use Rattle.kat_model.specs.Relations.{Same}
 use Rattle.while_lang.specs.Files.{FileParts}
 use Rattle.problem_file.specs.Reads.{Reads}
 use Rattle.while_lang.specs.Concrete.{IsConcrete, Agrees}
+use Rattle.abstraction.specs.Abstracts.{AbstractParts, abstract_of}
+use Rattle.abstraction.specs.Readings.{Reading, KeepsStated, GoalHoldsBy}
 use Rattle.outline_rules.specs.NoteLists.{NotesParts}
 use Rattle.outline_rules.specs.Texts.{text_of, AreNarrowNotes}
 use Rattle.outline_rules.specs.Faults.{notes_fault}
@@ -80,10 +82,12 @@ pub record NotesHeadline (bytes : List ℕ) (f : FileParts) (q : ProblemParts) (
   pub reason_line : (t : TaskParts) (ns : NotesParts) → HasTask f q t → SpellsNotes bytes ns → (Follows q t ns → ⊥) → AreRejected q t ns status output
 
 -- What a reply of `outline` says about its text and the bytes of notes from any source. The headline holds for the
--- question of the text. If the file is concrete and the status is 0, its goal holds for all its stores. A text that
--- asks no triple with simple hypotheses is refused with its line.
+-- question of the text. If the file is concrete and the status is 0, its goal holds for all its stores; the goal of any
+-- file holds for them under every reading of its declared tests and actions that satisfies its stated hypotheses. A text
+-- that asks no triple with simple hypotheses is refused with its line.
 pub record OutlineCheckReply (text bytes : List ℕ) (status : ℕ) (output : List ℕ) : Type 0 where
   pub replies : ChecksNoteTexts text bytes status output
   pub headline : (q : ProblemParts) (poses : Poses text q) → NotesHeadline bytes poses.file q status output
   pub stores : (f : FileParts) → Reads text f → IsConcrete f → status ≡ 0 → Agrees f
+  pub readings : (f : FileParts) (a : AbstractParts) (r : Reading) → Reads text f → abstract_of f ≡ Ok a → KeepsStated f a r → status ≡ 0 → GoalHoldsBy f a r f.goal
   pub declined : (line : List ℕ) → PosesNoTask text line → (status ≡ 2) × (output ≡ line)

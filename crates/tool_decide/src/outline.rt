@@ -1,10 +1,12 @@
 //! `outline` of a file: replies to a text with notes that prove the triple that it asks, or with evidence that it
 //! fails.
-ghost use Rattle.std.specs.Prelude.{◌≡◌, IfOk};
+ghost use Rattle.std.specs.Prelude.{◌≡◌, Ok, IfOk};
 ghost use Rattle.kat_model.specs.Problems.{ProblemParts};
 ghost use Rattle.while_lang.specs.Files.{FileParts};
 ghost use Rattle.problem_file.specs.Reads.{Reads};
 ghost use Rattle.while_lang.specs.Concrete.{IsConcrete, Agrees};
+ghost use Rattle.abstraction.specs.Abstracts.{AbstractParts, abstract_of};
+ghost use Rattle.abstraction.specs.Readings.{Reading, KeepsStated, GoalHoldsBy};
 ghost use Rattle.goal_forms.specs.TestTerms.{AreSimple};
 ghost use Rattle.outline_rules.specs.Texts.{AreNarrowNotes};
 ghost use Rattle.outline_rules.specs.Tasks.{task_parts, IsTripleOf};
@@ -82,6 +84,8 @@ pub fn outline_bytes(alloc: Global, text: &[u8]) -> Result<Reply, NoMemory>
     ensures headline { (q : ProblemParts) (poses : Poses text.now q)
         → IfOk result (λ r. OutlineHeadline poses.file q r.status r.output.items) }
     ensures stores { (f : FileParts) → Reads text.now f → IsConcrete f → IfOk result (λ r. r.status ≡ 0 → Agrees f) }
+    ensures readings { (f : FileParts) (a : AbstractParts) (reading : Reading) → Reads text.now f → abstract_of f ≡ Ok a → KeepsStated f a reading
+        → IfOk result (λ r. r.status ≡ 0 → GoalHoldsBy f a reading f.goal) }
     ensures reply { IfOk result (λ r. OutlineReply text.now r.status r.output.items) }
 {
     let reply = reply_to_text(alloc, &OutlineCommand, text)?;

@@ -1,9 +1,11 @@
 //! `outline` of a file and notes: checks whether bytes are notes that prove the triple that a text asks.
-ghost use Rattle.std.specs.Prelude.{◌≡◌, ◌≢◌, [], None, IfOk};
+ghost use Rattle.std.specs.Prelude.{◌≡◌, ◌≢◌, [], None, Ok, IfOk};
 ghost use Rattle.kat_model.specs.Problems.{ProblemParts};
 ghost use Rattle.while_lang.specs.Files.{FileParts};
 ghost use Rattle.problem_file.specs.Reads.{Reads};
 ghost use Rattle.while_lang.specs.Concrete.{IsConcrete, Agrees};
+ghost use Rattle.abstraction.specs.Abstracts.{AbstractParts, abstract_of};
+ghost use Rattle.abstraction.specs.Readings.{Reading, KeepsStated, GoalHoldsBy};
 ghost use Rattle.goal_forms.specs.TestTerms.{AreSimple};
 ghost use Rattle.outline_rules.specs.declared.fault.NotesFault.TheVariants.{NoMemory as NoRoom};
 ghost use Rattle.outline_rules.specs.Tasks.{task_parts, IsTripleOf};
@@ -121,6 +123,8 @@ pub fn outline_check_bytes(alloc: Global, text: &[u8], notes: &[u8]) -> Result<R
     ensures headline { (q : ProblemParts) (poses : Poses text.now q)
         → IfOk result (λ r. NotesHeadline notes.now poses.file q r.status r.output.items) }
     ensures stores { (f : FileParts) → Reads text.now f → IsConcrete f → IfOk result (λ r. r.status ≡ 0 → Agrees f) }
+    ensures readings { (f : FileParts) (a : AbstractParts) (reading : Reading) → Reads text.now f → abstract_of f ≡ Ok a → KeepsStated f a reading
+        → IfOk result (λ r. r.status ≡ 0 → GoalHoldsBy f a reading f.goal) }
     ensures reply { IfOk result (λ r. OutlineCheckReply text.now notes.now r.status r.output.items) }
 {
     let reply = reply_to_pair(alloc, &OutlineCheckCommand, text, notes)?;

@@ -1,5 +1,5 @@
 -- The reply of `chain` is the statement on the proof.
-use Rattle.std.proofs.Common.{◌≡◌, ◌⊎◌, ◌<◌, ℕ, List, [], length, inl, inr, refl, sym, ap, subst, ◌∙◌, arith}
+use Rattle.std.proofs.Common.{◌≡◌, ◌⊎◌, ◌<◌, ℕ, List, [], length, Ok, inl, inr, refl, sym, ap, subst, ◌∙◌, arith}
 use Rattle.kat_model.specs.declared.limits.TheConstants.{MAX_TEXT_BYTES}
 use Rattle.kat_model.specs.Problems.{ProblemParts}
 use Rattle.kat_model.specs.Relations.{Same}
@@ -10,6 +10,8 @@ use Rattle.problem_file.specs.FirstFaults.{too_long, no_text}
 use Rattle.problem_file.specs.Reads.{Reads}
 use Rattle.problem_file.specs.Laws.{HaveOneAnswer}
 use Rattle.while_lang.specs.Concrete.{IsConcrete, Agrees}
+use Rattle.abstraction.specs.Abstracts.{AbstractParts, abstract_of}
+use Rattle.abstraction.specs.Readings.{Reading, KeepsStated, GoalHoldsBy}
 use Rattle.chain_rules.specs.Chains.{ChainTree}
 use Rattle.chain_rules.specs.Chained.{IsChained}
 use Rattle.chain_proofs.specs.Reads.{Reads as ReadsProof, FirstFault}
@@ -22,6 +24,7 @@ use Rattle.tool_inputs.proofs.Steps.{OneStatus, reads_denoted, text_poses, abstr
 use Rattle.tool_inputs.proofs.TextReplies.{posed_text}
 use Rattle.tool_inputs.proofs.FileReplies.{HasOneReply}
 use Rattle.tool_inputs.proofs.StoreSentences.{posed_agrees}
+use Rattle.tool_check.specs.Working.CheckReplies.{same_readings}
 use Rattle.tool_inputs.proofs.Ways.{Ways, at_zero, at_two, at_three}
 
 -- ---- the text of a proof is read
@@ -108,6 +111,12 @@ texts_stores text bytes status output f reads concrete r zero = stores (reads_de
         let poses : Poses text a.problem = record { file = f; reads = reads; abstract = a; is_abstract = is; question = refl } in
         posed_agrees text a.problem poses ((proved_headline a.problem bytes status output d).same zero) concrete
 
+-- if the status is 0, the goal of a file holds for all its stores under every reading that keeps the stated hypotheses
+pub texts_readings : (text bytes : List ℕ) (status : ℕ) (output : List ℕ) (f : FileParts) (a : AbstractParts) (r : Reading) → Reads text f → abstract_of f ≡ Ok a → KeepsStated f a r
+    → ProvesTexts text bytes status output → status ≡ 0 → GoalHoldsBy f a r f.goal
+texts_readings text bytes status output f a r reads is stated replies zero =
+    same_readings text f a r reads is stated (λ poses. (texts_headline text bytes status output a.problem poses replies).same zero)
+
 proved_once : (q : ProblemParts) (c : ChainTree) → OneStatus (IsProved q c)
 proved_once q c a b o p (inl x) y = x.has_status ∙ sym (proved_status q [] b p c x.chained y)
 proved_once q c a b o p (inr x) y = x.has_status ∙ sym (rejected_status q [] b p c x.fails y)
@@ -124,6 +133,7 @@ chain_reply text bytes status output posed =
       replies = r;
       headline = λ q poses. texts_headline text bytes status output q poses r;
       stores = λ f reads concrete zero. texts_stores text bytes status output f reads concrete r zero;
+      readings = λ f a reading reads is stated zero. texts_readings text bytes status output f a reading reads is stated r zero;
       declined = λ line none. abstracted_none text (λ f a. ProvesBytes a.problem bytes) status output line none r;
     }
 

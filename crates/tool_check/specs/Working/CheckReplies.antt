@@ -1,5 +1,5 @@
 -- The reply of `check` satisfies the statement on the evidence.
-use Rattle.std.proofs.Common.{◌≡◌, ◌⊎◌, ◌<◌, ℕ, List, inl, inr, refl, sym, ◌∙◌, arith}
+use Rattle.std.proofs.Common.{◌≡◌, ◌⊎◌, ◌<◌, ℕ, List, Ok, inl, inr, refl, sym, ◌∙◌, arith}
 use Rattle.kat_model.specs.Problems.{ProblemParts}
 use Rattle.kat_model.specs.Relations.{Same}
 use Rattle.kat_model.specs.Strings.{GuardedString}
@@ -12,6 +12,9 @@ use Rattle.cert_checker.specs.Answers.{Shows}
 use Rattle.while_lang.specs.Files.{FileParts}
 use Rattle.problem_file.specs.Reads.{Reads}
 use Rattle.while_lang.specs.Concrete.{IsConcrete, Agrees}
+use Rattle.abstraction.specs.Abstracts.{AbstractParts, abstract_of}
+use Rattle.abstraction.specs.Readings.{Reading, KeepsStated, GoalHoldsBy}
+use Rattle.abstraction.proofs.ReadingAgreement.{readings_agree}
 use Rattle.kat_report.specs.Acceptances.{accepted_line}
 use Rattle.tool_inputs.specs.FileProblem.{Poses}
 use Rattle.tool_inputs.specs.TextProblem.{HasNoProblem}
@@ -22,6 +25,7 @@ use Rattle.tool_inputs.proofs.Steps.{OneStatus, reads_denoted, text_poses, abstr
 use Rattle.tool_inputs.proofs.TextReplies.{posed_text}
 use Rattle.tool_inputs.proofs.FileReplies.{HasOneReply}
 use Rattle.tool_inputs.proofs.StoreSentences.{posed_agrees}
+use Rattle.tool_inputs.proofs.Ranges.{numbers_in_range}
 use Rattle.tool_check.specs.Working.FaultLines.{fault_printed}
 use Rattle.tool_inputs.proofs.Ways.{Ways, at_zero, at_one, at_two, at_three}
 
@@ -102,6 +106,18 @@ texts_stores text bytes status output f reads concrete r zero = stores (reads_de
         let poses : Poses text a.problem = record { file = f; reads = reads; abstract = a; is_abstract = is; question = refl } in
         posed_agrees text a.problem poses ((checked_headline a.problem bytes status output d).equal zero).3 concrete
 
+-- if the sides of its question are the same, the goal of a file holds for all its stores under every reading that keeps
+-- the stated hypotheses
+pub same_readings : (text : List ℕ) (f : FileParts) (a : AbstractParts) (r : Reading) → Reads text f → abstract_of f ≡ Ok a → KeepsStated f a r → (Poses text a.problem → Same a.problem) → GoalHoldsBy f a r f.goal
+same_readings text f a r reads is stated same =
+    readings_agree f a r (numbers_in_range text f reads) is stated (same (record { file = f; reads = reads; abstract = a; is_abstract = is; question = refl }))
+
+-- if the status is 0, the goal of a file holds for all its stores under every reading that keeps the stated hypotheses
+pub texts_readings : (text bytes : List ℕ) (status : ℕ) (output : List ℕ) (f : FileParts) (a : AbstractParts) (r : Reading) → Reads text f → abstract_of f ≡ Ok a → KeepsStated f a r
+    → ChecksTexts text bytes status output → status ≡ 0 → GoalHoldsBy f a r f.goal
+texts_readings text bytes status output f a r reads is stated replies zero =
+    same_readings text f a r reads is stated (λ poses. ((texts_headline text bytes status output a.problem poses replies).equal zero).3)
+
 checked_once : (q : ProblemParts) (e : Evidence) → OneStatus (IsChecked q e)
 checked_once q e a b o p (inl x) (inl y) = x.has_status ∙ sym y.has_status
 checked_once q e a b o p (inl x) (inr y) = absurd (y.fails x.shows)
@@ -120,6 +136,7 @@ check_reply text bytes status output posed =
       replies = r;
       headline = λ q poses. texts_headline text bytes status output q poses r;
       stores = λ f reads concrete zero. texts_stores text bytes status output f reads concrete r zero;
+      readings = λ f a reading reads is stated zero. texts_readings text bytes status output f a reading reads is stated r zero;
       declined = λ line none. abstracted_none text (λ f a. ChecksBytes a.problem bytes) status output line none r;
     }
 

@@ -1,6 +1,7 @@
 -- The reply of `decide` satisfies the statement on the question.
 use Rattle.std.proofs.Common.{◌≡◌, ◌<◌, ℕ, List, Ok, inl, inr, ⊎_elim, refl, sym, ◌∙◌, arith}
 use Rattle.kat_model.specs.Problems.{ProblemParts}
+use Rattle.kat_model.specs.Relations.{Same}
 use Rattle.bisim_worklist.proofs.AnswerCerts.{answer_accepted}
 use Rattle.while_lang.specs.Files.{FileParts}
 use Rattle.problem_file.specs.Reads.{Reads}
@@ -60,12 +61,17 @@ text_stores text status output f reads concrete r zero =
     (λ h. question_stores text f reads concrete h.0 h.1 status output h.2 zero)
     (reads_denoted text (λ g. PosesQuestion g IsDecided) status output f reads r)
 
+-- if the sides of its question are the same, the goal of a file holds for all its stores under every reading that keeps
+-- the stated hypotheses
+pub same_readings : (text : List ℕ) (f : FileParts) (a : AbstractParts) (r : Reading) → Reads text f → abstract_of f ≡ Ok a → KeepsStated f a r → (Poses text a.problem → Same a.problem) → GoalHoldsBy f a r f.goal
+same_readings text f a r reads is stated same =
+    readings_agree f a r (numbers_in_range text f reads) is stated (same (record { file = f; reads = reads; abstract = a; is_abstract = is; question = refl }))
+
 -- if the status is 0, the goal of a file holds for all its stores under every reading that keeps the stated hypotheses
 pub text_readings : (text : List ℕ) (status : ℕ) (output : List ℕ) (f : FileParts) (a : AbstractParts) (r : Reading) → Reads text f → abstract_of f ≡ Ok a → KeepsStated f a r
     → DecidesText text status output → status ≡ 0 → GoalHoldsBy f a r f.goal
 text_readings text status output f a r reads is stated replies zero =
-    let poses : Poses text a.problem = record { file = f; reads = reads; abstract = a; is_abstract = is; question = refl } in
-    readings_agree f a r (numbers_in_range text f reads) is stated ((text_headline text status output a.problem poses replies).equal.0 zero)
+    same_readings text f a r reads is stated (λ poses. (text_headline text status output a.problem poses replies).equal.0 zero)
 
 pub decided_once : (q : ProblemParts) → OneStatus (IsDecided q)
 decided_once q a b o p (inl h) y = h.0 ∙ sym ((decided_headline q b p y).equal.1 h.1.same)

@@ -1,10 +1,12 @@
 -- The reply of `outline` to a text and notes is the statement on the notes.
-use Rattle.std.proofs.Common.{◌≡◌, ◌≢◌, ◌⊎◌, ◌<◌, ℕ, List, Some, inl, inr, ⊎_elim, refl, sym, ap, subst, ◌∙◌, arith}
+use Rattle.std.proofs.Common.{◌≡◌, ◌≢◌, ◌⊎◌, ◌<◌, ℕ, List, Some, Ok, inl, inr, ⊎_elim, refl, sym, ap, subst, ◌∙◌, arith}
 use Rattle.std.proofs.lemmas.Option.{same_Some}
 use Rattle.kat_model.specs.Problems.{ProblemParts}
 use Rattle.while_lang.specs.Files.{FileParts}
 use Rattle.problem_file.specs.Reads.{Reads}
 use Rattle.while_lang.specs.Concrete.{IsConcrete, Agrees}
+use Rattle.abstraction.specs.Abstracts.{AbstractParts, abstract_of}
+use Rattle.abstraction.specs.Readings.{Reading, KeepsStated, GoalHoldsBy}
 use Rattle.outline_rules.specs.declared.fault.NotesFault.{NotesFault}
 use Rattle.outline_rules.specs.declared.fault.NotesFault.TheVariants.{NoMemory}
 use Rattle.outline_rules.specs.NoteLists.{NotesParts}
@@ -26,6 +28,7 @@ use Rattle.tool_decide.specs.OutlineCheck.{SpellsNotes, IsNoNotes, ReadsNotes, A
 use Rattle.tool_inputs.proofs.Steps.{OneStatus, reads_denoted, small_status}
 use Rattle.tool_inputs.proofs.FileReplies.{HasOneReply}
 use Rattle.tool_inputs.proofs.StoreSentences.{posed_agrees}
+use Rattle.tool_decide.specs.Working.DecideReplies.{same_readings}
 use Rattle.tool_decide.specs.Working.TextTriples.{takes_task, takes_none, poses_once, poses_takes, poses_none, answered_task, task_small, IsPosed}
 use Rattle.tool_inputs.proofs.Ways.{Ways, at_zero, at_two, at_three}
 
@@ -144,6 +147,12 @@ texts_stores text bytes status output f reads concrete r zero = stores (reads_de
         let poses : Poses text a.problem = record { file = f; reads = reads; abstract = a; is_abstract = is; question = refl } in
         posed_agrees text a.problem poses ((notes_headline bytes f a.problem status output taken).same zero) concrete
 
+-- if the status is 0, the goal of a file holds for all its stores under every reading that keeps the stated hypotheses
+pub texts_readings : (text bytes : List ℕ) (status : ℕ) (output : List ℕ) (f : FileParts) (a : AbstractParts) (r : Reading) → Reads text f → abstract_of f ≡ Ok a → KeepsStated f a r
+    → ChecksNoteTexts text bytes status output → status ≡ 0 → GoalHoldsBy f a r f.goal
+texts_readings text bytes status output f a r reads is stated replies zero =
+    same_readings text f a r reads is stated (λ poses. (texts_headline text bytes status output a.problem poses replies).same zero)
+
 -- ---- what the reply says
 
 pub outline_check_reply : (text bytes : List ℕ) (status : ℕ) (output : List ℕ) → PosesFor (PosesNoTask text) (IsPosed text) (λ t. ChecksNotes bytes t.problem (task_parts t.task)) status output → OutlineCheckReply text bytes status output
@@ -153,6 +162,7 @@ outline_check_reply text bytes status output posed =
       replies = r;
       headline = λ q poses. texts_headline text bytes status output q poses r;
       stores = λ f reads concrete zero. texts_stores text bytes status output f reads concrete r zero;
+      readings = λ f a reading reads is stated zero. texts_readings text bytes status output f a reading reads is stated r zero;
       declined = λ line none. poses_none text (ChecksNotes bytes) status output line none r;
     }
 

@@ -1,5 +1,5 @@
 -- The reply of `outline` to a text satisfies the statement on the question.
-use Rattle.std.proofs.Common.{◌≡◌, ◌⊎◌, ◌<◌, ◌^◌, ℕ, List, [], ◌∷◌, ◌++◌, map, length, Option, None, Some, MatchOption, inl, inr, ⊎_elim, refl, sym, subst, ◌∙◌, arith}
+use Rattle.std.proofs.Common.{◌≡◌, ◌⊎◌, ◌<◌, ◌^◌, ℕ, List, [], ◌∷◌, ◌++◌, map, length, Option, None, Some, Ok, MatchOption, inl, inr, ⊎_elim, refl, sym, subst, ◌∙◌, arith}
 use Rattle.std.proofs.lemmas.Option.{slice_get_within}
 use Rattle.kat_model.specs.declared.limits.TheConstants.{MAX_TESTS}
 use Rattle.kat_model.specs.Members.{Has}
@@ -10,6 +10,8 @@ use Rattle.kat_model.proofs.Places.{place_of_member}
 use Rattle.while_lang.specs.Files.{FileParts}
 use Rattle.problem_file.specs.Reads.{Reads}
 use Rattle.while_lang.specs.Concrete.{IsConcrete, Agrees}
+use Rattle.abstraction.specs.Abstracts.{AbstractParts, abstract_of}
+use Rattle.abstraction.specs.Readings.{Reading, KeepsStated, GoalHoldsBy}
 use Rattle.outline_rules.specs.declared.notes.NoteNode.{NoteNode}
 use Rattle.outline_rules.specs.declared.notes.NoteNode.TheVariants.{False, True, Branch}
 use Rattle.outline_rules.specs.NoteLists.{NotesParts, AreNotes}
@@ -26,6 +28,7 @@ use Rattle.tool_decide.specs.Working.NarrowCounts.{small, few_tests}
 use Rattle.tool_inputs.proofs.Steps.{OneStatus, reads_denoted, small_status, text_long}
 use Rattle.tool_inputs.proofs.FileReplies.{RefusesLong, HasOneReply}
 use Rattle.tool_inputs.proofs.StoreSentences.{posed_agrees}
+use Rattle.tool_decide.specs.Working.DecideReplies.{same_readings}
 use Rattle.tool_decide.specs.Working.TextTriples.{takes_task, takes_none, poses_once, poses_takes, poses_none, task_small}
 use Rattle.tool_inputs.proofs.Ways.{Ways, at_zero, at_one, at_two}
 
@@ -136,6 +139,12 @@ text_stores text status output f reads concrete r zero = stores (reads_denoted t
         let poses : Poses text a.problem = record { file = f; reads = reads; abstract = a; is_abstract = is; question = refl } in
         posed_agrees text a.problem poses ((outlined_headline f a.problem status output taken).noted.0 zero).2 concrete
 
+-- if the status is 0, the goal of a file holds for all its stores under every reading that keeps the stated hypotheses
+pub text_readings : (text : List ℕ) (status : ℕ) (output : List ℕ) (f : FileParts) (a : AbstractParts) (r : Reading) → Reads text f → abstract_of f ≡ Ok a → KeepsStated f a r
+    → OutlinesText text status output → status ≡ 0 → GoalHoldsBy f a r f.goal
+text_readings text status output f a r reads is stated replies zero =
+    same_readings text f a r reads is stated (λ poses. ((text_headline text status output a.problem poses replies).noted.0 zero).2)
+
 -- ---- what the reply says
 
 pub outline_reply : (text : List ℕ) (status : ℕ) (output : List ℕ) → OutlinesText text status output → OutlineReply text status output
@@ -143,6 +152,7 @@ outline_reply text status output r = record {
   replies = r;
   headline = λ q poses. text_headline text status output q poses r;
   stores = λ f reads concrete zero. text_stores text status output f reads concrete r zero;
+  readings = λ f a reading reads is stated zero. text_readings text status output f a reading reads is stated r zero;
   declined = λ line none. poses_none text IsOutlined status output line none r;
 }
 

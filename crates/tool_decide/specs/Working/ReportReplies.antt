@@ -1,20 +1,18 @@
 -- The reply of `decide` with `--json` satisfies the statement on the question, as the reply of `decide` does.
-use Rattle.std.proofs.Common.{◌≡◌, ℕ, List, Ok, inl, ⊎_elim, refl, arith}
+use Rattle.std.proofs.Common.{◌≡◌, ℕ, List, Ok, inl, ⊎_elim, arith}
 use Rattle.kat_model.specs.Problems.{ProblemParts}
 use Rattle.while_lang.specs.Files.{FileParts}
 use Rattle.problem_file.specs.Reads.{Reads}
 use Rattle.while_lang.specs.Concrete.{IsConcrete, Agrees}
 use Rattle.abstraction.specs.Abstracts.{AbstractParts, abstract_of}
 use Rattle.abstraction.specs.Readings.{Reading, KeepsStated, GoalHoldsBy}
-use Rattle.abstraction.proofs.ReadingAgreement.{readings_agree}
 use Rattle.tool_inputs.specs.FileProblem.{Poses}
 use Rattle.kat_report.specs.InputLines.{too_long_line}
 use Rattle.tool_inputs.specs.Steps.{PosesQuestion}
 use Rattle.tool_decide.specs.DecideJson.{IsReported, ReportsText, ReportHeadline, DecideJsonReply}
 use Rattle.tool_inputs.proofs.Steps.{OneStatus, reads_denoted, text_poses, abstracted_none, text_small, text_long, text_once}
 use Rattle.tool_inputs.proofs.FileReplies.{RefusesLong, HasOneReply}
-use Rattle.tool_inputs.proofs.Ranges.{numbers_in_range}
-use Rattle.tool_decide.specs.Working.DecideReplies.{decided_headline, decided_once, question_stores, decided_small}
+use Rattle.tool_decide.specs.Working.DecideReplies.{decided_headline, decided_once, question_stores, same_readings, decided_small}
 
 reported_headline : (q : ProblemParts) (status : ℕ) (output : List ℕ) → IsReported q status output → ReportHeadline q status output
 reported_headline q status output r = record { text = r.text; headline = decided_headline q status r.text r.decided; report = r.report }
@@ -32,8 +30,7 @@ text_stores text status output f reads concrete r zero =
 pub text_readings : (text : List ℕ) (status : ℕ) (output : List ℕ) (f : FileParts) (a : AbstractParts) (r : Reading) → Reads text f → abstract_of f ≡ Ok a → KeepsStated f a r
     → ReportsText text status output → status ≡ 0 → GoalHoldsBy f a r f.goal
 text_readings text status output f a r reads is stated replies zero =
-    let poses : Poses text a.problem = record { file = f; reads = reads; abstract = a; is_abstract = is; question = refl } in
-    readings_agree f a r (numbers_in_range text f reads) is stated ((text_headline text status output a.problem poses replies).headline.equal.0 zero)
+    same_readings text f a r reads is stated (λ poses. (text_headline text status output a.problem poses replies).headline.equal.0 zero)
 
 pub reported_once : (q : ProblemParts) → OneStatus (IsReported q)
 reported_once q a b o p x y = decided_once q a b x.text y.text x.decided y.decided

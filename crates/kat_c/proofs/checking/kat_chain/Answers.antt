@@ -1,5 +1,6 @@
 use Rattle.std.proofs.Common.{◌≡◌}
 use Rattle.while_lang.specs.Concrete.{Agrees}
+use Rattle.abstraction.specs.Readings.{GoalHoldsBy}
 use Rattle.tool_check.specs.Chain.{ChainHeadline, ChainReply}
 use Rattle.kat_c.proofs.Replies.{given_reply}
 use Rattle.kat_c.proofs.checking.kat_chain.Goals as goal
@@ -9,6 +10,10 @@ returns-clause-headline c q poses = given_reply (ChainHeadline c.args.proof.now 
 
 pub returns-clause-stores : goal.returns-clause-stores
 returns-clause-stores c f reads concrete = given_reply (λ status output. status ≡ 0 → Agrees f) c.chain_bytes.result _ (c.chain_bytes.ensures.stores f reads concrete) c.give.ensures
+
+pub returns-clause-readings : goal.returns-clause-readings
+returns-clause-readings c f a reading reads is stated =
+    given_reply (λ status output. status ≡ 0 → GoalHoldsBy f a reading f.goal) c.chain_bytes.result _ (c.chain_bytes.ensures.readings f a reading reads is stated) c.give.ensures
 
 pub returns-clause-reply : goal.returns-clause-reply
 returns-clause-reply c = given_reply (ChainReply c.args.text.now c.args.proof.now) c.chain_bytes.result _ c.chain_bytes.ensures.reply c.give.ensures
