@@ -3,3 +3,4 @@ pub mod Agreement
 pub mod Run
 pub mod Laws
 pub mod HeadlineAgreement
+pub mod FlowAgreement

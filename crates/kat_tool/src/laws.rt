@@ -1,5 +1,6 @@
 //! Laws of the top call. Each function does nothing: its contract is the law.
 ghost use Rattle.kat_tool.specs.HeadlineAgreement.{HeadlinesAgree};
+ghost use Rattle.kat_tool.specs.FlowAgreement.{FlowsAgree};
 ghost use Rattle.kat_tool.specs.Laws.{CausesExclude, WordsGiveStores, CheckAgrees, NotesFollow};
 
 /// If the content of each file is known and the shelf did not fail, two replies to the same words have one status, so
@@ -27,4 +28,10 @@ pub fn notes_follow()
 /// of bytes alone, whatever wrote them.
 pub fn headlines_agree()
     ensures { HeadlinesAgree }
+{}
+
+/// If `flow` replies to the text of two flow graphs with 0, and `decide` replies to the text that it printed with 0, both
+/// graphs always return the same; and so if `check` replies with 0 to the printed text and evidence from any source.
+pub fn flows_agree()
+    ensures { FlowsAgree }
 {}
