@@ -45,24 +45,27 @@ class Part:
 
 PARTS = [
     Part("What `decide` answers", "The bytes are those of the plainest text of a question, so no grammar is needed to "
-         "read this part. What evidence is accepted, and how its text looks, is part 3; relational models and the size of strings "
-         "are part 4: the meaning of the statuses does not need them.",
-         clauses=[("tool_decide/src/decide.rt", "decide_bytes", ["plain"])], later=("IsAccepted", "Spells", "SameInModels", "IsSmall")),
+         "read this part. What evidence is accepted, and how its text looks, is part 3; relational models, chains of equations and "
+         "the size of evidence are part 4: the meaning of the statuses does not need them.",
+         clauses=[("tool_decide/src/decide.rt", "decide_bytes", ["plain"])],
+         later=("IsAccepted", "Spells", "SameInModels", "HasChain", "IsSmallCert", "IsSmall")),
     Part("What `decide` answers of programs", "The bytes are those of the plainest text of two programs, or of a triple of "
          "one, so no grammar is needed here either. The problem of an abstraction (`abstract_of`) is in part 6: the statement "
          "on stores does not need it.",
          clauses=[("tool_decide/src/decide.rt", "decide_bytes", ["programs", "triples"])], later=("abstract_of",)),
     Part("Evidence", "The certificates that are accepted, and the bytes that spell evidence.",
          names=[("certificate", "Accepted", "IsAccepted"), ("tool_inputs", "EvidenceBytes", "Spells")]),
-    Part("Models and the size of strings", "Relational models whose states are finitely or infinitely many natural numbers, and how many moves "
-         "a shortest string has at most.",
-         names=[("kat_laws", "Models", "SameInModels"), ("kat_laws", "SmallStrings", "IsSmall")]),
-    Part("Flow graphs", "What `flow` answers, and that two flow graphs always return the same where both sides of the printed "
-         "question are one. The text of flow graphs and the problem that is printed are in part 12, what a problem file asks is in "
-         "part 6: what an answer says about the graphs does not need them.",
-         clauses=[("tool_flow/src/flow.rt", "flow_bytes", ["headline"])],
+    Part("Models, chains and the size of evidence", "Relational models whose states are finitely or infinitely many natural numbers, "
+         "chains of equations by the axioms and the hypotheses, how many pairs a printed certificate has at most, and how many moves a "
+         "shortest string.",
+         names=[("kat_laws", "Models", "SameInModels"), ("kat_axioms", "Laws", "HasChain"), ("tool_decide", "SmallCerts", "IsSmallCert"),
+                ("kat_laws", "SmallStrings", "IsSmall")]),
+    Part("Flow graphs", "What `flow` answers, and that two flow graphs always return the same where `decide` or `check` ends with 0 on "
+         "the printed text. The text of flow graphs and the problem that is printed are in part 12, what a problem file asks and what the "
+         "replies of `decide` and `check` are is in part 6: what an answer says about the graphs does not need them.",
+         clauses=[("tool_flow/src/flow.rt", "flow_bytes", ["headline"]), ("kat_tool/src/laws.rt", "flows_agree", [])],
          later=("Poses", "IsFlowText", "FirstFault", "IsFaultOf", "HasFlowProblem", "HasNoFlowProblem", "problem_text", "variable_names",
-                "function_names", "ItemSyntax")),
+                "function_names", "ItemSyntax", "DecideReply", "CheckReply")),
     Part("Every text", "What any text asks, by the grammar of problem files, what its goal says of stores, and what `check` "
          "and `explain` answer.",
          clauses=[("tool_decide/src/decide.rt", "decide_bytes", ["headline", "stores", "readings", "reply"]), ("tool_check/src/check.rt", "check_bytes", ["headline", "reply"]),
