@@ -13,6 +13,7 @@ from itertools import islice
 from pathlib import Path
 from typing import Iterable, Iterator, Optional
 
+from differences import raw_text
 from ir import Unread
 from module import Module
 from pairs import changed, modules
@@ -66,10 +67,15 @@ def tool() -> str:
     return found.hexdigest()
 
 
-def key(before: Module, after: Module, name: str, settings: Settings) -> str:
-    """A sum of both texts and of what the reader takes from their modules."""
+def key(before: Module, after: Module, name: str, settings: Settings, defined: frozenset = frozenset()) -> str:
+    """A sum of both texts and of what the reader and the runs take from their modules."""
     words = set(re.findall(r"@([-\w.$]+|\"[^\"]*\")", before.texts[name] + after.texts[name]))
     known = [sorted((word, module.attributes.get(word.strip('"'), "")) for word in words) for module in (before, after)]
+    raw = [raw_text(module, name) for module in (before, after)]
+    lines = [[line for line in module.raw if line[:1] == "@" and line[1:].split(" = ")[0] in words] for module in (before, after)]
+    heads = [sorted((word, module.heads.get(word.strip('"'), "")) for word in words) for module in (before, after)]
+    nodes = [[module.nodes.get(number) for number in re.findall(r"!(\d+)", text)] for module, text in zip((before, after), raw)]
+    known += [raw, lines, heads, nodes, sorted(words & defined)]
     parts = [tool(), settings.options, settings.tries, str(settings.kat), before.datalayout, before.types, after.types, known,
              before.texts[name], after.texts[name]]
     return hashlib.sha256(repr(parts).encode()).hexdigest()
@@ -94,7 +100,7 @@ def remember(settings: Settings, file: str, answer: Answer) -> None:
 
 def asked(before: Module, after: Module, job: Job, settings: Settings) -> Answer:
     """The answer for a function within the time. One that came late is not remembered."""
-    file = key(before, after, job.function, settings)
+    file = key(before, after, job.function, settings, job.defined)
     found = remembered(settings, file)
     if found:
         return found
@@ -103,7 +109,8 @@ def asked(before: Module, after: Module, job: Job, settings: Settings) -> Answer
     try:
         with tempfile.TemporaryDirectory() as folder:
             kept = Path(settings.keep, exact(job.file), f"{job.step}") if settings.keep else folder
-            found = Prover(settings.kat, kept).validate(before, after, job.function, settings.options, settings.tries, settings.explain)
+            found = Prover(settings.kat, kept).validate(before, after, job.function, settings.options, settings.tries, settings.explain,
+                                                             job.defined)
     except Late:
         return Answer("not proved", f"no answer in {settings.timeout:g} s")
     finally:

@@ -2,6 +2,7 @@
 
 import hashlib
 import re
+from functools import cached_property
 from itertools import count
 
 import effects
@@ -35,7 +36,10 @@ class Module:
         if first and first.datalayout != self.datalayout:
             raise Unread("data layouts that differ", found[0] if found else "no data layout", file=file)
         self.layout = Layout(self.datalayout)
+        self.raw = text.split("\n")  # with what the texts of functions lack
         groups = {word: TEXT.sub("", body) for word, body in re.findall(r"^attributes (#\d+) = \{(.*)\}", text, re.M)}
+        self.groups, self.heads = groups, {unquoted(name): line for line, name in
+                                           re.findall(rf"^((?:define|declare) .*?@({NAME})\(.*)", text, re.M)}
         self.attributes = {unquoted(name): attributes(TEXT.sub("", tail), groups) for name, tail in
                            re.findall(rf"^(?:define|declare) .*?@({NAME})(\(.*)", text, re.M)}
         self.attributes |= first.attributes if first else {}
@@ -50,6 +54,11 @@ class Module:
         if len(self.texts) != len(re.findall(r"(?<![-\w.$%@])define\s", text)) or any(
                 body.split("\n", 1)[0].endswith("code in a heading") for body in self.texts.values()):
             raise Unread("a definition that is not a line with its heading, lines with its code, and a line with }", file=file)
+
+    @cached_property
+    def nodes(self) -> dict:
+        """The nodes of metadata by number, as texts."""
+        return dict(re.findall(r"^!(\d+) = (?:distinct )?!\{(.*)\}", "\n".join(self.raw), re.M))
 
     def effect(self, name: str, site: set = frozenset()) -> str:
         """What a call may do to memory: `none`, `reads` or `writes`."""

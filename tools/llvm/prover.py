@@ -8,6 +8,7 @@ from pathlib import Path
 from textwrap import indent
 from typing import NamedTuple
 
+import differences
 from ir import Unread
 from module import Module
 from pairs import tries
@@ -28,8 +29,8 @@ def behind(program: str) -> str:
 
 
 class Answer(NamedTuple):
-    """An answer, `equal`, `not proved` or `not read`; the cuts of the proof or why there is none; and the difference that was
-    found, if it was asked for."""
+    """An answer, `equal`, `differs`, `not proved` or `not read`; the cuts of the proof, what differs, or why there is no proof;
+    and the run that differs or, if it was asked for, the difference that `kat` found."""
     word: str
     why: str
     difference: str = ""
@@ -73,8 +74,9 @@ class Prover:
         return indent(re.sub(r"\b[ta]\d+\b", lambda found: said.get(found[0], found[0]), printed.strip()), "    ")
 
     def validate(self, before: Module, after: Module, name: str, options: Options = Options(), most: int = None,
-                 explain: bool = False) -> Answer:
-        """The answer for a function of two modules."""
+                 explain: bool = False, defined: frozenset = frozenset(), runs: int = differences.RUNS) -> Answer:
+        """The answer for a function of two modules. Where the first choice of cuts gives no proof, so many runs look for a
+        difference. `defined` are functions whose code a pass may know."""
         answers, file, first = {}, exact(name)[:100], ""
         try:
             for number, (choice, text) in enumerate(islice(tries(before, after, name, options), most)):
@@ -83,6 +85,9 @@ class Prover:
                 if answer == "equal":
                     return Answer(answer, choice)
                 answers.setdefault(answer, f"{file}-{number}")
+                run = differences.found(before, after, name, options, defined, runs) if number == 0 else None
+                if run:
+                    return Answer("differs", *run)
         except Unread as why:
             return Answer("not read", str(why))
         difference = self.explain(answers["different"]) if explain and "different" in answers else ""

@@ -4,7 +4,7 @@ from collections import Counter
 
 from answers import Record
 
-WORDS = "equal", "not proved", "not read"
+WORDS = "equal", "differs", "not proved", "not read"
 
 
 def line(found: Record) -> str:
@@ -31,10 +31,10 @@ def first_steps(found: list) -> list:
 
 def by_pass(found: list) -> list:
     """A line for each pass: how many steps, how many of each answer, and the seconds: median, nine of ten, and most."""
-    lines = [f"{'pass':32} {'steps':>6} {'equal':>6} {'not proved':>11} {'not read':>9}  seconds: median, 9 of 10, most"]
+    lines = [f"{'pass':32} {'steps':>6} {'equal':>6} {'differs':>8} {'not proved':>11} {'not read':>9}  seconds: median, 9 of 10, most"]
     for passed in sorted({one.passed for one in found}):
         own = [one for one in found if one.passed == passed]
         counts, times = Counter(one.answer for one in own), sorted(one.seconds for one in own)
         marks = ", ".join(f"{times[int((len(times) - 1) * share)]:.2f}" for share in (0.5, 0.9, 1))
-        lines.append(f"{passed:32} {len(own):6} {counts['equal']:6} {counts['not proved']:11} {counts['not read']:9}  {marks}")
+        lines.append(f"{passed:32} {len(own):6} {counts['equal']:6} {counts['differs']:8} {counts['not proved']:11} {counts['not read']:9}  {marks}")
     return lines

@@ -11,14 +11,15 @@ FUNCTION = re.compile(rf"^(define [^\n]*?@({NAME})\([^\n]*)\n.*?^\}}$", re.M | r
 
 
 class Job(NamedTuple):
-    """A function that may have changed: where it is, the number and the pass of the step, and the modules before and after
-    with the code of this function only."""
+    """A function that may have changed: where it is, the number and the pass of the step, the modules before and after with the
+    code of this function only, and the functions that have code."""
     file: str
     step: int
     passed: str
     function: str
     before: str
     after: str
+    defined: frozenset = frozenset()
 
 
 def opt(program: str, text: str, *options: str) -> str:
@@ -42,7 +43,7 @@ def jobs(before: str, after: str, file: str, step: int = 0, passed: str = "") ->
     types = [re.findall(r"^%.* = type .*", text, re.M) for text in (before, after)]
     for name, body in second.items():
         if name in first and (body != first[name] or types[0] != types[1]):
-            yield Job(file, step, passed, name, reduced(before, name), reduced(after, name))
+            yield Job(file, step, passed, name, reduced(before, name), reduced(after, name), frozenset(first) | frozenset(second))
 
 
 def pipeline(program: str, text: str, passes: str, file: str) -> Iterator[Job]:

@@ -1,5 +1,5 @@
-"""Runs functions of LLVM IR under an interpretation of memory, of calls and of opaque operations, and interprets functions at
-random. Numbers have their meaning in LLVM; structures are lists; a value of another type is a number without meaning."""
+"""The meaning of functions of LLVM IR that a flow text has: memory, calls and opaque operations are functions by chance.
+Numbers have their meaning in LLVM; a value of another type is a number without meaning."""
 
 import hashlib
 import re
@@ -8,16 +8,17 @@ from collections import namedtuple
 import effects
 import slots
 from folding import binary, signed, unary
+from interpreter import RELATIONS, Interpreter, compared
 from ir import BINARY, CASTS
 from parts import scalar
 from terms import exact
 from values import call_name, type_word
 
-RELATIONS = {"oeq": "=", "ogt": ">", "oge": ">=", "olt": "<", "ole": "<=", "one": "<>", "ord": "<=>", "uno": "?", "ueq": "=?",
-             "ugt": ">?", "uge": ">=?", "ult": "<?", "ule": "<=?", "une": "<>?", "true": "<=>?", "false": ""}
-
-
 Place = namedtuple("Place", "name at")
+
+
+class Stuck(Exception):
+    """The run is at a place that no run reaches."""
 
 
 class Left(Exception):
@@ -65,10 +66,10 @@ class Meaning:
         return found if left < right else {"<": ">", ">": "<"}.get(found, found)
 
 
-class Run:
+class Run(Interpreter):
     def __init__(self, module, function, args, memory, meaning, options):
-        self.module, self.function, self.meaning, self.memory, self.options = module, function, meaning, memory, options
-        self.env = {name: arg for (name, _), arg in zip(function.params, args)}
+        super().__init__(module, function, args)
+        self.meaning, self.memory, self.options = meaning, memory, options
         self.private = {local.ins.name: {} for local in slots.found(module, scalar(module, function))}
 
     def own(self, type, address, value=None):
@@ -94,52 +95,27 @@ class Run:
     def word(self, type):
         return type_word(type, self.module.layout)
 
-    def is_number(self, type):
-        return type[0] in ("int", "float", "ptr") and self.module.layout.bits(type) <= 64
-
-    def fields(self, type):
-        """The types of the fields of a structure or array, None for another type."""
-        type = self.module.named(type)
-        return [type[2]] * type[1] if type[0] == "array" else type[2] if type[0] == "struct" else None
-
-    def flat(self, value):
-        return [part for one in value for part in self.flat(one)] if isinstance(value, list) else [value]
-
-    def value(self, pair):
-        type, (kind, what) = pair
+    def constant(self, type, kind, what):
         if kind == "undef":
             raise LookupError("undefined value")
         if kind == "zero":
-            return [self.value((field, ("zero", ""))) for field in self.fields(type)] if self.fields(type) is not None else self.value(
-                (type, ("float", "0.000000e+00") if type[0] == "float" else ("int", 0) if type[0] in ("int", "ptr") else ("text", "zeroinitializer")))
-        if kind == "list":
-            return [self.value(one) for one in what]
+            kind, what = ("float", "0.000000e+00") if type[0] == "float" else ("int", 0) if type[0] in ("int", "ptr") else ("text", "zeroinitializer")
         if kind == "int" and not self.is_number(type):
             return self.meaning(f"\u02c8int_{self.word(type)}_{what % 2 ** self.module.layout.bits(type)}", []) % 2 ** 64
         if kind == "int":
             return what % 2 ** self.bits(type)
         if kind in ("float", "text"):
             return self.meaning(f"{exact(what)}\u02c8{self.word(type)}", []) % 2 ** self.bits(type)
-        if kind == "@":
-            return self.meaning(f"{exact(what)}_address", []) % 2 ** self.bits(type)
-        return self.compute(what) if kind == "ins" else self.env[what]
+        return self.meaning(f"{exact(what)}_address", []) % 2 ** self.bits(type)
 
-    def compute(self, ins):
-        """The value of an instruction that is no call and does not write memory."""
-        op = ins.op
-        if op == "getelementptr":
-            return self.address(ins)
-        if op == "load":
-            return self.load(ins.type, self.value(ins.args[0]), ins.args[0][0][1])
-        if op in ("extractvalue", "insertvalue"):
-            return self.part(ins)
-        values, old, new = [self.value(pair) for pair in ins.args], ins.args[0][0], ins.type
+    def operation(self, ins, values):
+        op, old, new = ins.op, ins.args[0][0], ins.type
         if op == "freeze" or isinstance(values[0], Place) or op == "bitcast" and self.is_number(old) and self.is_number(new):
             return values[0]
         if op == "select" and old == ("int", 1):
             return values[1] if values[0] else values[2]
         if op == "icmp" and self.is_number(old):
-            return self.compare(ins.word, values, self.bits(old))
+            return compared(ins.word, *values, self.bits(old))
         if op == "fcmp" and new == ("int", 1):
             return int(self.meaning.relation(*values) in RELATIONS[ins.word])
         if op in ("trunc", "zext", "sext", "ptrtoint", "inttoptr") and self.is_number(old) and self.is_number(new):
@@ -174,59 +150,32 @@ class Run:
         less = self.meaning(f"icmp_{word[0]}lt_{name}", values) % 256 != 0
         return int(less == (word[2] == "t"))
 
-    def compare(self, word, values, bits):
-        a, b = [signed(one, bits) for one in values] if word[0] == "s" else values
-        return int({"e": a == b, "n": a != b, "l": a < b, "g": a > b}[word.lstrip("us")[0]] or
-                   word[-1] == "e" and word[-2] in "lg" and a == b)
+    def load(self, ins, address):
+        return self.loaded(ins.type, address, ins.args[0][0][1])
 
-    def part(self, ins):
-        path = [what for _, (_, what) in ins.args[1 if ins.op == "extractvalue" else 2:]]
-        whole = self.value(ins.args[0])
-        if ins.op == "extractvalue":
-            for at in path:
-                whole = whole[at]
-            return whole
-        return self.put(whole, path, self.value(ins.args[1]))
-
-    def put(self, whole, path, value):
-        return [self.put(one, path[1:], value) if at == path[0] else one for at, one in enumerate(whole)] if path else value
-
-    def places(self, type):
-        """The offsets of the fields in memory."""
-        inner = self.module.named(type)
-        return self.module.measure(type)[2] if inner[0] == "struct" else [self.module.measure(inner[2])[0] * at for at in range(inner[1])]
-
-    def load(self, type, address, space):
+    def loaded(self, type, address, space):
         if isinstance(address, Place):
             return self.own(type, address)
         if self.fields(type) is not None:
-            return [self.load(field, address + at, space) for field, at in zip(self.fields(type), self.places(type))]
+            return [self.loaded(field, address + at, space) for field, at in zip(self.fields(type), self.places(type))]
         return self.meaning(f"load_{self.word(type)}" + f"\u02c8{space}" * (space != 0), [self.memory, address]) % 2 ** self.bits(type)
 
-    def store(self, type, value, address, space):
+    def store(self, ins, value, address):
+        self.stored(ins.args[0][0], value, address, ins.args[1][0][1])
+
+    def stored(self, type, value, address, space):
         if isinstance(address, Place):
             self.own(type, address, value)
             return
         if self.fields(type) is not None:
             for field, at, one in zip(self.fields(type), self.places(type), value):
-                self.store(field, one, address + at, space)
+                self.stored(field, one, address + at, space)
         else:
             name = f"store_{self.word(type)}" + f"\u02c8{space}" * (space != 0)
             self.memory = self.meaning(name, [self.memory, address, value]) % 2 ** 64
 
-    def address(self, ins):
-        type, base, bits = ("array", 0, ins.args[0][0]), self.value(ins.args[1]), self.bits(ins.args[1][0])
-        total = base.at if isinstance(base, Place) else base
-        for pair in ins.args[2:]:
-            type = self.module.named(type)
-            if type[0] == "struct":
-                total += self.module.measure(type)[2][pair[1][1]]
-                type = type[2][pair[1][1]]
-            else:
-                size = self.module.measure(type[2])[0] if type[0] == "array" else self.bits(type[2]) // 8
-                type = type[2]
-                total += signed(self.value(pair), self.bits(pair[0])) * size
-        return Place(base.name, total) if isinstance(base, Place) else total % 2 ** bits
+    def moved(self, ins, base, offset):
+        return Place(base.name, base.at + offset) if isinstance(base, Place) else (base + offset) % 2 ** self.bits(ins.args[1][0])
 
     def alloca(self, ins):
         if ins.name in self.private:
@@ -240,28 +189,21 @@ class Run:
 
     def result(self, name, type, args):
         """The result of a call or access: a structure has a function for each part."""
-        leaves = self.flat(self.shaped(type, [("%", "")]))
         if self.fields(type) is None:
             return self.meaning(name, args) % 2 ** self.bits(type) if type != ("int", 1) else int(self.meaning(name, args) % 256 != 0)
-        found = [self.result(f"{name}_{at}", leaf, args) for at, leaf in enumerate(leaves)]
-        return self.shaped(type, found)
-
-    def shaped(self, type, values):
-        """A structure of the values of its parts; without values it has the types of the parts."""
-        if values == [("%", "")]:
-            return [self.shaped(field, values) for field in self.fields(type)] if self.fields(type) is not None else type
-        values = iter(values) if isinstance(values, list) else values
-        return [self.shaped(field, values) for field in self.fields(type)] if self.fields(type) is not None else next(values)
+        return self.shaped(type, (self.result(f"{name}_{at}", leaf, args) for at, leaf in enumerate(self.leaves(type))))
 
     def named_call(self, ins):
         """The name of a call's function, as the reader has it after structures have become parts."""
-        parts = [self.flat(self.shaped(type, [("%", "")])) for type, _ in ins.args]
+        parts = [self.leaves(type) for type, _ in ins.args]
         shape = ins.shape + " parts " + " ".join(str(len(part)) for part in parts) if any(len(part) != 1 for part in parts) else ins.shape
-        results = [("", leaf) for leaf in self.flat(self.shaped(ins.type, [("%", "")]))] if self.fields(ins.type) is not None else []
+        results = [("", leaf) for leaf in self.leaves(ins.type)] if self.fields(ins.type) is not None else []
         made = type(ins)(**{**vars(ins), "args": [(leaf, None) for part in parts for leaf in part], "results": results, "shape": shape})
         return call_name(made, self.module.layout)
 
     def call(self, ins):
+        if ins.word == "llvm.assume":
+            return None if self.value(ins.args[0]) else self.unreachable(ins)
         args = [self.value(pair) for pair in ins.args]
         if ins.word.startswith("llvm.lifetime.") and isinstance(args[-1], Place):
             return self.private[args[-1].name].clear()
@@ -302,52 +244,27 @@ class Run:
         """The results and the memory, None where the run is stuck, or `more` where it has not ended after so many blocks."""
         try:
             return self.blocks(turns)
+        except Stuck:
+            return None
         except Left as end:
-            leaves = [] if self.function.type == ("void",) else self.flat(self.shaped(self.function.type, [("%", "")]))
+            leaves = [] if self.function.type == ("void",) else self.leaves(self.function.type)
             return [0 if self.is_number(leaf) else self.meaning(f"\u02c8nothing_{self.word(leaf)}", []) % 2 ** 64 for leaf in leaves], end.args[0]
 
-    def blocks(self, turns):
-        label, before = next(iter(self.function.blocks)), None
-        for _ in range(turns):
-            block = self.function.blocks[label]
-            phis = [ins for ins in block if ins.op == "phi"]
-            self.env.update(zip([ins.name for ins in phis],
-                                [self.value(ins.args[ins.labels.index(before)]) for ins in phis]))
-            for ins in block[len(phis):]:
-                if ins.op == "unreachable" or ins.word == "llvm.assume" and not self.value(ins.args[0]):
-                    return None
-                if ins.op == "ret":
-                    return [part for pair in ins.args for part in self.flat(self.value(pair))], self.memory
-                taken = self.step(ins)
-            label, before = taken, label
-        return "more"
+    def returned(self, values):
+        return self.flat(values), self.memory
 
-    def step(self, ins):
-        """Runs an instruction; the label at which the run goes on, where it ends its block."""
-        if ins.op == "br":
-            return ins.labels[0 if not ins.args or self.value(ins.args[0]) else 1]
-        if ins.op == "switch":
-            cases = [self.value(pair) for pair in ins.args]
-            return ins.labels[cases.index(cases[0], 1) if cases[0] in cases[1:] else 0]
-        if ins.op == "invoke":
-            return self.invoke(ins)
-        if ins.op == "resume":
-            args = self.flat(self.value(ins.args[0]))
-            if self.options.returns_only:
-                raise LookupError("the run does not return")
-            leaves = self.flat(self.shaped(ins.args[0][0], [("%", "")]))
-            raise Left(self.meaning("\u02c8resume" + "".join(f"_{self.word(leaf)}" for leaf in leaves) + "_left", [*args, self.memory]) % 2 ** 64)
-        if ins.op == "store" and not ins.mode:
-            self.store(ins.args[0][0], self.value(ins.args[0]), self.value(ins.args[1]), ins.args[1][0][1])
-        elif ins.op == "alloca":
-            self.env[ins.name] = self.alloca(ins)
-        elif ins.op == "landingpad":
-            self.env[ins.name] = self.result(self.named_call(ins), ins.type, [self.memory])
-        elif ins.op in ("call", "cmpxchg", "atomicrmw", "fence", "va_arg") or ins.mode:
-            self.env[ins.name] = self.call(ins) if ins.word != "llvm.assume" else None
-        elif ins.name:
-            self.env[ins.name] = self.compute(ins)
-        return None
+    def unreachable(self, ins):
+        raise Stuck
+
+    def resume(self, ins):
+        args = self.flat(self.value(ins.args[0]))
+        if self.options.returns_only:
+            raise LookupError("the run does not return")
+        words = "".join(f"_{self.word(leaf)}" for leaf in self.leaves(ins.args[0][0]))
+        raise Left(self.meaning(f"\u02c8resume{words}_left", [*args, self.memory]) % 2 ** 64)
+
+    def landingpad(self, ins):
+        return self.result(self.named_call(ins), ins.type, [self.memory])
 
 
 def known(ins, args, bits):

@@ -8,7 +8,7 @@ import effects
 import folding
 import pairs
 from ir import Unread
-from ir_runner import RELATIONS
+from interpreter import RELATIONS
 from layouts import Layout
 from module import Module, renamed
 from operations import ORDERED, SYMMETRIC

@@ -30,6 +30,7 @@ class Validate(unittest.TestCase):
         self.room = tempfile.TemporaryDirectory()
         self.folder = Path(self.room.name)
         for name, code in (("same", "add nsw i32 %x, %y"), ("equal", "add i32 %x, %y"), ("wrong", "sub i32 %x, %y"),
+                           ("hard", "add i32 %y, %x"),
                            ("unread", "catchpad within none []")):
             (self.folder / f"{name}.ll").write_text(TEXT.replace("CODE", code))
 
@@ -45,46 +46,50 @@ class Validate(unittest.TestCase):
 
     def test_two_files(self):
         """The table, the sums and the statuses, one function at a time and two at once."""
-        for after, status, sums in (("same", 0, "changed 0: equal 0, not proved 0, not read 0"),
-                                    ("equal", 0, "changed 1: equal 1, not proved 0, not read 0"),
-                                    ("wrong", 1, "changed 1: equal 0, not proved 1, not read 0"),
-                                    ("unread", 2, "changed 1: equal 0, not proved 0, not read 1")):
-            found, printed = self.run_it("same.ll", f"{after}.ll", *["-j", "2"] * (after == "wrong"))
+        for after, status, sums in (("same", 0, "changed 0: equal 0, differs 0, not proved 0, not read 0"),
+                                    ("equal", 0, "changed 1: equal 1, differs 0, not proved 0, not read 0"),
+                                    ("hard", 1, "changed 1: equal 0, differs 0, not proved 1, not read 0"),
+                                    ("wrong", 3, "changed 1: equal 0, differs 1, not proved 0, not read 0"),
+                                    ("unread", 2, "changed 1: equal 0, differs 0, not proved 0, not read 1")):
+            found, printed = self.run_it("same.ll", f"{after}.ll", *["-j", "2"] * (after == "hard"))
             self.assertEqual((status, sums), (found, printed.splitlines()[-1]), printed)
             self.assertNotIn("0 x < y", printed)
-        self.assertIn("    0 x < y", self.run_it("same.ll", "wrong.ll", "--explain")[1])
+        self.assertIn("    0 x < y", self.run_it("same.ll", "hard.ll", "--explain")[1])
+        self.assertRegex(self.run_it("same.ll", "wrong.ll")[1], r"(?m)^    state:   %x = \d+, %y = \d+\n    before:  returns \d+\n    after:   returns \d+$")
         self.assertIn("catchpad: %a = catchpad within none [] (", self.run_it("same.ll", "unread.ll")[1])
         self.assertIn("unread.ll line 2)", self.run_it("same.ll", "unread.ll")[1])
 
     def test_json(self):
-        status, printed = self.run_it("same.ll", "wrong.ll", "--json")
+        status, printed = self.run_it("same.ll", "hard.ll", "--json")
         [found] = json.loads(printed)
         self.assertEqual((1, LONG, "not proved", "the same operations on both sides; refused: TooManyActions"),
                          (status, found["function"], found["answer"], found["why"]))
 
     def test_pass(self):
-        self.assertEqual(1, self.run_it("same.ll", "--pass", "wrong")[0])
+        self.assertEqual(3, self.run_it("same.ll", "--pass", "wrong")[0])
         self.assertEqual(0, self.run_it("same.ll", "--pass", "nothing")[0])
 
     def test_pipeline(self):
         """Each step is a question; the first one that is not proved is named, and each pass has a line."""
         status, printed = self.run_it("", "--pipeline", "some")
-        self.assertEqual(1, status)
-        self.assertEqual(1, printed.count("1 of    2 steps  step 2, WrongPass: not proved: the same operations on both sides"), printed)
-        self.assertRegex(printed, r"(?m)^DropPass +1 +1 +0 +0 ")
-        self.assertRegex(printed, r"(?m)^WrongPass +1 +0 +1 +0 ")
+        self.assertEqual(3, status)
+        self.assertEqual(1, printed.count("step 2, WrongPass: differs: returns "), printed)
+        self.assertRegex(printed, r"(?m)^DropPass +1 +1 +0 +0 +0 ")
+        self.assertRegex(printed, r"(?m)^WrongPass +1 +0 +1 +0 +0 ")
         self.assertEqual(2, self.run_it("same.ll", "--pipeline", "broken")[0])
 
     def test_cache(self):
         """An answer is remembered by the text of both sides; what is new is asked."""
         cache, kat = ["--cache", self.folder / "cache"], self.folder / "kat"
         shutil.copy(HERE / "kat_stub", kat)
-        self.run_it("same.ll", "wrong.ll", *cache, kat=kat)
-        self.run_it("same.ll", "equal.ll", *cache, kat=kat)
-        self.assertEqual(2, len(list((self.folder / "cache").iterdir())))
+        for after in ("wrong.ll", "hard.ll", "equal.ll"):
+            self.run_it("same.ll", after, *cache, kat=kat)
+        self.assertEqual(3, len(list((self.folder / "cache").iterdir())))
         kat.unlink()
-        status, printed = self.run_it("same.ll", "wrong.ll", *cache, kat=kat)
+        status, printed = self.run_it("same.ll", "hard.ll", *cache, kat=kat)
         self.assertEqual((1, True), (status, "the same operations on both sides" in printed))
+        status, printed = self.run_it("same.ll", "wrong.ll", *cache, kat=kat)
+        self.assertEqual((3, True), (status, "    state:" in printed))
 
     def test_timeout(self):
         slow = self.folder / "slow"
