@@ -12,7 +12,7 @@ class Calls(Operations):
     """What a call returns and what it does to memory are functions of its arguments and of memory. One that may not return is a
     place at which the run may end: it returns the arguments and the memory before the call, as a memory that nothing else is."""
 
-    def assign(self, ins: Ins, name: str, args: list, memory: str = "") -> None:
+    def assign(self, ins: Ins, name: str, args: list, memory: str = "", home: str = "m") -> None:
         """Sets the results of an instruction and memory, where it has or writes them, to functions of arguments."""
         stmt = {}
         for at, (part, type) in enumerate(ins.results):
@@ -20,7 +20,7 @@ class Calls(Operations):
         if ins.name and not ins.results and ins.type[0] not in ("struct", "array", "named"):
             stmt[self.var(ins.name, ins.type)] = self.apply(name, self.sort(ins.type), *args)
         if memory:
-            stmt["m"] = self.apply(memory, "mem", *args)
+            stmt[home] = self.apply(memory, "mem", *args)
         self.block.stmts.append(stmt)
 
     def call(self, ins: Ins) -> None:

@@ -88,8 +88,8 @@ class Search:
         events = self.sure(first)
         for at, event in enumerate(events):
             if at == len(second.events):
-                return self.wrong(second) if second.kind == "undefined" else f"{calls(event)}, which after does not" \
-                    if second.kind in ("returned", "ended") else ""
+                ends = {"undefined": f"before which {self.wrong(second)}", "returned": "which after does not", "ended": "which after does not"}
+                return f"{calls(event)}, {ends[second.kind]}" if second.kind in ends else ""
             why = other_event(event, second.events[at])
             if why is not None:
                 return why

@@ -56,6 +56,8 @@ class Builder(Calls):
             self.block.stmts.append({"": cond})
         elif op in ("invoke", "landingpad", "resume"):
             getattr(self, op)(ins)
+        elif op == "home":
+            self.forget(ins)
         elif ins.mode or op in CALLS:
             if kind != "pure":
                 self.call(ins)
@@ -72,13 +74,18 @@ class Builder(Calls):
     def store(self, ins: Ins) -> None:
         value, address = ins.args
         name = f"store_{self.place(value[0], address[0])}"
-        self.assign(ins, "", [MEMORY, self.argument(address), self.argument(value)], name)
+        home = self.home(ins.word)
+        self.assign(ins, "", [("mem", home), self.argument(address), self.argument(value)], name, home)
 
     def load(self, ins: Ins) -> None:
         place, address = self.place(ins.type, ins.args[0][0]), self.argument(ins.args[0])
-        if self.options.loads:
+        if self.options.loads and not ins.word:
             self.block.stmts.append({"": f"{self.apply(f'valid_{place}', 'u8', MEMORY, address)} != 0"})
-        self.assign(ins, f"load_{place}", [MEMORY, address])
+        self.assign(ins, f"load_{place}", [("mem", self.home(ins.word)), address])
+
+    def forget(self, ins: Ins) -> None:
+        """Local memory with a memory of its own holds nothing that is known."""
+        self.block.stmts.append({self.home(ins.mode): self.apply(f"\u02c8local_{ins.word}", "mem")})
 
     def slot(self, ins: Ins) -> None:
         """A statement of a variable for local memory: its value is kept, or set."""

@@ -49,6 +49,8 @@ class Local:
             if pair[1][0] != "int" or type[0] not in ("struct", "array"):
                 return False
             index = pair[1][1]
+            if type[0] == "struct" and not 0 <= index < len(type[2]):
+                return False
             at += self.module.measure(type)[2][index] if type[0] == "struct" else self.module.measure(type[2])[0] * index
             type = type[2][index] if type[0] == "struct" else type[2]
         self.offsets[ins.name] = at

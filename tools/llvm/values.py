@@ -3,6 +3,7 @@
 from dataclasses import dataclass, field
 from typing import NamedTuple
 
+from homes import housed
 from intrinsics import expanded
 from ir import BIT, Function, Ins, Unread
 from layouts import Layout
@@ -69,7 +70,7 @@ class Values:
         """`params` are names of parameters; where there are none they get their own."""
         self.module, self.scope, self.options = module, scope, options
         self.layout, self.text, self.line = module.layout, "", 0
-        self.function = function = expanded(slotted(module, scalar(module, function)))
+        self.function = function = expanded(housed(module, slotted(module, scalar(module, function))))
         self.names = {name: own for (name, _), own in zip(function.params, params)}
         self.own = set(self.names.values())
         self.bits = {own for (_, type), own in zip(function.params, params) if type == BIT}
@@ -125,6 +126,19 @@ class Values:
             self.scope.sorts[own] = sort
             self.bits |= {own} if type == BIT else set()
         return self.names[name]
+
+    def home(self, word: str) -> str:
+        """The variable for the memory that an access uses: that of all, or one of its own."""
+        if not word:
+            return "m"
+        if (own := self.names.get(f'memory"{word}')) is None:
+            own = "local"
+            while own in self.own or self.scope.sorts.get(own, "mem") != "mem":
+                own += "_"
+            self.names[f'memory"{word}'] = own
+            self.own.add(own)
+            self.scope.sorts[own] = "mem"
+        return own
 
     def apply(self, name: str, sort: str, *args: tuple) -> str:
         """An application to pairs (sort, expression)."""

@@ -6,6 +6,7 @@ import re
 from collections import namedtuple
 
 import effects
+import homes
 import slots
 from folding import binary, signed, unary
 from interpreter import RELATIONS, Interpreter, compared
@@ -70,7 +71,10 @@ class Run(Interpreter):
     def __init__(self, module, function, args, memory, meaning, options):
         super().__init__(module, function, args)
         self.meaning, self.memory, self.options = meaning, memory, options
-        self.private = {local.ins.name: {} for local in slots.found(module, scalar(module, function))}
+        whole = scalar(module, function)
+        self.private = {local.ins.name: {} for local in slots.found(module, whole)}
+        self.homes = {home.ins.name: home.word for home in homes.found(module, slots.slotted(module, whole))}
+        self.memories = {}
 
     def own(self, type, address, value=None):
         """Reads or writes the bytes of local memory that nobody else sees; a byte that nothing has written has no value."""
@@ -154,22 +158,28 @@ class Run(Interpreter):
         return self.loaded(ins.type, address, ins.args[0][0][1])
 
     def loaded(self, type, address, space):
-        if isinstance(address, Place):
+        if isinstance(address, Place) and address.name in self.private:
             return self.own(type, address)
         if self.fields(type) is not None:
-            return [self.loaded(field, address + at, space) for field, at in zip(self.fields(type), self.places(type))]
-        return self.meaning(f"load_{self.word(type)}" + f"\u02c8{space}" * (space != 0), [self.memory, address]) % 2 ** self.bits(type)
+            return [self.loaded(field, self.plus(address, at), space) for field, at in zip(self.fields(type), self.places(type))]
+        memory, address = (self.memories[address.name], address.at % 2 ** 64) if isinstance(address, Place) else (self.memory, address)
+        return self.meaning(f"load_{self.word(type)}" + f"\u02c8{space}" * (space != 0), [memory, address]) % 2 ** self.bits(type)
+
+    def plus(self, address, at):
+        return Place(address.name, address.at + at) if isinstance(address, Place) else address + at
 
     def store(self, ins, value, address):
         self.stored(ins.args[0][0], value, address, ins.args[1][0][1])
 
     def stored(self, type, value, address, space):
-        if isinstance(address, Place):
+        if isinstance(address, Place) and address.name in self.private:
             self.own(type, address, value)
             return
         if self.fields(type) is not None:
             for field, at, one in zip(self.fields(type), self.places(type), value):
-                self.stored(field, one, address + at, space)
+                self.stored(field, one, self.plus(address, at), space)
+        elif isinstance(address, Place):
+            self.memories[address.name] = self.meaning(f"store_{self.word(type)}", [self.memories[address.name], address.at % 2 ** 64, value]) % 2 ** 64
         else:
             name = f"store_{self.word(type)}" + f"\u02c8{space}" * (space != 0)
             self.memory = self.meaning(name, [self.memory, address, value]) % 2 ** 64
@@ -181,11 +191,17 @@ class Run(Interpreter):
         if ins.name in self.private:
             self.private[ins.name].clear()
             return Place(ins.name, 0)
+        if ins.name in self.homes:
+            self.forget(ins.name, "")
+            return Place(ins.name, 0)
         values = [self.value(pair) for pair in ins.args[1:]]
         args = [self.module.measure(ins.args[0][0])[0], *values, self.memory]
         name = f"alloca\u02c8{len(ins.args)}" + f"\u02c8{ins.type[1]}" * (ins.type[1] != 0)
         self.memory = self.meaning(f"{name}_memory", args) % 2 ** 64
         return self.meaning(f"{name}_value", args) % 2 ** self.bits(ins.type)
+
+    def forget(self, name, at):
+        self.memories[name] = self.meaning(f"\u02c8local_{self.homes[name]}{at}", []) % 2 ** 64
 
     def result(self, name, type, args):
         """The result of a call or access: a structure has a function for each part."""
@@ -206,7 +222,8 @@ class Run(Interpreter):
             return None if self.value(ins.args[0]) else self.unreachable(ins)
         args = [self.value(pair) for pair in ins.args]
         if ins.word.startswith("llvm.lifetime.") and isinstance(args[-1], Place):
-            return self.private[args[-1].name].clear()
+            name = args[-1].name
+            return self.private[name].clear() if name in self.private else self.forget(name, "_start" if "start" in ins.word else "_end")
         if ins.op == "call" and ins.word.startswith("llvm.") and not ins.shape:
             found = known(ins, args, self.bits(ins.args[0][0]) if ins.args else 0)
             if found is not None:

@@ -93,6 +93,20 @@ class Constructs(unittest.TestCase):
                     _, text = next(pairs.tries(module, module, "f"))
                     compare(self, module, module, "f", text, range(2))
 
+    def test_local_memory(self):
+        """Local memory has a memory of its own unless its address goes elsewhere; then it is part of memory."""
+        head = "define i32 @f(i64 %i, ptr %g)"
+        for use, is_own in (("", True), ("store ptr %p, ptr %g", False), ("call i32 @g(i32 0) [ \"deopt\"(ptr %p) ]", False),
+                            ("%c = icmp eq ptr %p, %g", False), ("%n = ptrtoint ptr %p to i64", False), ("store volatile i32 1, ptr %p", False),
+                            ("%s = select i1 true, ptr %p, ptr %g", False), ("%s = select i1 true, ptr %p, ptr %a", True),
+                            ("%s = getelementptr i8, ptr %p, i64 %i\nstore i8 2, ptr %s", True)):
+            body = (f"%a = alloca [4 x i32]\n%p = getelementptr [4 x i32], ptr %a, i64 0, i64 %i\nstore i32 7, ptr %p\n{use}\n"
+                    "%v = load i32, ptr %a\n%w = load i32, ptr %g\n%r = add i32 %v, %w\nret i32 %r")
+            module = small(body, head)
+            _, text = next(pairs.tries(module, module, "f"))
+            self.assertEqual(is_own, "alloca" not in text, use)
+            compare(self, module, module, "f", text, range(6))
+
     def test_gaps(self):
         """A structure in memory is its fields only where no byte belongs to none."""
         for type, is_read in (("{ i32, i32 }", True), ("{ i8, i32 }", False), ("<{ i8, i32 }>", True), ("{ i1, i8 }", False),

@@ -359,6 +359,40 @@ end:
   ret i32 %r
 }
 
+define i32 @buffer(i64 %i, i64 %j, i32 %x, ptr %g, i1 %c) {
+entry:
+  %a = alloca [8 x i32]
+  %s = alloca { i16, [3 x i8] }
+  call void @llvm.lifetime.start.p0(i64 6, ptr %s)
+  call void @put(i32 %x)
+  %p = getelementptr [8 x i32], ptr %a, i64 0, i64 %i
+  store i32 %x, ptr %p
+  %q = getelementptr [8 x i32], ptr %a, i64 0, i64 %j
+  store i32 3, ptr %g
+  %v = load i32, ptr %q
+  %f = getelementptr { i16, [3 x i8] }, ptr %s, i32 0, i32 1, i64 %j
+  store i8 5, ptr %f
+  br i1 %c, label %head, label %end
+head:
+  %r = phi ptr [ %a, %entry ], [ %n, %head ]
+  %k = phi i64 [ 0, %entry ], [ %m, %head ]
+  %w = load i32, ptr %r
+  %n = getelementptr i32, ptr %r, i64 1
+  store i32 %w, ptr %n
+  %m = add i64 %k, 1
+  %t = icmp ult i64 %m, %i
+  br i1 %t, label %head, label %end
+end:
+  %o = select i1 %c, ptr %p, ptr %q
+  %z = load i32, ptr %o
+  %b = load i8, ptr %f
+  call void @llvm.lifetime.end.p0(i64 6, ptr %s)
+  %e = zext i8 %b to i32
+  %y = add i32 %z, %v
+  %u = mul i32 %y, %e
+  ret i32 %u
+}
+
 attributes #0 = { nounwind readnone willreturn }
 attributes #1 = { noreturn nounwind }
 attributes #2 = { convergent nounwind readnone willreturn }

@@ -3448,3 +3448,354 @@ end:
   %r = select i1 %z, i32 %y, i32 %s
   ret i32 %r
 }
+
+define i32 @buffer.1(i64 %i, i64 %j, i32 %x, ptr %g, i1 %c) {
+entry:
+  %a = alloca [8 x i32]
+  %s = alloca { i16, [3 x i8] }
+  call void @llvm.lifetime.start.p0(i64 6, ptr %s)
+  call void @put(i32 %x)
+  %p = getelementptr i32, ptr %a, i64 %i
+  store i32 %x, ptr %p
+  %q = getelementptr [8 x i32], ptr %a, i64 0, i64 %j
+  store i32 3, ptr %g
+  %v = load i32, ptr %q
+  %f = getelementptr { i16, [3 x i8] }, ptr %s, i32 0, i32 1, i64 %j
+  store i8 5, ptr %f
+  br i1 %c, label %head, label %end
+head:
+  %r = phi ptr [ %a, %entry ], [ %n, %head ]
+  %k = phi i64 [ 0, %entry ], [ %m, %head ]
+  %w = load i32, ptr %r
+  %n = getelementptr i32, ptr %r, i64 1
+  store i32 %w, ptr %n
+  %m = add i64 %k, 1
+  %t = icmp ugt i64 %i, %m
+  br i1 %t, label %head, label %end
+end:
+  %h = load i32, ptr %q
+  %l = load i32, ptr %q
+  %z = select i1 %c, i32 %h, i32 %l
+  %b = load i8, ptr %f
+  call void @llvm.lifetime.end.p0(i64 6, ptr %s)
+  %e = zext i8 %b to i32
+  %y = add i32 %v, %z
+  %u = mul i32 %e, %y
+  ret i32 %u
+}
+
+define i32 @buffer.2(i64 %i, i64 %j, i32 %x, ptr %g, i1 %c) {
+entry:
+  %a = alloca [8 x i32]
+  %s = alloca { i16, [3 x i8] }
+  call void @llvm.lifetime.start.p0(i64 6, ptr %s)
+  call void @put(i32 %x)
+  %p = getelementptr i32, ptr %a, i64 %i
+  store i32 %x, ptr %p
+  %q = getelementptr [8 x i32], ptr %a, i64 0, i64 %j
+  store i32 2, ptr %g
+  %v = load i32, ptr %q
+  %f = getelementptr { i16, [3 x i8] }, ptr %s, i32 0, i32 1, i64 %j
+  store i8 5, ptr %f
+  br i1 %c, label %head, label %end
+head:
+  %r = phi ptr [ %a, %entry ], [ %n, %head ]
+  %k = phi i64 [ 0, %entry ], [ %m, %head ]
+  %w = load i32, ptr %r
+  %n = getelementptr i32, ptr %r, i64 1
+  store i32 %w, ptr %n
+  %m = add i64 %k, 1
+  %t = icmp ugt i64 %i, %m
+  br i1 %t, label %head, label %end
+end:
+  %h = load i32, ptr %p
+  %l = load i32, ptr %q
+  %z = select i1 %c, i32 %h, i32 %l
+  %b = load i8, ptr %f
+  call void @llvm.lifetime.end.p0(i64 6, ptr %s)
+  %e = zext i8 %b to i32
+  %y = add i32 %v, %z
+  %u = mul i32 %e, %y
+  ret i32 %u
+}
+
+define i32 @buffer.3(i64 %i, i64 %j, i32 %x, ptr %g, i1 %c) {
+entry:
+  %a = alloca [8 x i32]
+  %s = alloca { i16, [3 x i8] }
+  call void @llvm.lifetime.start.p0(i64 6, ptr %s)
+
+  %p = getelementptr i32, ptr %a, i64 %i
+  store i32 %x, ptr %p
+  %q = getelementptr [8 x i32], ptr %a, i64 0, i64 %j
+  store i32 3, ptr %g
+  %v = load i32, ptr %q
+  %f = getelementptr { i16, [3 x i8] }, ptr %s, i32 0, i32 1, i64 %j
+  store i8 5, ptr %f
+  br i1 %c, label %head, label %end
+head:
+  %r = phi ptr [ %a, %entry ], [ %n, %head ]
+  %k = phi i64 [ 0, %entry ], [ %m, %head ]
+  %w = load i32, ptr %r
+  %n = getelementptr i32, ptr %r, i64 1
+  store i32 %w, ptr %n
+  %m = add i64 %k, 1
+  %t = icmp ugt i64 %i, %m
+  br i1 %t, label %head, label %end
+end:
+  %h = load i32, ptr %p
+  %l = load i32, ptr %q
+  %z = select i1 %c, i32 %h, i32 %l
+  %b = load i8, ptr %f
+  call void @llvm.lifetime.end.p0(i64 6, ptr %s)
+  %e = zext i8 %b to i32
+  %y = add i32 %v, %z
+  %u = mul i32 %e, %y
+  ret i32 %u
+}
+
+define i32 @buffer.4(i64 %i, i64 %j, i32 %x, ptr %g, i1 %c) {
+entry:
+  %a = alloca [8 x i32]
+  %s = alloca { i16, [3 x i8] }
+  call void @llvm.lifetime.start.p0(i64 6, ptr %s)
+  call void @put(i32 %x)
+  %p = getelementptr i32, ptr %a, i64 %i
+  store i32 %x, ptr %p
+  %q = getelementptr [8 x i32], ptr %a, i64 0, i64 %j
+  store i32 4, ptr %g
+  %v = load i32, ptr %q
+  %f = getelementptr { i16, [3 x i8] }, ptr %s, i32 0, i32 1, i64 %j
+  store i8 5, ptr %f
+  br i1 %c, label %head, label %end
+head:
+  %r = phi ptr [ %a, %entry ], [ %n, %head ]
+  %k = phi i64 [ 0, %entry ], [ %m, %head ]
+  %w = load i32, ptr %r
+  %n = getelementptr i32, ptr %r, i64 1
+  store i32 %w, ptr %n
+  %m = add i64 %k, 1
+  %t = icmp ugt i64 %i, %m
+  br i1 %t, label %head, label %end
+end:
+  %h = load i32, ptr %p
+  %l = load i32, ptr %q
+  %z = select i1 %c, i32 %h, i32 %l
+  %b = load i8, ptr %f
+  call void @llvm.lifetime.end.p0(i64 6, ptr %s)
+  %e = zext i8 %b to i32
+  %y = add i32 %v, %z
+  %u = mul i32 %e, %y
+  ret i32 %u
+}
+
+define i32 @buffer.5(i64 %i, i64 %j, i32 %x, ptr %g, i1 %c) {
+entry:
+  %a = alloca [8 x i32]
+  %s = alloca { i16, [3 x i8] }
+  call void @llvm.lifetime.start.p0(i64 6, ptr %s)
+  call void @put(i32 %x)
+  call void @put(i32 %x)
+  %p = getelementptr i32, ptr %a, i64 %i
+  store i32 %x, ptr %p
+  %q = getelementptr [8 x i32], ptr %a, i64 0, i64 %j
+  store i32 3, ptr %g
+  %v = load i32, ptr %q
+  %f = getelementptr { i16, [3 x i8] }, ptr %s, i32 0, i32 1, i64 %j
+  store i8 5, ptr %f
+  br i1 %c, label %head, label %end
+head:
+  %r = phi ptr [ %a, %entry ], [ %n, %head ]
+  %k = phi i64 [ 0, %entry ], [ %m, %head ]
+  %w = load i32, ptr %r
+  %n = getelementptr i32, ptr %r, i64 1
+  store i32 %w, ptr %n
+  %m = add i64 %k, 1
+  %t = icmp ugt i64 %i, %m
+  br i1 %t, label %head, label %end
+end:
+  %h = load i32, ptr %p
+  %l = load i32, ptr %q
+  %z = select i1 %c, i32 %h, i32 %l
+  %b = load i8, ptr %f
+  call void @llvm.lifetime.end.p0(i64 6, ptr %s)
+  %e = zext i8 %b to i32
+  %y = add i32 %v, %z
+  %u = mul i32 %e, %y
+  ret i32 %u
+}
+
+define i32 @buffer.6(i64 %i, i64 %j, i32 %x, ptr %g, i1 %c) {
+entry:
+  %a = alloca [8 x i32]
+  %s = alloca { i16, [3 x i8] }
+  call void @llvm.lifetime.start.p0(i64 6, ptr %s)
+  call void @put(i32 %x)
+  %p = getelementptr i32, ptr %a, i64 %i
+  store i32 %x, ptr %p
+  %q = getelementptr [8 x i32], ptr %a, i64 0, i64 %j
+  store i32 3, ptr %g
+  %v = load i32, ptr %q
+  %f = getelementptr { i16, [3 x i8] }, ptr %s, i32 0, i32 1, i64 %j
+  store i8 5, ptr %f
+  br i1 %c, label %head, label %end
+head:
+  %r = phi ptr [ %a, %entry ], [ %n, %head ]
+  %k = phi i64 [ 0, %entry ], [ %m, %head ]
+  %w = load i32, ptr %r
+  %n = getelementptr i32, ptr %r, i64 1
+  store i32 %w, ptr %n
+  %m = sub i64 %k, 1
+  %t = icmp ugt i64 %i, %m
+  br i1 %t, label %head, label %end
+end:
+  %h = load i32, ptr %p
+  %l = load i32, ptr %q
+  %z = select i1 %c, i32 %h, i32 %l
+  %b = load i8, ptr %f
+  call void @llvm.lifetime.end.p0(i64 6, ptr %s)
+  %e = zext i8 %b to i32
+  %y = add i32 %v, %z
+  %u = mul i32 %e, %y
+  ret i32 %u
+}
+
+define i32 @buffer.7(i64 %i, i64 %j, i32 %x, ptr %g, i1 %c) {
+entry:
+  %a = alloca [8 x i32]
+  %s = alloca { i16, [3 x i8] }
+  call void @llvm.lifetime.start.p0(i64 6, ptr %s)
+  call void @put(i32 %x)
+  %p = getelementptr i32, ptr %a, i64 %i
+  store i32 %x, ptr %p
+  %q = getelementptr [8 x i32], ptr %a, i64 0, i64 %j
+  store i32 3, ptr %g
+  %v = load i32, ptr %q
+  %f = getelementptr { i16, [3 x i8] }, ptr %s, i32 0, i32 1, i64 %j
+  store i8 5, ptr %f
+  br i1 %c, label %end, label %head
+head:
+  %r = phi ptr [ %a, %entry ], [ %n, %head ]
+  %k = phi i64 [ 0, %entry ], [ %m, %head ]
+  %w = load i32, ptr %r
+  %n = getelementptr i32, ptr %r, i64 1
+  store i32 %w, ptr %n
+  %m = add i64 %k, 1
+  %t = icmp ugt i64 %i, %m
+  br i1 %t, label %head, label %end
+end:
+  %h = load i32, ptr %p
+  %l = load i32, ptr %q
+  %z = select i1 %c, i32 %h, i32 %l
+  %b = load i8, ptr %f
+  call void @llvm.lifetime.end.p0(i64 6, ptr %s)
+  %e = zext i8 %b to i32
+  %y = add i32 %v, %z
+  %u = mul i32 %e, %y
+  ret i32 %u
+}
+
+define i32 @buffer.8(i64 %i, i64 %j, i32 %x, ptr %g, i1 %c) {
+entry:
+  %a = alloca [8 x i32]
+  %s = alloca { i16, [3 x i8] }
+  call void @llvm.lifetime.start.p0(i64 6, ptr %s)
+  call void @put(i32 %x)
+  %p = getelementptr i32, ptr %a, i64 %i
+  store i32 %x, ptr %p
+  %q = getelementptr [8 x i32], ptr %a, i64 0, i64 %j
+  store i32 3, ptr %g
+  %v = load i32, ptr %q
+  %f = getelementptr { i16, [3 x i8] }, ptr %s, i32 0, i32 1, i64 %j
+  store i8 5, ptr %f
+  br i1 %c, label %head, label %end
+head:
+  %r = phi ptr [ %a, %entry ], [ %n, %head ]
+  %k = phi i64 [ 0, %entry ], [ %m, %head ]
+  %w = load i32, ptr %r
+  %n = getelementptr i32, ptr %r, i64 1
+  store i32 %w, ptr %n
+  %m = add i64 %k, 1
+  %t = icmp ugt i64 %i, %m
+  br i1 %t, label %head, label %end
+end:
+  %h = load i32, ptr %p
+  %l = load i32, ptr %q
+  %z = select i1 %c, i32 %l, i32 %h
+  %b = load i8, ptr %f
+  call void @llvm.lifetime.end.p0(i64 6, ptr %s)
+  %e = zext i8 %b to i32
+  %y = add i32 %v, %z
+  %u = mul i32 %e, %y
+  ret i32 %u
+}
+
+define i32 @buffer.9(i64 %i, i64 %j, i32 %x, ptr %g, i1 %c) {
+entry:
+  %a = alloca [8 x i32]
+  %s = alloca { i16, [3 x i8] }
+  call void @llvm.lifetime.start.p0(i64 6, ptr %s)
+  call void @put(i32 %x)
+  %p = getelementptr i32, ptr %a, i64 %i
+  store i32 %x, ptr %p
+  %q = getelementptr [8 x i32], ptr %a, i64 0, i64 %j
+  store i32 3, ptr %g
+  %v = load i32, ptr %q
+  %f = getelementptr { i16, [3 x i8] }, ptr %s, i32 0, i32 1, i64 %j
+  store i8 5, ptr %f
+  br i1 %c, label %head, label %end
+head:
+  %r = phi ptr [ %a, %entry ], [ %n, %head ]
+  %k = phi i64 [ 0, %entry ], [ %m, %head ]
+  %w = load i32, ptr %r
+  %n = getelementptr i32, ptr %r, i64 1
+  store i32 %w, ptr %n
+  %m = add i64 %k, 1
+  %t = icmp ugt i64 %i, %m
+  br i1 %t, label %end, label %head
+end:
+  %h = load i32, ptr %p
+  %l = load i32, ptr %q
+  %z = select i1 %c, i32 %h, i32 %l
+  %b = load i8, ptr %f
+  call void @llvm.lifetime.end.p0(i64 6, ptr %s)
+  %e = zext i8 %b to i32
+  %y = add i32 %v, %z
+  %u = mul i32 %e, %y
+  ret i32 %u
+}
+
+define i32 @buffer.10(i64 %i, i64 %j, i32 %x, ptr %g, i1 %c) {
+entry:
+  %a = alloca [8 x i32]
+  %s = alloca { i16, [3 x i8] }
+  call void @llvm.lifetime.start.p0(i64 6, ptr %s)
+  call void @put(i32 %x)
+  %p = getelementptr i32, ptr %a, i64 %i
+  store i32 %x, ptr %p
+  %q = getelementptr [8 x i32], ptr %a, i64 0, i64 %j
+  store i32 3, ptr %g
+  %v = load i32, ptr %q
+  %f = getelementptr { i16, [3 x i8] }, ptr %s, i32 0, i32 1, i64 %j
+  store i8 5, ptr %f
+  br i1 %c, label %head, label %end
+head:
+  %r = phi ptr [ %a, %entry ], [ %n, %head ]
+  %k = phi i64 [ 0, %entry ], [ %m, %head ]
+  %w = load i32, ptr %r
+  %n = getelementptr i32, ptr %r, i64 1
+  store i32 %w, ptr %n
+  %m = add i64 %k, 1
+  %t = icmp ugt i64 %i, %m
+  br i1 %t, label %head, label %end
+end:
+  %h = load i32, ptr %p
+  %l = load i32, ptr %q
+  %z = select i1 %c, i32 %h, i32 %l
+  %b = load i8, ptr %f
+  call void @llvm.lifetime.end.p0(i64 6, ptr %s)
+  %e = sext i8 %b to i32
+  %y = add i32 %v, %z
+  %u = mul i32 %e, %y
+  ret i32 %u
+}
