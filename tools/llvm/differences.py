@@ -132,12 +132,10 @@ def found(before: Module, after: Module, name: str, options: Options = Options()
     """A run that differs, within so many runs and a fixed number of instructions, or None."""
     try:
         search = Search(before, after, name, options, defined)
-        if not search.can_run():
-            return None
-    except Unread:
+        runs = (search.run(seed) for seed in range(most if search.can_run() else 0) if search.spent < BUDGET)
+        return next((run for run in runs if run), None)
+    except (Unread, ValueError):  # a construct, or a parameter of a type, that is not read
         return None
-    runs = (search.run(seed) for seed in range(most) if search.spent < BUDGET)
-    return next((run for run in runs if run), None)
 
 
 def values_of(value) -> str:

@@ -76,7 +76,7 @@ class Truth(Interpreter):
             return Outcome("ended", self.events)
         except Undefined as why:
             return Outcome("undefined", self.events, why=str(why))
-        except (Unknown, Unread, RecursionError, OverflowError) as why:
+        except (Unknown, Unread, RecursionError, ArithmeticError, LookupError, TypeError, ValueError) as why:  # as of parts of poison
             return Outcome("unknown", self.events, why=str(why))
 
     def returned(self, values: list) -> list:

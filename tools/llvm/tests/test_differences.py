@@ -109,6 +109,15 @@ class Differences(unittest.TestCase):
         self.assertFalse(promises.value_holds("i32 range(i32 -2, 3)", 3, 32))
         self.assertEqual(("declare i32 ", ("ptr nocapture align(8)", "i32"), " #3"), promises.parts("declare i32 @f(ptr nocapture align(8), i32) #3"))
 
+    def test_what_is_not_known(self):
+        """A construct that is not interpreted shows nothing, and ends nothing."""
+        for body in ("%a = insertelement <vscale x 4 x i32> undef, i32 %x, i32 0\n%b = extractelement <vscale x 4 x i32> %a, i32 0",
+                     "%a = sitofp i32 %x to x86_fp80\n%b = fptosi x86_fp80 %a to i32", "%b = call i32 @llvm.unknown.i32(i32 %x)",
+                     "%a = fadd fast float 1.0, 2.0\n%b = fptosi float %a to i32", "%a = shufflevector <2 x i32> undef, <2 x i32> poison, <2 x i32> "
+                     "<i32 0, i32 2>\n%b = extractelement <2 x i32> %a, i32 7"):
+            self.assertEqual("", self.why(f"{body}\nret i32 %b", "ret i32 7"), body)
+        self.assertEqual("", self.why("ret i32 1", "ret i32 2", head="define i32 @f(<vscale x 2 x i8> %v)"))
+
     def test_names_of_the_library(self):
         self.assertTrue(all(map(library.is_known, ("strlen", "cosf", "atan2", "malloc", "_Znwm", "__strcpy_chk", "putc_unlocked"))))
         self.assertFalse(any(map(library.is_known, ("lock", "report", "step", "weight", "cosmic"))))
