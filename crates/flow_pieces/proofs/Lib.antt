@@ -1,1 +1,13 @@
+pub mod Followed
 pub mod Enough
+pub mod PointNumbers
+pub mod ClosedBlocks
+pub mod SideRuns
+pub mod Readings
+pub mod SortedStates
+pub mod TakenExits
+pub mod LiveRelations
+pub mod CommonStates
+pub mod SameTexts
+pub mod AgreedPieces
+pub mod Asked

@@ -1,9 +1,16 @@
 //! The law of pieces. The function does nothing: its contract is the law.
-ghost use Rattle.flow_pieces.specs.Laws.{PiecesAreEnough};
+ghost use Rattle.flow_pieces.specs.Laws.{PiecesAreEnough, AgreedPiecesAreEnough};
 
 /// If the entries of two graphs are matched, and each piece of the matches holds under every interpretation, both graphs
 /// return the same under every interpretation, from every state (cut points: Floyd, *Assigning meanings to programs*,
 /// 1967; as a bisimulation of two programs Necula, *Translation validation for an optimizing compiler*, 2000).
 pub fn pieces_are_enough()
     ensures { PiecesAreEnough }
+{}
+
+/// Pieces may be asked one by one, as questions of two flow graphs. If the entries of two graphs are matched, and the two
+/// graphs of each piece always return the same, or both sides have the same text up to the next matched blocks, both
+/// graphs always return the same.
+pub fn agreed_pieces_are_enough()
+    ensures { AgreedPiecesAreEnough }
 {}

@@ -6,4 +6,4 @@
 
 mod laws;
 
-pub use laws::pieces_are_enough;
+pub use laws::{agreed_pieces_are_enough, pieces_are_enough};
