@@ -11,3 +11,4 @@ pub mod CommonStates
 pub mod SameTexts
 pub mod AgreedPieces
 pub mod Asked
+pub mod PieceExamples
