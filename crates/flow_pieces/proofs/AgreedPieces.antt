@@ -13,13 +13,13 @@ use Rattle.flow_pieces.specs.Pieces.{Ends, is_matched_before, is_matched_after, 
 use Rattle.flow_pieces.specs.PieceGraphs.{Side, side_before, side_after}
 use Rattle.flow_pieces.specs.AskedPieces.{IsProper, IsAgreed}
 use Rattle.flow_pieces.proofs.Followed.{Flipped, AreStops, stops_flipped, Follows}
-use Rattle.flow_pieces.proofs.SideRuns.{taken, Tells, told, tells}
+use Rattle.flow_pieces.proofs.SideRuns.{taken, Gives, stop_of_return, return_of_stop}
 use Rattle.flow_pieces.proofs.SortedStates.{IsStateAt, stop_state}
-use Rattle.flow_pieces.proofs.TakenExits.{told_alike}
+use Rattle.flow_pieces.proofs.TakenExits.{given_alike}
 use Rattle.flow_pieces.proofs.CommonStates.{common, common_state, opened, opens, before_state, after_state}
 
--- the list that a stop tells
-stop_list : (I : Interpretation) (side : Side) (a : Stop) → IsSettled a → (vs : List ℕ) × Tells I side a vs
+-- the list that a stop gives
+stop_list : (I : Interpretation) (side : Side) (a : Stop) → IsSettled a → (vs : List ℕ) × Gives I side a vs
 stop_list I side (came_to k s) h = (map (value I s) (taken I s (side.leaves k) side.otherwise), refl)
 stop_list I side (returned vs) h = ((0 % modulus W32) ∷ vs, refl)
 stop_list I side stuck h = absurd h
@@ -37,9 +37,9 @@ module _ (I : Interpretation) (p : Pair) (ms : List Match) (first : IsSortedGrap
   start_after = opened I p m s t proper related m.forth
 
   alike : (vs : List ℕ) (a b : Stop) → Ends I p.before (is_matched_before ms) m.before start_before a → Ends I p.after (is_matched_after ms) m.after start_after b →
-      Tells I (side_before p ms m agreed.exits) a vs → Tells I (side_after p ms m agreed.exits) b vs → AreStops (AreRelatedAt I p ms) a b
+      Gives I (side_before p ms m agreed.exits) a vs → Gives I (side_after p ms m agreed.exits) b vs → AreStops (AreRelatedAt I p ms) a b
   alike vs a b e f h g =
-      told_alike I p ms m agreed.exits agreed.are_exits agreed.marked vs a b
+      given_alike I p ms m agreed.exits agreed.are_exits agreed.marked vs a b
       (state_at_end I p.sorts p.before (is_matched_before ms) first m.before start_before (before_state I p m s t proper related) a e)
       (state_at_end I p.sorts p.after (is_matched_after ms) second m.after start_after (after_state I p m s t proper related) b f) h g
 
@@ -47,16 +47,16 @@ module _ (I : Interpretation) (p : Pair) (ms : List Match) (first : IsSortedGrap
   agreed_forth a settled e =
       let list = stop_list I (side_before p ms m agreed.exits) a settled in
       let u = common I p m s t proper related in
-      let one = tells I (side_before p ms m agreed.exits) u start_before list.0 (opens I p m s t proper related m.back) a e list.1 in
+      let one = return_of_stop I (side_before p ms m agreed.exits) u start_before list.0 (opens I p m s t proper related m.back) a e list.1 in
       let other = (agreed.agree I u (common_state I p m s t proper related) list.0).0 one in
-      let next = told I (side_after p ms m agreed.exits) u start_after list.0 (opens I p m s t proper related m.forth) other in
+      let next = stop_of_return I (side_after p ms m agreed.exits) u start_after list.0 (opens I p m s t proper related m.forth) other in
       (next.0, next.1, alike list.0 a next.0 e next.1 list.1 next.2)
 
   pub agreed_back : Follows I p.after (is_matched_after ms) p.before (is_matched_before ms) (Flipped (AreRelatedAt I p ms)) m.after m.before start_after start_before
   agreed_back b settled e =
       let list = stop_list I (side_after p ms m agreed.exits) b settled in
       let u = common I p m s t proper related in
-      let one = tells I (side_after p ms m agreed.exits) u start_after list.0 (opens I p m s t proper related m.forth) b e list.1 in
+      let one = return_of_stop I (side_after p ms m agreed.exits) u start_after list.0 (opens I p m s t proper related m.forth) b e list.1 in
       let other = (agreed.agree I u (common_state I p m s t proper related) list.0).1 one in
-      let next = told I (side_before p ms m agreed.exits) u start_before list.0 (opens I p m s t proper related m.back) other in
+      let next = stop_of_return I (side_before p ms m agreed.exits) u start_before list.0 (opens I p m s t proper related m.back) other in
       (next.0, next.1, stops_flipped (AreRelatedAt I p ms) next.0 b (alike list.0 next.0 b next.1 e next.2 list.1))

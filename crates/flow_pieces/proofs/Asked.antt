@@ -1,4 +1,4 @@
--- Pieces that are asked are enough: states are related up to variables that are not live.
+-- Agreed pieces are enough: states are related up to variables that are not live.
 use Rattle.std.proofs.Common.{◌⊎◌, inl, inr, List, refl, sym, ◌∙◌, ap, subst}
 use Rattle.kat_model.specs.Members.{Has}
 use Rattle.flow_model.specs.Sorts.{State}

@@ -16,7 +16,7 @@ Relation = ℕ → ℕ → State → State → Type 0
 abbrev pub Flipped : Relation → Relation
 Flipped R k l s t = R l k t s
 
--- two runs end alike: they return the same values, or come to matched blocks in related states
+-- two runs end alike: they return the same values, or reach matched blocks in related states
 abbrev pub AreStops : Relation → Stop → Stop → Type 0
 AreStops R (came_to k s) (came_to l t) = R k l s t
 AreStops R (returned vs) (returned ws) = vs ≡ ws

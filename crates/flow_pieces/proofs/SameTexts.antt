@@ -15,7 +15,7 @@ use Rattle.flow_pieces.proofs.SortedStates.{IsStateAt, stop_state}
 use Rattle.flow_pieces.proofs.Enough.{plainly_related}
 
 module _ (I : Interpretation) (p : Pair) (ms : List Match) where
-  -- both runs come to plainly matched blocks in one state, return the same values, or end alike
+  -- both runs reach plainly matched blocks in one state, return the same values, or end alike
   abbrev SameStops : Stop → Stop → Type 0
   SameStops (came_to k s) (came_to l t) = (s ≡ t) × Has ms (plain_match k l)
   SameStops (returned vs) (returned ws) = vs ≡ ws

@@ -1,4 +1,4 @@
--- A run of the graph of a side goes through the opening and the blocks of the piece, and returns what its stop tells.
+-- A run of the graph of a side is its opening and a run of the piece, and the stop of the latter gives what it returns.
 use Rattle.std.proofs.Common.{◌≡◌, ◌⊎◌, inl, inr, ⊎_elim, ℕ, zero, suc, ◌%◌, ◌<◌, ◌≤◌, Bool, true, false, List, [], ◌∷◌, ◌++◌, length, map, Option, Some, None, slice_get, if◌then◌else◌, eq-or-lt_of_le, refl, sym, ◌∙◌, ap, subst, arith}
 use Rattle.std.proofs.lemmas.List.{length-append, append_assoc}
 use Rattle.kat_model.specs.Members.{Has}
@@ -26,10 +26,10 @@ taken I s [] otherwise = otherwise
 taken I s (leave ∷ leaves) otherwise = if holds I s leave.condition then leave.results else taken I s leaves otherwise
 
 -- what the graph of a side returns where the run of the piece stops so
-abbrev pub Tells : Interpretation → Side → Stop → List ℕ → Type 0
-Tells I side (came_to k s) vs = map (value I s) (taken I s (side.leaves k) side.otherwise) ≡ vs
-Tells I side (returned ws) vs = ((0 % modulus W32) ∷ ws) ≡ vs
-Tells I side stop vs = ⊥
+abbrev pub Gives : Interpretation → Side → Stop → List ℕ → Type 0
+Gives I side (came_to k s) vs = map (value I s) (taken I s (side.leaves k) side.otherwise) ≡ vs
+Gives I side (returned ws) vs = ((0 % modulus W32) ∷ ws) ≡ vs
+Gives I side stop vs = ⊥
 
 abbrev is_arrival : Option Point → Bool
 is_arrival (Some (arrival k i)) = true
@@ -178,59 +178,59 @@ module _ (I : Interpretation) (side : Side) where
       let same : runs.returned vs ≡ runs.returned ws = sym a ∙ (ends_alike I (side_graph side) n m l s (subst IsEnd (sym a) tt) (subst IsEnd (sym b) tt) ∙ b) in
       cc
 
-  tell : (n : ℕ) (vs : List ℕ) (a b : Stop) → Moves a b → GoesOnFrom I (side_graph side) is_place n vs b → Tells I side a vs
-  tell n vs (came_to k s) (came_to l t) (h, at, same) (place, m, lt, ran) =
+  given_by : (n : ℕ) (vs : List ℕ) (a b : Stop) → Moves a b → GoesOnFrom I (side_graph side) is_place n vs b → Gives I side a vs
+  given_by n vs (came_to k s) (came_to l t) (h, at, same) (place, m, lt, ran) =
       let w = arrival_returns k h s in
       one_end (map (value I s) (taken I s (side.leaves k) side.otherwise)) vs (number_of side (arrival k 0)) w.0 m s w.1
       (subst (λ x. run_from I (side_graph side) m x s ≡ runs.returned vs) at (subst (λ u. run_from I (side_graph side) m l u ≡ runs.returned vs) (sym same) ran))
-  tell n vs (came_to k s) (returned ws) h g = absurd h
-  tell n vs (came_to k s) stuck h g = absurd h
-  tell n vs (came_to k s) unfinished h g = absurd h
-  tell n vs (returned us) (came_to l t) h g = absurd h
-  tell n vs (returned us) (returned ws) h g = sym h ∙ g
-  tell n vs (returned us) stuck h g = absurd h
-  tell n vs (returned us) unfinished h g = absurd h
-  tell n vs stuck (came_to l t) h g = absurd h
-  tell n vs stuck (returned ws) h g = absurd h
-  tell n vs stuck stuck h g = absurd g
-  tell n vs stuck unfinished h g = absurd h
-  tell n vs unfinished (came_to l t) h g = absurd h
-  tell n vs unfinished (returned ws) h g = absurd h
-  tell n vs unfinished stuck h g = absurd h
-  tell n vs unfinished unfinished h g = absurd g
+  given_by n vs (came_to k s) (returned ws) h g = absurd h
+  given_by n vs (came_to k s) stuck h g = absurd h
+  given_by n vs (came_to k s) unfinished h g = absurd h
+  given_by n vs (returned us) (came_to l t) h g = absurd h
+  given_by n vs (returned us) (returned ws) h g = sym h ∙ g
+  given_by n vs (returned us) stuck h g = absurd h
+  given_by n vs (returned us) unfinished h g = absurd h
+  given_by n vs stuck (came_to l t) h g = absurd h
+  given_by n vs stuck (returned ws) h g = absurd h
+  given_by n vs stuck stuck h g = absurd g
+  given_by n vs stuck unfinished h g = absurd h
+  given_by n vs unfinished (came_to l t) h g = absurd h
+  given_by n vs unfinished (returned ws) h g = absurd h
+  given_by n vs unfinished stuck h g = absurd h
+  given_by n vs unfinished unfinished h g = absurd g
 
-  resume : (vs : List ℕ) (a b : Stop) → Moves a b → Tells I side a vs → Resumes I (side_graph side) is_place vs b
-  resume vs (came_to k s) (came_to l t) (h, at, same) told =
+  resume : (vs : List ℕ) (a b : Stop) → Moves a b → Gives I side a vs → Resumes I (side_graph side) is_place vs b
+  resume vs (came_to k s) (came_to l t) (h, at, same) given =
       let w = arrival_returns k h s in (
         w.0,
         subst (λ x. run_from I (side_graph side) w.0 x t ≡ runs.returned vs) (sym at)
-            (subst (λ u. run_from I (side_graph side) w.0 (number_of side (arrival k 0)) u ≡ runs.returned vs) same (w.1 ∙ ap runs.returned told)),
+            (subst (λ u. run_from I (side_graph side) w.0 (number_of side (arrival k 0)) u ≡ runs.returned vs) same (w.1 ∙ ap runs.returned given)),
       )
-  resume vs (came_to k s) (returned ws) h told = absurd h
-  resume vs (came_to k s) stuck h told = absurd h
-  resume vs (came_to k s) unfinished h told = absurd h
-  resume vs (returned us) (came_to l t) h told = absurd h
-  resume vs (returned us) (returned ws) h told = h ∙ told
-  resume vs (returned us) stuck h told = absurd h
-  resume vs (returned us) unfinished h told = absurd h
-  resume vs stuck b h told = absurd told
-  resume vs unfinished b h told = absurd told
+  resume vs (came_to k s) (returned ws) h given = absurd h
+  resume vs (came_to k s) stuck h given = absurd h
+  resume vs (came_to k s) unfinished h given = absurd h
+  resume vs (returned us) (came_to l t) h given = absurd h
+  resume vs (returned us) (returned ws) h given = h ∙ given
+  resume vs (returned us) stuck h given = absurd h
+  resume vs (returned us) unfinished h given = absurd h
+  resume vs stuck b h given = absurd given
+  resume vs unfinished b h given = absurd given
 
-  -- a return of the graph of the side is told by a stop of the piece
-  pub told : (u s : State) (vs : List ℕ) → after_statements I u side.opening ≡ Some s → Returns I (side_graph side) u vs → (a : Stop) × Ends I side.graph side.is_matched side.first s a × Tells I side a vs
-  told u s vs e (zero, r) = absurd cc
-  told u s vs e (suc n, r) =
+  -- each return of the graph of the side is given by a stop of the piece
+  pub stop_of_return : (u s : State) (vs : List ℕ) → after_statements I u side.opening ≡ Some s → Returns I (side_graph side) u vs → (a : Stop) × Ends I side.graph side.is_matched side.first s a × Gives I side a vs
+  stop_of_return u s vs e (zero, r) = absurd cc
+  stop_of_return u s vs e (suc n, r) =
       let ran : run_from I (side_graph side) n (number_of side (inside side.first)) s ≡ runs.returned vs = sym (ap (jumped_after I (run_from I (side_graph side) n) (goto (number_of side (inside side.first)))) e) ∙ r in (
         stop_from I side.graph side.is_matched n side.first s,
         (n, refl),
-        tell n vs (stop_from I side.graph side.is_matched n side.first s) (stop_from I (side_graph side) is_place n (number_of side (inside side.first)) s)
+        given_by n vs (stop_from I side.graph side.is_matched n side.first s) (stop_from I (side_graph side) is_place n (number_of side (inside side.first)) s)
             (inside_moves n side.first (first_inside side.graph side.is_matched side.first) s)
             (stops_on I (side_graph side) is_place n vs (number_of side (inside side.first)) s ran),
       )
 
-  -- a stop of the piece tells a return of the graph of the side
-  pub tells : (u s : State) (vs : List ℕ) → after_statements I u side.opening ≡ Some s → (a : Stop) → Ends I side.graph side.is_matched side.first s a → Tells I side a vs → Returns I (side_graph side) u vs
-  tells u s vs e a (n, r) told =
+  -- each stop of the piece gives a return of the graph of the side
+  pub return_of_stop : (u s : State) (vs : List ℕ) → after_statements I u side.opening ≡ Some s → (a : Stop) → Ends I side.graph side.is_matched side.first s a → Gives I side a vs → Returns I (side_graph side) u vs
+  return_of_stop u s vs e a (n, r) given =
       let moves = subst (λ b. Moves b (stop_from I (side_graph side) is_place n (number_of side (inside side.first)) s)) r (inside_moves n side.first (first_inside side.graph side.is_matched side.first) s) in
-      let on = resumed I (side_graph side) is_place n vs (number_of side (inside side.first)) s (resume vs a (stop_from I (side_graph side) is_place n (number_of side (inside side.first)) s) moves told) in
+      let on = resumed I (side_graph side) is_place n vs (number_of side (inside side.first)) s (resume vs a (stop_from I (side_graph side) is_place n (number_of side (inside side.first)) s) moves given) in
       (suc on.0, ap (jumped_after I (run_from I (side_graph side) on.0) (goto (number_of side (inside side.first)))) e ∙ on.1)

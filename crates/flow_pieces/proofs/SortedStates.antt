@@ -15,7 +15,7 @@ use Rattle.flow_forms.proofs.EquationValues.{positive}
 use Rattle.flow_ways.specs.Sorted.{AreAssigned, AreSortedStatements, IsSortedBlock, IsSortedGraph}
 use Rattle.flow_ways.specs.Stops.{Stop, came_to, jump_stop_if, block_stop, stop_from}
 
--- where the run comes to a block, it has a state there
+-- where the run reaches a block, it has a state there
 abbrev pub IsStateAt : List Sort → Stop → Type 0
 IsStateAt sorts (came_to k s) = IsState sorts s
 IsStateAt sorts stop = Unit {0}

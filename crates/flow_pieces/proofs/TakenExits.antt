@@ -21,7 +21,7 @@ use Rattle.flow_pieces.specs.Pieces.{AreRelatedAt}
 use Rattle.flow_pieces.specs.PieceGraphs.{Leave, Exit, equations_hold, shared_variables, live_equations, results_before, results_after, lost_before_mark, lost_after_mark, leaves_from, has_block, leave_before, leave_after, side_before, side_after}
 use Rattle.flow_pieces.specs.AskedPieces.{matched_at, IsExit}
 use Rattle.flow_pieces.proofs.Followed.{AreStops}
-use Rattle.flow_pieces.proofs.SideRuns.{taken, Tells}
+use Rattle.flow_pieces.proofs.SideRuns.{taken, Gives}
 use Rattle.flow_pieces.proofs.SortedStates.{IsStateAt}
 
 -- ---- the exit that is taken
@@ -205,19 +205,19 @@ module _ (I : Interpretation) (p : Pair) (ms : List Match) (m : Match) (exits : 
       let third : 3 + a.number ≡ 0 = sym (exit_number a.number a.exit a.numbered) ∙ marks in
       absurd (omega (arith, third))
 
-  -- stops that tell one list are alike
-  pub told_alike : (vs : List ℕ) (a b : Stop) → IsStateAt p.sorts a → IsStateAt p.sorts b → Tells I (side_before p ms m exits) a vs → Tells I (side_after p ms m exits) b vs → AreStops (AreRelatedAt I p ms) a b
-  told_alike vs (came_to k s) (came_to l t) i j h g =
+  -- stops that give one list are alike
+  pub given_alike : (vs : List ℕ) (a b : Stop) → IsStateAt p.sorts a → IsStateAt p.sorts b → Gives I (side_before p ms m exits) a vs → Gives I (side_after p ms m exits) b vs → AreStops (AreRelatedAt I p ms) a b
+  given_alike vs (came_to k s) (came_to l t) i j h g =
       left_alike k l s t (taken I s ((side_before p ms m exits).leaves k) (lost_before_mark ∷ [])) (taken I t ((side_after p ms m exits).leaves l) (lost_after_mark ∷ [])) i j
       (took I s leave_before (λ e. has_block e.rows k) (lost_before_mark ∷ []) 0 exits) (took I t leave_after (λ e. has_block e.columns l) (lost_after_mark ∷ []) 0 exits) (h ∙ sym g)
-  told_alike vs (came_to k s) (returned ws) i j h g =
+  given_alike vs (came_to k s) (returned ws) i j h g =
       absurd (no_return_before k s (taken I s ((side_before p ms m exits).leaves k) (lost_before_mark ∷ [])) ws (took I s leave_before (λ e. has_block e.rows k) (lost_before_mark ∷ []) 0 exits) (h ∙ sym g))
-  told_alike vs (came_to k s) stuck i j h g = absurd g
-  told_alike vs (came_to k s) unfinished i j h g = absurd g
-  told_alike vs (returned us) (came_to l t) i j h g =
+  given_alike vs (came_to k s) stuck i j h g = absurd g
+  given_alike vs (came_to k s) unfinished i j h g = absurd g
+  given_alike vs (returned us) (came_to l t) i j h g =
       absurd (no_return_after l t (taken I t ((side_after p ms m exits).leaves l) (lost_after_mark ∷ [])) us (took I t leave_after (λ e. has_block e.columns l) (lost_after_mark ∷ []) 0 exits) (g ∙ sym h))
-  told_alike vs (returned us) (returned ws) i j h g = tails_same (0 % modulus W32) (0 % modulus W32) us ws (h ∙ sym g)
-  told_alike vs (returned us) stuck i j h g = absurd g
-  told_alike vs (returned us) unfinished i j h g = absurd g
-  told_alike vs stuck b i j h g = absurd h
-  told_alike vs unfinished b i j h g = absurd h
+  given_alike vs (returned us) (returned ws) i j h g = tails_same (0 % modulus W32) (0 % modulus W32) us ws (h ∙ sym g)
+  given_alike vs (returned us) stuck i j h g = absurd g
+  given_alike vs (returned us) unfinished i j h g = absurd g
+  given_alike vs stuck b i j h g = absurd h
+  given_alike vs unfinished b i j h g = absurd h

@@ -1,5 +1,5 @@
 -- The graphs of a piece: a question about two graphs from one state. Each graph begins with the equations of its match,
--- follows its blocks to the next matched ones, and returns there what is to be compared.
+-- follows its blocks to the next matched ones, and returns there what is compared.
 use Rattle.std.specs.Prelude.{ℕ, suc, ◌+◌, Bool, true, false, ◌&&◌, nat_eq, List, [], ◌∷◌, ◌++◌, length, map, filter, flat_map, position, unwrap_or, Option, Some, None, slice_get, if◌then◌else◌}
 use Rattle.std.specs.List.{list_any, range_with_len}
 use Rattle.kat_model.specs.UniqueRows.{with_all_new}
