@@ -11,7 +11,7 @@ use Rattle.flow_ways.specs.Stops.{Stop, came_to, returned, stuck, unfinished, Is
 use Rattle.flow_pieces.specs.Matches.{Match, Relates}
 use Rattle.flow_pieces.specs.Pieces.{Ends, is_matched_before, is_matched_after, AreRelatedAt}
 use Rattle.flow_pieces.specs.PieceGraphs.{Side, side_before, side_after}
-use Rattle.flow_pieces.specs.AskedPieces.{IsProper, IsAgreed}
+use Rattle.flow_pieces.specs.PieceQuestions.{IsProper, IsAgreed}
 use Rattle.flow_pieces.proofs.Followed.{Flipped, AreStops, stops_flipped, Follows}
 use Rattle.flow_pieces.proofs.SideRuns.{taken, Gives, stop_of_return, return_of_stop}
 use Rattle.flow_pieces.proofs.SortedStates.{IsStateAt, stop_state}

@@ -17,7 +17,7 @@ use Rattle.flow_ways.specs.Sorted.{AreAssigned}
 use Rattle.flow_ways.proofs.LiveRuns.{length-with_values}
 use Rattle.flow_pieces.specs.Matches.{Equation, Match, gives, equations_read, is_shared, Relates}
 use Rattle.flow_pieces.specs.PieceGraphs.{equations_hold, assigned, known_at}
-use Rattle.flow_pieces.specs.AskedPieces.{IsOfBack, IsProper, AreSortedEquations}
+use Rattle.flow_pieces.specs.PieceQuestions.{IsOfBack, IsProper, AreSortedEquations}
 use Rattle.flow_pieces.proofs.Readings.{value_agrees, holds_agrees}
 use Rattle.flow_pieces.proofs.SortedStates.{state_length, assigned_state}
 use Rattle.flow_pieces.proofs.LiveRelations.{AgreeAt}

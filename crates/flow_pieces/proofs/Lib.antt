@@ -10,5 +10,5 @@ pub mod LiveRelations
 pub mod CommonStates
 pub mod SameTexts
 pub mod AgreedPieces
-pub mod Asked
+pub mod QuestionsEnough
 pub mod PieceExamples

@@ -6,7 +6,7 @@ use Rattle.flow_model.specs.Agreement.{AgreeAlways}
 use Rattle.flow_pieces.specs.Matches.{Match, entry_match}
 use Rattle.flow_ways.specs.Sorted.{IsSortedGraph}
 use Rattle.flow_pieces.specs.Pieces.{PieceHolds}
-use Rattle.flow_pieces.specs.AskedPieces.{IsProper, IsAgreed, HasSameText}
+use Rattle.flow_pieces.specs.PieceQuestions.{IsProper, IsAgreed, HasSameText}
 
 -- where the entries are matched and all pieces hold, the graphs always return the same
 abbrev pub PiecesAreEnough : Type 0

@@ -1,5 +1,5 @@
 pub mod Matches
 pub mod Pieces
 pub mod PieceGraphs
-pub mod AskedPieces
+pub mod PieceQuestions
 pub mod Laws

@@ -8,7 +8,7 @@ use Rattle.flow_ways.specs.Sorted.{IsSortedGraph}
 use Rattle.flow_ways.specs.Stops.{Stop}
 use Rattle.flow_pieces.specs.Matches.{Match, is_shared, Relates, entry_match}
 use Rattle.flow_pieces.specs.Pieces.{is_matched_before, is_matched_after, AreRelatedAt}
-use Rattle.flow_pieces.specs.AskedPieces.{IsProper, IsAgreed, HasSameText}
+use Rattle.flow_pieces.specs.PieceQuestions.{IsProper, IsAgreed, HasSameText}
 use Rattle.flow_pieces.specs.Laws.{AgreedPiecesAreEnough}
 use Rattle.flow_pieces.proofs.Followed.{Relation, Flipped, AreStops, stops_more, Follows, FollowsOn, followed}
 use Rattle.flow_pieces.proofs.SortedStates.{state_length}
@@ -89,8 +89,8 @@ module _ (I : Interpretation) (p : Pair) (ms : List Match) where
           (subst (λ x. Follows I p.after (is_matched_after ms) p.before (is_matched_before ms) (Flipped Related) x m.before t s) at_l
           (back_at m u v s t member related (subst (λ x. AgreeAt p.before x u s) (sym at_k) e) (subst (λ x. AgreeAt p.after x v t) (sym at_l) q)))
 
-pub asked : AgreedPiecesAreEnough
-asked p ms first second entry pieces I s is vs = (
+pub questions_enough : AgreedPiecesAreEnough
+questions_enough p ms first second entry pieces I s is vs = (
   followed I p.before (is_matched_before ms) p.after (is_matched_after ms) (LiveRelated p.before p.after (AreRelatedAt I p ms)) (forth I p ms first second pieces) 0 0 s s vs at_entry,
   followed I p.after (is_matched_after ms) p.before (is_matched_before ms) (Flipped (LiveRelated p.before p.after (AreRelatedAt I p ms))) (back I p ms first second pieces) 0 0 s s vs at_entry,
 )
