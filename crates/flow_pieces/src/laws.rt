@@ -8,7 +8,7 @@ pub fn pieces_are_enough()
     ensures { PiecesAreEnough }
 {}
 
-/// Pieces may be asked one by one, as questions of two flow graphs. If the entries of two graphs are matched, and the two
+/// Each piece may be a question of two flow graphs of its own. If the entries of two graphs are matched, and the two
 /// graphs of each piece always return the same, or both sides have the same text up to the next matched blocks, both
 /// graphs always return the same.
 pub fn agreed_pieces_are_enough()
