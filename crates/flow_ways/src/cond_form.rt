@@ -217,7 +217,7 @@ fn with_cond_node(
 }
 
 // Returns the conditions, one after the other.
-#[cycle(evaluated)]
+#[tactic(auto, using(crate::proofs::CondForms::over_all, crate::proofs::CondForms::over_rest, crate::proofs::CondForms::fits_rest, crate::proofs::CondForms::unfit_last, crate::proofs::CondForms::over_none, crate::proofs::CondForms::fits_none))]
 fn evaluated(
     alloc: Global,
     sorts: &[Sort],
@@ -228,28 +228,13 @@ fn evaluated(
     ensures fits { IfOk result (λ _. cond_nodes_fit sorts.now (map form_tree forms.now) nodes.now ≡ true) }
     ensures refused { IfErr result (λ e. e ≡ FormFault.TooLarge → cond_nodes_fit sorts.now (map form_tree forms.now) nodes.now ≡ false) }
 {
-    match nodes {
-        [] => Ok(CondStack::Empty),
-        [node, rest @ ..] => evaluated_from(alloc, sorts, forms, node, rest),
+    let mut stack = CondStack::Empty;
+    let mut rest = nodes;
+    'nodes: while let Some((node, _)) = rest.split_last() {
+        stack = with_cond_node(alloc, sorts, forms, node, stack)?;
+        rest = &rest[..rest.len() - 1];
     }
-}
-
-// Returns the conditions that begin with a node.
-#[cycle(evaluated)]
-#[tactic(auto, using(crate::proofs::CondForms::forms_with_part, crate::proofs::CondForms::no_second))]
-fn evaluated_from(
-    alloc: Global,
-    sorts: &[Sort],
-    forms: &[FlowForm],
-    node: &CondNode,
-    rest: &[CondNode],
-) -> Result<CondStack, FormFault>
-    ensures made { IfOk result (λ s. stack_conds s ≡ map (cond_form sorts.now (map form_tree forms.now)) (conds_of (cond_part node.now ∷ map cond_part rest.now))) }
-    ensures fits { IfOk result (λ _. cond_nodes_fit sorts.now (map form_tree forms.now) (node.now ∷ rest.now) ≡ true) }
-    ensures refused { IfErr result (λ e. e ≡ FormFault.TooLarge → cond_nodes_fit sorts.now (map form_tree forms.now) (node.now ∷ rest.now) ≡ false) }
-{
-    let stack = evaluated(alloc, sorts, forms, rest)?;
-    with_cond_node(alloc, sorts, forms, node, stack)
+    Ok(stack)
 }
 
 /// Returns the condition of forms that a condition is, with the sorts and the forms of the variables. Fails with

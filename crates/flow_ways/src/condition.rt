@@ -17,15 +17,17 @@ pub enum FlowCond {
     Either(Box<FlowCond>, Box<FlowCond>),
 }
 
-// Explicit, so that it is proved once and not at each end of each function that owns a condition.
+// A loop, since a row of operands is a long chain.
 impl Drop for FlowCond {
-    fn drop(self) {
-        match self {
-            FlowCond::Constantly(_holds) => {}
-            FlowCond::Atom(_comparison) => {}
-            FlowCond::Negation(_cond) => {}
-            FlowCond::Both(_left, _right) => {}
-            FlowCond::Either(_left, _right) => {}
+    fn drop(mut self) {
+        loop {
+            match self {
+                FlowCond::Constantly(_holds) => return,
+                FlowCond::Atom(_comparison) => return,
+                FlowCond::Negation(cond) => self = Box::into_inner(cond),
+                FlowCond::Both(_left, right) => self = Box::into_inner(right),
+                FlowCond::Either(_left, right) => self = Box::into_inner(right),
+            }
         }
     }
 }
@@ -74,12 +76,16 @@ pub(crate) struct Known {
     pub holds: bool,
 }
 
+// Not inlined, so that what goes down a row of operands has a small frame.
+#[inline(never)]
 fn new_negation(alloc: Global, cond: FlowCond) -> Result<FlowCond, NoMemory>
     ensures { IfOk result (λ c. cond_tree c ≡ negation (cond_tree cond)) }
 {
     Ok(FlowCond::Negation(Box::new(alloc, cond)?))
 }
 
+// Not inlined, so that what goes down a row of operands has a small frame.
+#[inline(never)]
 fn new_both(alloc: Global, left: FlowCond, right: FlowCond) -> Result<FlowCond, NoMemory>
     ensures { IfOk result (λ c. cond_tree c ≡ both (cond_tree left) (cond_tree right)) }
 {
@@ -88,6 +94,8 @@ fn new_both(alloc: Global, left: FlowCond, right: FlowCond) -> Result<FlowCond, 
     Ok(FlowCond::Both(left, right))
 }
 
+// Not inlined, so that what goes down a row of operands has a small frame.
+#[inline(never)]
 fn new_either(alloc: Global, left: FlowCond, right: FlowCond) -> Result<FlowCond, NoMemory>
     ensures { IfOk result (λ c. cond_tree c ≡ either (cond_tree left) (cond_tree right)) }
 {
@@ -200,6 +208,8 @@ fn value_known_from(known: &Known, rest: &[Known], comparison: &FlowComparison) 
     value_known(rest, comparison)
 }
 
+// Not inlined, so that what goes down a row of operands has a small frame.
+#[inline(never)]
 fn known_or(
     alloc: Global,
     comparison: &FlowComparison,

@@ -208,8 +208,7 @@ fn run_statement(
 
 /// Runs statements. Returns whether the course goes on, which it does not if an assertion is known not to hold. Fails
 /// with `TooLarge` exactly if a form is too large.
-#[cycle(run_statements)]
-#[tactic(auto, using(crate::proofs::CourseLists::take_own))]
+#[tactic(auto, using(crate::proofs::CourseLists::take_own, crate::proofs::CourseLists::still_first, crate::proofs::Courses::still_after, crate::proofs::Courses::still_fits, crate::proofs::Courses::stops_after, crate::proofs::Courses::stops_fitting, crate::proofs::Courses::left_unfit, crate::proofs::Courses::none_left, crate::proofs::Courses::none_unfit))]
 pub(crate) fn run_statements(
     alloc: Global,
     sorts: &[Sort],
@@ -221,29 +220,13 @@ pub(crate) fn run_statements(
     ensures fits { OnOk result (statements_fit sorts.now statements.now (course_tree symbolic_run.old) ≡ true) }
     ensures refused { IfErr result (λ e. e ≡ FormFault.TooLarge → statements_fit sorts.now statements.now (course_tree symbolic_run.old) ≡ false) }
 {
-    match statements {
-        [] => Ok(true),
-        [statement, rest @ ..] => run_statements_from(alloc, sorts, statement, rest, symbolic_run),
+    let mut rest = statements;
+    'statements: while let Some((statement, _)) = rest.split_first() {
+        let goes = run_statement(alloc, sorts, statement, symbolic_run)?;
+        if !goes {
+            return Ok(false);
+        }
+        rest = &rest[1..];
     }
-}
-
-#[cycle(run_statements)]
-#[tactic(auto, using(crate::proofs::Courses::first_stops, crate::proofs::Courses::first_goes, crate::proofs::Courses::stops_fit, crate::proofs::Courses::goes_fit, crate::proofs::Courses::first_unfit, crate::proofs::Courses::rest_unfit, crate::proofs::CourseLists::still_first))]
-fn run_statements_from(
-    alloc: Global,
-    sorts: &[Sort],
-    statement: &Statement,
-    rest: &[Statement],
-    symbolic_run: &mut SymbolicRun,
-) -> Result<bool, FormFault>
-    ensures after { IfOk result (λ goes. if_goes goes (course_tree symbolic_run.new) ≡ after_statements sorts.now (statement_of statement.now ∷ map statement_of rest.now) (course_tree symbolic_run.old)) }
-    ensures grown { OnOk result (IsGrown (course_tree symbolic_run.old) (course_tree symbolic_run.new)) }
-    ensures fits { OnOk result (statements_fit sorts.now (statement.now ∷ rest.now) (course_tree symbolic_run.old) ≡ true) }
-    ensures refused { IfErr result (λ e. e ≡ FormFault.TooLarge → statements_fit sorts.now (statement.now ∷ rest.now) (course_tree symbolic_run.old) ≡ false) }
-{
-    let goes = run_statement(alloc, sorts, statement, symbolic_run)?;
-    if !goes {
-        return Ok(false);
-    }
-    run_statements(alloc, sorts, rest, symbolic_run)
+    Ok(true)
 }
