@@ -3,3 +3,4 @@ pub mod Numbers
 pub mod EdgeViews
 pub mod EdgeTables
 pub mod GraphRows
+pub mod Working

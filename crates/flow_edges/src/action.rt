@@ -7,6 +7,7 @@ ghost use Rattle.flow_ways.specs.ActionTrees.{set_tree};
 ghost use Rattle.flow_ways.specs.WayTrees.{sorted_form};
 ghost use Rattle.flow_problem.specs.Edges.{given, is_same_set, are_same_sets, are_same_results, sets_nothing, is_idle as is_idle_action, is_same_action};
 ghost use Rattle.flow_edges.specs.EdgeViews.{flow_action};
+ghost use Rattle.flow_edges.specs.Working.Views.{is_one_result};
 
 use flow_forms::{FlowForm, same_form};
 use flow_model::Sort;
@@ -149,7 +150,7 @@ fn same_sets(left: &[Option<FlowForm>], right: &[Option<FlowForm>]) -> bool
 }
 
 fn same_result(left: &SortedForm, right: &SortedForm) -> bool
-    ensures { result ≡ (is_eq (sort_cmp (sorted_form left.now).0 (sorted_form right.now).0) && is_eq (form_cmp (sorted_form left.now).1 (sorted_form right.now).1)) }
+    ensures { result ≡ is_one_result left.now right.now }
 {
     is_one_sort(left.sort, right.sort) && is_one_form(&left.form, &right.form)
 }

@@ -1,12 +1,14 @@
 //! The actions of flow graphs: those of their edges that change something.
-ghost use Rattle.std.specs.Prelude.{◌≡◌, ◌<◌, ◌≤◌, [], ◌++◌, map, length, vec_len, IfOk, IfErr, OnOk};
+ghost use Rattle.std.specs.Prelude.{◌≡◌, ◌<◌, ◌≤◌, [], ◌++◌, map, length, vec_len, IfOk, IfErr};
 ghost use Rattle.std.specs.List.{flat_map};
 ghost use Rattle.kat_model.specs.declared.limits.TheConstants.{MAX_ACTIONS};
-ghost use Rattle.kat_model.specs.UniqueRows.{with_new_within, with_all_new, with_all_new_within};
+ghost use Rattle.kat_model.specs.UniqueRows.{with_all_new};
 ghost use Rattle.flow_problem.specs.Edges.{is_same_action};
 ghost use Rattle.flow_problem.specs.EdgeTerms.{edge_actions};
 ghost use Rattle.flow_edges.specs.EdgeViews.{flow_action};
 ghost use Rattle.flow_edges.specs.GraphRows.{row_edges};
+ghost use Rattle.flow_edges.specs.Working.Views.{MakesList};
+ghost use Rattle.flow_edges.specs.Working.Tables.{AddsAction, first_actions};
 
 use crate::action::{FlowAction, is_idle};
 use crate::edge::FlowEdge;
@@ -22,7 +24,7 @@ fn add_action(
     action: &FlowAction,
     rows: &mut Vec<FlowAction>,
 ) -> Result<(), NoMemory>
-    ensures { OnOk result (map flow_action rows.new.items ≡ with_new_within MAX_ACTIONS is_same_action (map flow_action rows.old.items) (flow_action action.now)) }
+    ensures { AddsAction result rows.old rows.new (flow_action action.now) }
 {
     if is_left_out(rows, MAX_ACTIONS, action) {
         return Ok(());
@@ -62,7 +64,7 @@ fn first_rows(
     before: &[Vec<FlowEdge>],
     after: &[Vec<FlowEdge>],
 ) -> Result<Vec<FlowAction>, NoMemory>
-    ensures { IfOk result (λ rows. map flow_action rows.items ≡ with_all_new_within MAX_ACTIONS is_same_action [] (flat_map edge_actions (flat_map row_edges before.now ++ flat_map row_edges after.now))) }
+    ensures { MakesList flow_action result (first_actions before.now after.now) }
 {
     let mut rows = Vec::new(alloc);
     add_graphs(alloc, before, after, &mut rows)?;

@@ -1,12 +1,14 @@
 //! The tests of flow graphs: the comparisons of their edges.
-ghost use Rattle.std.specs.Prelude.{◌≡◌, ◌<◌, ◌≤◌, [], ◌++◌, map, length, vec_len, IfOk, IfErr, OnOk};
+ghost use Rattle.std.specs.Prelude.{◌≡◌, ◌<◌, ◌≤◌, [], ◌∷◌, ◌++◌, map, length, vec_len, IfOk, IfErr};
 ghost use Rattle.std.specs.List.{flat_map};
 ghost use Rattle.kat_model.specs.declared.limits.TheConstants.{MAX_TESTS};
 ghost use Rattle.flow_forms.specs.Comparisons.{comparison_tree, is_same_comparison};
 ghost use Rattle.flow_ways.specs.CondTrees.{cond_tree};
-ghost use Rattle.kat_model.specs.UniqueRows.{with_new_within, with_all_new, with_all_new_within};
+ghost use Rattle.kat_model.specs.UniqueRows.{with_all_new};
 ghost use Rattle.flow_problem.specs.EdgeTerms.{comparisons_of, edge_comparisons};
 ghost use Rattle.flow_edges.specs.GraphRows.{row_edges};
+ghost use Rattle.flow_edges.specs.Working.Views.{MakesList};
+ghost use Rattle.flow_edges.specs.Working.Tables.{AddsComparison, AddsComparisons, comparisons_in, first_comparisons};
 
 use crate::edge::FlowEdge;
 use crate::edge_table::{EdgeTable, add_graphs};
@@ -23,7 +25,7 @@ fn add_comparison(
     comparison: &FlowComparison,
     rows: &mut Vec<FlowComparison>,
 ) -> Result<(), NoMemory>
-    ensures { OnOk result (map comparison_tree rows.new.items ≡ with_new_within MAX_TESTS is_same_comparison (map comparison_tree rows.old.items) (comparison_tree comparison.now)) }
+    ensures { AddsComparison result rows.old rows.new (comparison_tree comparison.now) }
 {
     if is_left_out(rows, MAX_TESTS, comparison) {
         return Ok(());
@@ -35,7 +37,7 @@ fn add_comparison(
 // Adds the comparisons of a condition.
 #[tactic(auto, using(crate::proofs::TableRows::first_then))]
 fn add_cond(alloc: Global, cond: &FlowCond, rows: &mut Vec<FlowComparison>) -> Result<(), NoMemory>
-    ensures { OnOk result (map comparison_tree rows.new.items ≡ with_all_new_within MAX_TESTS is_same_comparison (map comparison_tree rows.old.items) (comparisons_of (cond_tree cond.now))) }
+    ensures { AddsComparisons result rows.old rows.new (comparisons_of (cond_tree cond.now)) }
 {
     match cond {
         FlowCond::Constantly(_) => Ok(()),
@@ -58,7 +60,7 @@ fn add_conds(
     conds: &[FlowCond],
     rows: &mut Vec<FlowComparison>,
 ) -> Result<(), NoMemory>
-    ensures { OnOk result (map comparison_tree rows.new.items ≡ with_all_new_within MAX_TESTS is_same_comparison (map comparison_tree rows.old.items) (flat_map comparisons_of (map cond_tree conds.now))) }
+    ensures { AddsComparisons result rows.old rows.new (comparisons_in conds.now) }
 {
     match conds {
         [] => Ok(()),
@@ -73,7 +75,7 @@ fn add_conds_from(
     rest: &[FlowCond],
     rows: &mut Vec<FlowComparison>,
 ) -> Result<(), NoMemory>
-    ensures { OnOk result (map comparison_tree rows.new.items ≡ with_all_new_within MAX_TESTS is_same_comparison (map comparison_tree rows.old.items) (comparisons_of (cond_tree cond.now) ++ flat_map comparisons_of (map cond_tree rest.now))) }
+    ensures { AddsComparisons result rows.old rows.new (comparisons_in (cond.now ∷ rest.now)) }
 {
     add_cond(alloc, cond, rows)?;
     add_conds(alloc, rest, rows)
@@ -106,7 +108,7 @@ fn first_rows(
     before: &[Vec<FlowEdge>],
     after: &[Vec<FlowEdge>],
 ) -> Result<Vec<FlowComparison>, NoMemory>
-    ensures { IfOk result (λ rows. map comparison_tree rows.items ≡ with_all_new_within MAX_TESTS is_same_comparison [] (flat_map edge_comparisons (flat_map row_edges before.now ++ flat_map row_edges after.now))) }
+    ensures { MakesList comparison_tree result (first_comparisons before.now after.now) }
 {
     let mut rows = Vec::new(alloc);
     add_graphs(alloc, before, after, &mut rows)?;

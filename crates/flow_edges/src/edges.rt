@@ -1,17 +1,16 @@
 //! The edges from a place, from its ways.
 ghost use Rattle.std.specs.Prelude.{◌≡◌, ◌<◌, ◌≤◌, [], true, false, map, slice_index_or, IfOk, IfErr};
 ghost use Rattle.flow_model.specs.Polish.{graph_of};
-ghost use Rattle.flow_forms.specs.Forms.{form_tree};
-ghost use Rattle.flow_ways.specs.Actions.{action_of as action_for};
 ghost use Rattle.flow_ways.specs.Ways.{ways as ways_of};
-ghost use Rattle.flow_places.specs.Tables.{noted};
 ghost use Rattle.flow_ways.specs.ActionTrees.{set_tree};
 ghost use Rattle.flow_ways.specs.Outcomes.{all_ways};
 ghost use Rattle.flow_ways.specs.WayTrees.{end_tree, way_tree};
 ghost use Rattle.flow_ways.specs.declared.limits.TheConstants.{MAX_WAYS};
-ghost use Rattle.flow_problem.specs.Edges.{edge_of as edge_for, end_action as action_at_end, end_target as target_of_end};
+ghost use Rattle.flow_problem.specs.Edges.{edge_of as edge_for, end_target as target_of_end};
 ghost use Rattle.flow_edges.specs.EdgeViews.{flow_action, flow_edge};
 ghost use Rattle.flow_edges.specs.EdgeTables.{table_marks};
+ghost use Rattle.flow_edges.specs.Working.Views.{Makes, MakesList};
+ghost use Rattle.flow_edges.specs.Working.WayEdges.{assignment_at_block, edges_of_ways, action_of_end};
 
 use crate::action::FlowAction;
 use crate::edge::FlowEdge;
@@ -29,7 +28,7 @@ fn assignment_at(
     block: usize,
     forms: &[FlowForm],
 ) -> Result<Vec<Option<FlowForm>>, NoMemory>
-    ensures { IfOk result (λ list. map set_tree list.items ≡ action_for (λ x. noted live.now x block) sorts.now (map form_tree forms.now)) }
+    ensures { MakesList set_tree result (assignment_at_block sorts.now live.now block forms.now) }
 {
     match live.get(block) {
         Some(row) => action_of(alloc, row, sorts, forms),
@@ -44,7 +43,7 @@ fn end_action(
     live: &[Vec<bool>],
     end: WayEnd,
 ) -> Result<FlowAction, NoMemory>
-    ensures { IfOk result (λ a. flow_action a ≡ action_at_end (table_marks [] live.now) sorts.now (end_tree end)) }
+    ensures { Makes flow_action result (action_of_end sorts.now live.now end) }
 {
     match end {
         WayEnd::AtPlace(block, forms) => Ok(FlowAction::Assigned(assignment_at(
@@ -70,7 +69,7 @@ fn edge_of(
     live: &[Vec<bool>],
     way: Way,
 ) -> Result<FlowEdge, NoMemory>
-    ensures { IfOk result (λ e. flow_edge e ≡ edge_for (table_marks [] live.now) sorts.now (way_tree way)) }
+    ensures { Makes flow_edge result (edge_for (table_marks [] live.now) sorts.now (way_tree way)) }
 {
     let Way { tests, end } = way;
     let target = end_target(&end);
@@ -88,7 +87,7 @@ fn edges_of(
     live: &[Vec<bool>],
     list: Vec<Way>,
 ) -> Result<Vec<FlowEdge>, NoMemory>
-    ensures { IfOk result (λ edges. map flow_edge edges.items ≡ map (edge_for (table_marks [] live.now) sorts.now) (map way_tree list.items)) }
+    ensures { MakesList flow_edge result (edges_of_ways sorts.now live.now list) }
 {
     let mut edges = Vec::new(alloc);
     for way in list {

@@ -1,12 +1,14 @@
 //! The terms of graphs over their places.
-ghost use Rattle.std.specs.Prelude.{◌≡◌, ◌<◌, ◌-◌, ◌++◌, ◌∷◌, [], ℕ, List, map, filter, length, true, false, IfOk, IfErr, OnOk};
+ghost use Rattle.std.specs.Prelude.{◌≡◌, ◌<◌, ◌-◌, [], ℕ, List, map, length, true, false, IfOk, IfErr};
 ghost use Rattle.kat_model.specs.Trees.{kat_tree};
 ghost use Rattle.flow_forms.specs.Comparisons.{comparison_tree};
 ghost use Rattle.flow_problem.specs.Edges.{Edge};
-ghost use Rattle.flow_problem.specs.EdgeTerms.{edge_term as term_of, graph_term as term_of_graph};
+ghost use Rattle.flow_problem.specs.EdgeTerms.{graph_term as term_of_graph};
 ghost use Rattle.flow_places.specs.Rows.{row_tree, rows_fit};
 ghost use Rattle.flow_edges.specs.EdgeViews.{flow_action, flow_edge};
-ghost use Rattle.flow_edges.specs.GraphRows.{row_edges, leads_to as has_target, edges_term as term_of_edges, edge_row, edge_rows};
+ghost use Rattle.flow_edges.specs.GraphRows.{row_edges, leads_to as has_target, edge_rows};
+ghost use Rattle.flow_edges.specs.Working.Views.{AddsTerms, Makes, MakesList};
+ghost use Rattle.flow_edges.specs.Working.Terms.{terms_to, sum_to, row_from, rows_from, steps_from};
 
 use crate::action::FlowAction;
 use crate::edge::FlowEdge;
@@ -36,7 +38,7 @@ fn push_edge(
     target: Option<usize>,
     list: &mut Vec<Kat>,
 ) -> Result<(), NoMemory>
-    ensures { OnOk result (map kat_tree list.new.items ≡ map kat_tree list.old.items ++ map (term_of (map comparison_tree tests.now) (map flow_action actions.now)) (filter (λ e. has_target target e.target) (flow_edge edge.now ∷ []))) }
+    ensures { AddsTerms result list.old list.new (terms_to target tests.now actions.now edge.now) }
 {
     if !leads_to(edge, target) {
         return Ok(());
@@ -53,7 +55,7 @@ fn edges_term(
     edges: &[FlowEdge],
     target: Option<usize>,
 ) -> Result<Kat, NoMemory>
-    ensures { IfOk result (λ e. kat_tree e ≡ term_of_edges (map comparison_tree tests.now) (map flow_action actions.now) (map flow_edge edges.now) target) }
+    ensures { Makes kat_tree result (sum_to target tests.now actions.now edges.now) }
 {
     let mut list = Vec::new(alloc);
     for edge in edges {
@@ -70,7 +72,7 @@ fn steps_of(
     places: &[usize],
     edges: &[FlowEdge],
 ) -> Result<Vec<Kat>, NoMemory>
-    ensures { IfOk result (λ steps. map kat_tree steps.items ≡ (edge_row (map comparison_tree tests.now) (map flow_action actions.now) places.now (map flow_edge edges.now)).steps) }
+    ensures { MakesList kat_tree result (steps_from tests.now actions.now places.now edges.now) }
 {
     let mut steps = Vec::new(alloc);
     for place in places.iter().rev() {
@@ -87,7 +89,7 @@ fn row_of(
     places: &[usize],
     edges: &[FlowEdge],
 ) -> Result<Row, NoMemory>
-    ensures { IfOk result (λ r. row_tree r ≡ edge_row (map comparison_tree tests.now) (map flow_action actions.now) places.now (map flow_edge edges.now)) }
+    ensures { Makes row_tree result (row_from tests.now actions.now places.now edges.now) }
 {
     let steps = steps_of(alloc, tests, actions, places, edges)?;
     let end = edges_term(alloc, tests, actions, edges, None)?;
@@ -102,7 +104,7 @@ fn rows_of(
     places: &[usize],
     list: &[Vec<FlowEdge>],
 ) -> Result<Vec<Row>, NoMemory>
-    ensures { IfOk result (λ rows. map row_tree rows.items ≡ edge_rows (map comparison_tree tests.now) (map flow_action actions.now) places.now (map row_edges list.now)) }
+    ensures { MakesList row_tree result (rows_from tests.now actions.now places.now list.now) }
 {
     let mut rows = Vec::new(alloc);
     for edges in list.iter().rev() {

@@ -1,13 +1,14 @@
 //! Edges split by tests of cells.
-ghost use Rattle.std.specs.Prelude.{◌≡◌, ◌≤◌, ◌<◌, ◌∷◌, ◌++◌, [], IfOk, IfErr, OnOk, map, length, Option, flat_map, option_map};
+ghost use Rattle.std.specs.Prelude.{◌≡◌, ◌≤◌, ◌<◌, ◌∷◌, [], IfOk, IfErr, map, length, Option};
 ghost use Rattle.flow_forms.specs.Comparisons.{comparison_tree};
 ghost use Rattle.flow_ways.specs.Conditions.{atom, negation};
 ghost use Rattle.flow_ways.specs.CondTrees.{cond_tree};
 ghost use Rattle.flow_edges.specs.EdgeViews.{flow_action, flow_edge};
 ghost use Rattle.flow_ways.specs.declared.limits.TheConstants.{MAX_WAYS as MOST};
-ghost use Rattle.flow_problem.specs.Splits.{cell_tests as tests_of, edge_where_equal, edge_where_other, split_edge as edges_split, split_edges as all_split};
-ghost use Rattle.flow_edges.specs.CellTests.{cell_test_tree};
-ghost use Rattle.flow_edges.specs.Numbers.{HasNumber, with_action, edges_known, edges_or_whole};
+ghost use Rattle.flow_problem.specs.Splits.{cell_tests as tests_of, split_edges as all_split};
+ghost use Rattle.flow_edges.specs.Numbers.{with_action};
+ghost use Rattle.flow_edges.specs.Working.Views.{AddsEdges, AddsConds, Makes, MakesList};
+ghost use Rattle.flow_edges.specs.Working.Splitting.{IsNumbered, edges_by, where_holds, where_fails, both_edges, edges_by_value, split_by_test, split_all, TooManyOnlyIf};
 
 mod cell;
 mod cell_test;
@@ -31,14 +32,14 @@ use std::alloc::Global;
 
 #[tactic(auto, using(flow_ways::proofs::CourseLists::map_pushed))]
 fn push_edge(list: &mut Vec<FlowEdge>, edge: FlowEdge) -> Result<(), NoMemory>
-    ensures { OnOk result (map flow_edge list.new.items ≡ map flow_edge list.old.items ++ flow_edge edge ∷ []) }
+    ensures { AddsEdges result list.old list.new (flow_edge edge ∷ []) }
 {
     append(list, edge)
 }
 
 #[tactic(auto, using(flow_ways::proofs::CourseLists::map_pushed))]
 fn push_test(list: &mut Vec<FlowCond>, test: FlowCond) -> Result<(), NoMemory>
-    ensures { OnOk result (map cond_tree list.new.items ≡ map cond_tree list.old.items ++ cond_tree test ∷ []) }
+    ensures { AddsConds result list.old list.new (cond_tree test ∷ []) }
 {
     append(list, test)
 }
@@ -58,7 +59,7 @@ fn where_equal(
     edge: &FlowEdge,
     action: FlowAction,
 ) -> Result<FlowEdge, NoMemory>
-    ensures { IfOk result (λ e. flow_edge e ≡ with_action (atom (comparison_tree comparison.now) ∷ []) (flow_action action) (flow_edge edge.now)) }
+    ensures { Makes flow_edge result (where_holds comparison.now action edge.now) }
 {
     let holds = FlowCond::Atom(comparison.copy(alloc)?);
     let mut tests = copy_conds(alloc, &edge.tests)?;
@@ -77,7 +78,7 @@ fn where_other(
     comparison: &FlowComparison,
     edge: FlowEdge,
 ) -> Result<FlowEdge, NoMemory>
-    ensures { IfOk result (λ e. flow_edge e ≡ edge_where_other (negation (atom (comparison_tree comparison.now)) ∷ []) (flow_edge edge)) }
+    ensures { Makes flow_edge result (where_fails comparison.now edge) }
 {
     let fails = opposite_of(alloc, comparison)?;
     let FlowEdge {
@@ -103,7 +104,7 @@ fn push_both(
     action: FlowAction,
     list: &mut Vec<FlowEdge>,
 ) -> Result<(), NoMemory>
-    ensures { OnOk result (map flow_edge list.new.items ≡ map flow_edge list.old.items ++ with_action (atom (comparison_tree comparison.now) ∷ []) (flow_action action) (flow_edge edge) ∷ edge_where_other (negation (atom (comparison_tree comparison.now)) ∷ []) (flow_edge edge) ∷ []) }
+    ensures { AddsEdges result list.old list.new (both_edges comparison.now action edge) }
 {
     let equal = where_equal(alloc, comparison, &edge, action)?;
     push_edge(list, equal)?;
@@ -133,7 +134,7 @@ fn push_known(
     action: FlowAction,
     list: &mut Vec<FlowEdge>,
 ) -> Result<(), NoMemory>
-    ensures { OnOk result (map flow_edge list.new.items ≡ map flow_edge list.old.items ++ edges_known (comparison_tree comparison.now) (flow_action action) (flow_edge edge) known) }
+    ensures { AddsEdges result list.old list.new (edges_by_value comparison.now action edge known) }
 {
     match known {
         None => push_both(alloc, comparison, edge, action, list),
@@ -150,8 +151,8 @@ fn push_split(
     edge: FlowEdge,
     list: &mut Vec<FlowEdge>,
 ) -> Result<(), NoMemory>
-    requires { HasNumber split.now.sorts.now (cell_test_tree split.now.test.now) split.now.variables }
-    ensures { OnOk result (map flow_edge list.new.items ≡ map flow_edge list.old.items ++ edges_split split.now.sorts.now (cell_test_tree split.now.test.now) (flow_edge edge)) }
+    requires { IsNumbered split.now }
+    ensures { AddsEdges result list.old list.new (edges_by split.now edge) }
 {
     match number_action(alloc, split, &edge.action)? {
         None => push_edge(list, edge),
@@ -169,7 +170,7 @@ fn split_once(
     test: &CellTest,
     edges: Vec<FlowEdge>,
 ) -> Result<Vec<FlowEdge>, NoMemory>
-    ensures { IfOk result (λ list. map flow_edge list.items ≡ flat_map (edges_split sorts.now (cell_test_tree test.now)) (map flow_edge edges.items)) }
+    ensures { MakesList flow_edge result (split_by_test sorts.now test.now edges) }
 {
     let variables = variables_with(alloc, sorts, test)?;
     let split = Split {
@@ -193,9 +194,9 @@ fn split_by(
     tests: &[CellTest],
     edges: Vec<FlowEdge>,
 ) -> Result<Vec<FlowEdge>, SplitFault>
-    ensures found { IfOk result (λ list. map flow_edge list.items ≡ all_split sorts.now (map cell_test_tree tests.now) (map flow_edge edges.items)) }
+    ensures found { MakesList flow_edge result (split_all sorts.now tests.now edges) }
     ensures few { IfOk result (λ list. length (map flow_edge list.items) ≤ MOST) }
-    ensures many { IfErr result (λ e. e ≡ SplitFault.TooManyPaths → MOST < length (all_split sorts.now (map cell_test_tree tests.now) (map flow_edge edges.items))) }
+    ensures many { TooManyOnlyIf result (split_all sorts.now tests.now edges) }
 {
     if edges.len() as u64 > MAX_WAYS {
         return Err(SplitFault::TooManyPaths);
@@ -214,9 +215,9 @@ fn split_by_from(
     rest: &[CellTest],
     edges: Vec<FlowEdge>,
 ) -> Result<Vec<FlowEdge>, SplitFault>
-    ensures found { IfOk result (λ list. map flow_edge list.items ≡ all_split sorts.now (cell_test_tree test.now ∷ map cell_test_tree rest.now) (map flow_edge edges.items)) }
+    ensures found { MakesList flow_edge result (split_all sorts.now (test.now ∷ rest.now) edges) }
     ensures few { IfOk result (λ list. length (map flow_edge list.items) ≤ MOST) }
-    ensures many { IfErr result (λ e. e ≡ SplitFault.TooManyPaths → MOST < length (all_split sorts.now (cell_test_tree test.now ∷ map cell_test_tree rest.now) (map flow_edge edges.items))) }
+    ensures many { TooManyOnlyIf result (split_all sorts.now (test.now ∷ rest.now) edges) }
 {
     let edges = split_once(alloc, sorts, test, edges)?;
     split_by(alloc, sorts, rest, edges)

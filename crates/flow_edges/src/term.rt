@@ -1,11 +1,12 @@
 //! The terms of edges.
-ghost use Rattle.std.specs.Prelude.{◌≡◌, [], ◌∷◌, ◌++◌, map, take, IfOk, OnOk};
-ghost use Rattle.kat_model.specs.Trees.{Term, test, test_tree, kat_tree};
-ghost use Rattle.flow_forms.specs.Comparisons.{comparison_tree, is_same_comparison};
+ghost use Rattle.std.specs.Prelude.{◌≡◌, map, IfOk};
+ghost use Rattle.kat_model.specs.Trees.{test, test_tree, kat_tree};
+ghost use Rattle.flow_forms.specs.Comparisons.{comparison_tree};
 ghost use Rattle.flow_ways.specs.CondTrees.{cond_tree};
-ghost use Rattle.flow_problem.specs.Edges.{is_same_action};
-ghost use Rattle.flow_problem.specs.EdgeTerms.{row_number, test_of_cond as test_for, action_terms, edge_term as term_of};
+ghost use Rattle.flow_problem.specs.EdgeTerms.{test_of_cond as test_for, edge_term as term_of};
 ghost use Rattle.flow_edges.specs.EdgeViews.{flow_action, flow_edge};
+ghost use Rattle.flow_edges.specs.Working.Views.{comparison_trees, AddsTerms, Makes, MakesList};
+ghost use Rattle.flow_edges.specs.Working.Terms.{tests_of_conds, number_of_test, number_of_action, terms_of_action};
 
 use crate::action::{FlowAction, is_idle};
 use crate::edge::FlowEdge;
@@ -16,20 +17,20 @@ use std::alloc::Global;
 
 // The number of a comparison among the tests.
 fn test_number(tests: &[FlowComparison], comparison: &FlowComparison) -> usize
-    ensures { result ≡ row_number is_same_comparison (map comparison_tree tests.now) (comparison_tree comparison.now) }
+    ensures { result ≡ number_of_test tests.now comparison.now }
 {
     place_of(tests, comparison).unwrap_or(0)
 }
 
 // The number of an action among the actions.
 fn action_number(actions: &[FlowAction], action: &FlowAction) -> usize
-    ensures { result ≡ row_number is_same_action (map flow_action actions.now) (flow_action action.now) }
+    ensures { result ≡ number_of_action actions.now action.now }
 {
     place_of(actions, action).unwrap_or(0)
 }
 
 fn test_of_cond(alloc: Global, tests: &[FlowComparison], cond: &FlowCond) -> Result<Test, NoMemory>
-    ensures { IfOk result (λ t. test_tree t ≡ test_for (map comparison_tree tests.now) (cond_tree cond.now)) }
+    ensures { Makes test_tree result (test_for (comparison_trees tests.now) (cond_tree cond.now)) }
 {
     match cond {
         FlowCond::Constantly(holds) => Ok(if *holds { Test::True } else { Test::False }),
@@ -57,7 +58,7 @@ fn cond_terms(
     tests: &[FlowComparison],
     conds: &[FlowCond],
 ) -> Result<Vec<Kat>, NoMemory>
-    ensures { IfOk result (λ list. map kat_tree list.items ≡ map (λ b. test (test_for (map comparison_tree tests.now) b)) (map cond_tree conds.now)) }
+    ensures { MakesList kat_tree result (tests_of_conds tests.now conds.now) }
 {
     let mut list = Vec::new(alloc);
     for cond in conds {
@@ -73,7 +74,7 @@ fn push_action(
     action: &FlowAction,
     list: &mut Vec<Kat>,
 ) -> Result<(), NoMemory>
-    ensures { OnOk result (map kat_tree list.new.items ≡ map kat_tree list.old.items ++ action_terms (map flow_action actions.now) (flow_action action.now)) }
+    ensures { AddsTerms result list.old list.new (terms_of_action actions.now action.now) }
 {
     if is_idle(action) {
         return Ok(());

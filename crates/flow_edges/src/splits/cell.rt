@@ -1,7 +1,8 @@
 //! Cells of forms, and a new variable in the place of one.
-ghost use Rattle.std.specs.Prelude.{◌≡◌, IfOk};
-ghost use Rattle.flow_forms.specs.Forms.{form_tree};
+ghost use Rattle.std.specs.Prelude.{◌≡◌};
+ghost use Rattle.flow_forms.specs.Forms.{form_tree, variable};
 ghost use Rattle.flow_problem.specs.Splits.{is_same_cell as are_one_cell, has_cell as has_same_cell, named as named_form};
+ghost use Rattle.flow_edges.specs.Working.Views.{Makes};
 
 use flow_forms::{FlowForm, same_form};
 use kat_model::NoMemory;
@@ -32,7 +33,7 @@ pub(crate) fn has_cell(cell: &FlowForm, form: &FlowForm) -> bool
 }
 
 fn named_variable(cell: &FlowForm, number: usize, k: usize) -> FlowForm
-    ensures { form_tree result ≡ named_form (form_tree cell.now) number (form_tree (FlowForm.Variable k)) }
+    ensures { form_tree result ≡ named_form (form_tree cell.now) number (variable k) }
 {
     let own = FlowForm::Variable(k);
     if is_same_cell(cell, &own) {
@@ -52,7 +53,7 @@ pub(crate) fn named(
     number: usize,
     form: &FlowForm,
 ) -> Result<FlowForm, NoMemory>
-    ensures { IfOk result (λ f. form_tree f ≡ named_form (form_tree cell.now) number (form_tree form.now)) }
+    ensures { Makes form_tree result (named_form (form_tree cell.now) number (form_tree form.now)) }
 {
     match form {
         FlowForm::Constant(c) => Ok(FlowForm::Constant(*c)),

@@ -1,11 +1,13 @@
 //! Tests that a cell is a number.
-ghost use Rattle.std.specs.Prelude.{◌≡◌, ◌++◌, IfOk, OnOk, map};
+ghost use Rattle.std.specs.Prelude.{◌≡◌};
 ghost use Rattle.kat_model.specs.Stores.{bits as bits_of};
 ghost use Rattle.flow_forms.specs.Forms.{form_tree};
 ghost use Rattle.flow_forms.specs.Conversions.{is_same_width as has_same_bits, is_one as has_no_cells};
 ghost use Rattle.flow_forms.specs.Comparisons.{comparison_tree};
-ghost use Rattle.flow_problem.specs.Splits.{is_number_of as is_of_width, is_cell_of as is_cell_of_width, cell_test_if as test_if, signed_cell_test as signed_test, product_test as test_of_product, sum_test as test_of_sum, cell_test as test_of, cell_tests as tests_of};
-ghost use Rattle.flow_edges.specs.CellTests.{cell_test_tree, test_if_any, tested_sum};
+ghost use Rattle.flow_problem.specs.Splits.{is_number_of as is_of_width, is_cell_of as is_cell_of_width, sum_test as test_of_sum, cell_test as test_of, cell_tests as tests_of};
+ghost use Rattle.flow_edges.specs.CellTests.{cell_test_tree, test_if_any};
+ghost use Rattle.flow_edges.specs.Working.Views.{comparison_trees, Appends, MakesList};
+ghost use Rattle.flow_edges.specs.Working.Splitting.{MakesTest, test_where, signed_test_of, product_test_of, tested_sum_of};
 
 use flow_forms::{FlowComparison, FlowForm};
 use flow_model::Sort;
@@ -88,7 +90,7 @@ fn cell_test_if(
     cell: &FlowForm,
     number: u64,
 ) -> Result<Option<CellTest>, NoMemory>
-    ensures { IfOk result (λ o. test_if_any o ≡ test_if is_test width (form_tree form.now) (form_tree cell.now) number) }
+    ensures { MakesTest result (test_where is_test width form.now cell.now number) }
 {
     if !is_test {
         return Ok(None);
@@ -113,7 +115,7 @@ fn signed_cell_test(
     cell: &FlowForm,
     number: u64,
 ) -> Result<Option<CellTest>, NoMemory>
-    ensures { IfOk result (λ o. test_if_any o ≡ signed_test sorts.now width (form_tree form.now) times (form_tree cell.now) number) }
+    ensures { MakesTest result (signed_test_of sorts.now width form.now times cell.now number) }
 {
     let is_cell = is_cell_of(sorts, width, cell);
     if times == 1 {
@@ -132,7 +134,7 @@ fn product_test(
     product: &FlowForm,
     number: u64,
 ) -> Result<Option<CellTest>, NoMemory>
-    ensures { IfOk result (λ o. test_if_any o ≡ test_of_product sorts.now width (form_tree form.now) times (form_tree product.now) number) }
+    ensures { MakesTest result (product_test_of sorts.now width form.now times product.now number) }
 {
     match product {
         FlowForm::Factor(cell, rest) => {
@@ -155,7 +157,7 @@ fn sum_test_of(
     product: &FlowForm,
     rest: &FlowForm,
 ) -> Result<Option<CellTest>, NoMemory>
-    ensures { IfOk result (λ o. test_if_any o ≡ tested_sum sorts.now width (form_tree form.now) times (form_tree product.now) (form_tree rest.now)) }
+    ensures { MakesTest result (tested_sum_of sorts.now width form.now times product.now rest.now) }
 {
     match rest {
         FlowForm::Constant(number) => {
@@ -172,7 +174,7 @@ fn sum_test(
     width: Width,
     form: &FlowForm,
 ) -> Result<Option<CellTest>, NoMemory>
-    ensures { IfOk result (λ o. test_if_any o ≡ test_of_sum sorts.now width (form_tree form.now)) }
+    ensures { MakesTest result (test_of_sum sorts.now width (form_tree form.now)) }
 {
     match form {
         FlowForm::Term(times, product, rest) => {
@@ -188,7 +190,7 @@ fn cell_test(
     sorts: &[Sort],
     comparison: &FlowComparison,
 ) -> Result<Option<CellTest>, NoMemory>
-    ensures { IfOk result (λ o. test_if_any o ≡ test_of sorts.now (comparison_tree comparison.now)) }
+    ensures { MakesTest result (test_of sorts.now (comparison_tree comparison.now)) }
 {
     match comparison {
         FlowComparison::Zero(width, form) => sum_test(alloc, sorts, *width, form),
@@ -199,7 +201,7 @@ fn cell_test(
 
 #[tactic(auto, using(flow_ways::proofs::CourseLists::none_then, flow_ways::proofs::CourseLists::map_pushed))]
 fn push_if_any(list: &mut Vec<CellTest>, test: Option<CellTest>) -> Result<(), NoMemory>
-    ensures { OnOk result (map cell_test_tree list.new.items ≡ map cell_test_tree list.old.items ++ test_if_any test) }
+    ensures { Appends cell_test_tree result list.old list.new (test_if_any test) }
 {
     match test {
         None => Ok(()),
@@ -213,7 +215,7 @@ pub(crate) fn cell_tests(
     sorts: &[Sort],
     tests: &[FlowComparison],
 ) -> Result<Vec<CellTest>, NoMemory>
-    ensures { IfOk result (λ list. map cell_test_tree list.items ≡ tests_of sorts.now (map comparison_tree tests.now)) }
+    ensures { MakesList cell_test_tree result (tests_of sorts.now (comparison_trees tests.now)) }
 {
     let mut list = Vec::new(alloc);
     for comparison in tests {

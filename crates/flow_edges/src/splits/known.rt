@@ -1,10 +1,8 @@
 //! What tests say of a comparison.
-ghost use Rattle.std.specs.Prelude.{◌≡◌, ◌∷◌, map};
+ghost use Rattle.std.specs.Prelude.{◌≡◌, ◌∷◌};
 ghost use Rattle.std.specs.Option.{option_or};
 ghost use Rattle.flow_forms.specs.Comparisons.{comparison_tree, is_same_comparison};
-ghost use Rattle.flow_ways.specs.Conditions.{facts_of, value_known as known_value};
-ghost use Rattle.flow_ways.specs.CondTrees.{cond_tree};
-ghost use Rattle.flow_problem.specs.Splits.{facts_of_all};
+ghost use Rattle.flow_edges.specs.Working.Splitting.{value_by_cond, value_by_conds};
 
 use flow_forms::{FlowComparison, same_comparison};
 use flow_ways::FlowCond;
@@ -28,7 +26,7 @@ fn first_of(first: Option<bool>, second: Option<bool>) -> Option<bool>
 // Returns whether a comparison holds, if that follows without further cases from whether a condition holds.
 #[tactic(auto, using(crate::proofs::KnownFacts::known_first))]
 fn value_by(cond: &FlowCond, holds: bool, comparison: &FlowComparison) -> Option<bool>
-    ensures { result ≡ known_value (facts_of (cond_tree cond.now) holds) (comparison_tree comparison.now) }
+    ensures { result ≡ value_by_cond cond.now holds comparison.now }
 {
     match cond {
         FlowCond::Constantly(_) => None,
@@ -63,7 +61,7 @@ fn value_by(cond: &FlowCond, holds: bool, comparison: &FlowComparison) -> Option
 /// Returns whether a comparison holds, if that follows without further cases from the tests that hold.
 #[cycle(value_by_tests)]
 pub(crate) fn value_by_tests(tests: &[FlowCond], comparison: &FlowComparison) -> Option<bool>
-    ensures { result ≡ known_value (facts_of_all (map cond_tree tests.now)) (comparison_tree comparison.now) }
+    ensures { result ≡ value_by_conds tests.now comparison.now }
 {
     match tests {
         [] => None,
@@ -78,7 +76,7 @@ fn value_by_tests_from(
     rest: &[FlowCond],
     comparison: &FlowComparison,
 ) -> Option<bool>
-    ensures { result ≡ known_value (facts_of_all (cond_tree test.now ∷ map cond_tree rest.now)) (comparison_tree comparison.now) }
+    ensures { result ≡ value_by_conds (test.now ∷ rest.now) comparison.now }
 {
     let first = value_by(test, true, comparison);
     first_of(first, value_by_tests(rest, comparison))

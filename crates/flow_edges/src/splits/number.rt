@@ -1,9 +1,9 @@
 //! A number in the place of a cell: a new variable stands for the cell, and the number is put in its place.
-ghost use Rattle.std.specs.Prelude.{◌≡◌, true, false, IfOk, IfErr};
+ghost use Rattle.std.specs.Prelude.{◌≡◌, IfOk};
 ghost use Rattle.flow_forms.specs.Forms.{form_tree};
-ghost use Rattle.flow_problem.specs.Splits.{with_cell_number, number_fits};
 ghost use Rattle.flow_edges.specs.CellTests.{cell_test_tree};
 ghost use Rattle.flow_edges.specs.Numbers.{HasNumber};
+ghost use Rattle.flow_edges.specs.Working.Splitting.{IsNumbered, form_by, form_fits, OkOnlyIf, LargeOnlyIfNot};
 
 use crate::splits::cell::named;
 use crate::splits::cell_test::CellTest;
@@ -62,10 +62,10 @@ pub(crate) fn with_number(
     sort: Sort,
     form: &FlowForm,
 ) -> Result<FlowForm, FormFault>
-    requires { HasNumber split.now.sorts.now (cell_test_tree split.now.test.now) split.now.variables }
-    ensures made { IfOk result (λ f. form_tree f ≡ with_cell_number split.now.sorts.now (cell_test_tree split.now.test.now) sort (form_tree form.now)) }
-    ensures fits { IfOk result (λ _. number_fits split.now.sorts.now (cell_test_tree split.now.test.now) sort (form_tree form.now) ≡ true) }
-    ensures refused { IfErr result (λ e. e ≡ FormFault.TooLarge → number_fits split.now.sorts.now (cell_test_tree split.now.test.now) sort (form_tree form.now) ≡ false) }
+    requires { IsNumbered split.now }
+    ensures made { IfOk result (λ f. form_tree f ≡ form_by split.now sort form.now) }
+    ensures fits { OkOnlyIf result (form_fits split.now sort form.now) }
+    ensures refused { LargeOnlyIfNot result (form_fits split.now sort form.now) }
 {
     let form = named(alloc, &split.test.cell, split.sorts.len(), form)?;
     let variables = &split.variables;

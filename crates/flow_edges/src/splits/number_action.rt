@@ -1,13 +1,14 @@
 //! Actions with a number in the place of a cell.
-ghost use Rattle.std.specs.Prelude.{◌≡◌, ◌&&◌, ◌+◌, ◌^◌, ◌<◌, ◌∷◌, ◌++◌, [], suc, true, false, IfOk, IfErr, OnOk, Some, map, length, option_map};
-ghost use Rattle.std.specs.List.{list_any, list_all};
+ghost use Rattle.std.specs.Prelude.{◌≡◌, ◌+◌, ◌^◌, ◌<◌, ◌∷◌, [], suc, true, false, IfOk, OnOk, Some, length, option_map};
+ghost use Rattle.std.specs.List.{list_any};
 ghost use Rattle.flow_forms.specs.Forms.{form_tree};
 ghost use Rattle.flow_ways.specs.ActionTrees.{set_tree};
 ghost use Rattle.flow_ways.specs.WayTrees.{sorted_form};
 ghost use Rattle.flow_edges.specs.EdgeViews.{flow_action};
-ghost use Rattle.flow_problem.specs.Splits.{set_has as set_has_cell, action_reads as action_reads_cell, number_fits, set_fits, sets_fit, action_fits, set_with as with_set, sets_with, with_cell_number, action_with as with_action};
-ghost use Rattle.flow_edges.specs.CellTests.{cell_test_tree};
-ghost use Rattle.flow_edges.specs.Numbers.{HasNumber, has_in, result_with as with_result, result_fits, number_action as action_if_read};
+ghost use Rattle.flow_problem.specs.Splits.{set_has as set_has_cell, action_reads as action_reads_cell};
+ghost use Rattle.flow_edges.specs.Numbers.{has_in};
+ghost use Rattle.flow_edges.specs.Working.Views.{set_trees, sorted_forms, AddsSets, AddsResults, MakesList};
+ghost use Rattle.flow_edges.specs.Working.Splitting.{IsNumbered, form_fits, set_by, set_fits_by, sets_by, sets_fit_by, result_by, result_fits_by, results_by, results_fit_by, action_by, action_fits_by, OkOnlyIf, LargeOnlyIfNot, read_action_by};
 
 use crate::action::FlowAction;
 use crate::splits::cell::{has_cell, is_same_cell};
@@ -29,7 +30,7 @@ fn set_has(cell: &FlowForm, set: &Option<FlowForm>) -> bool
 
 #[cycle(sets_have)]
 fn sets_have(cell: &FlowForm, sets: &[Option<FlowForm>]) -> bool
-    ensures { result ≡ list_any (set_has_cell (form_tree cell.now)) (map set_tree sets.now) }
+    ensures { result ≡ list_any (set_has_cell (form_tree cell.now)) (set_trees sets.now) }
 {
     match sets {
         [] => false,
@@ -39,14 +40,14 @@ fn sets_have(cell: &FlowForm, sets: &[Option<FlowForm>]) -> bool
 
 #[cycle(sets_have)]
 fn sets_have_from(cell: &FlowForm, set: &Option<FlowForm>, rest: &[Option<FlowForm>]) -> bool
-    ensures { result ≡ list_any (set_has_cell (form_tree cell.now)) (set_tree set.now ∷ map set_tree rest.now) }
+    ensures { result ≡ list_any (set_has_cell (form_tree cell.now)) (set_trees (set.now ∷ rest.now)) }
 {
     set_has(cell, set) || sets_have(cell, rest)
 }
 
 #[cycle(results_have)]
 fn results_have(cell: &FlowForm, results: &[SortedForm]) -> bool
-    ensures { result ≡ list_any (has_in (form_tree cell.now)) (map sorted_form results.now) }
+    ensures { result ≡ list_any (has_in (form_tree cell.now)) (sorted_forms results.now) }
 {
     match results {
         [] => false,
@@ -56,7 +57,7 @@ fn results_have(cell: &FlowForm, results: &[SortedForm]) -> bool
 
 #[cycle(results_have)]
 fn results_have_from(cell: &FlowForm, first: &SortedForm, rest: &[SortedForm]) -> bool
-    ensures { result ≡ list_any (has_in (form_tree cell.now)) (sorted_form first.now ∷ map sorted_form rest.now) }
+    ensures { result ≡ list_any (has_in (form_tree cell.now)) (sorted_forms (first.now ∷ rest.now)) }
 {
     has_cell(cell, &first.form) || results_have(cell, rest)
 }
@@ -80,10 +81,10 @@ fn set_with(
     sort: Sort,
     form: &FlowForm,
 ) -> Result<Option<FlowForm>, FormFault>
-    requires { HasNumber split.now.sorts.now (cell_test_tree split.now.test.now) split.now.variables }
-    ensures made { IfOk result (λ o. set_tree o ≡ with_set split.now.sorts.now (cell_test_tree split.now.test.now) number sort (Some (form_tree form.now))) }
-    ensures fits { IfOk result (λ _. number_fits split.now.sorts.now (cell_test_tree split.now.test.now) sort (form_tree form.now) ≡ true) }
-    ensures refused { IfErr result (λ e. e ≡ FormFault.TooLarge → number_fits split.now.sorts.now (cell_test_tree split.now.test.now) sort (form_tree form.now) ≡ false) }
+    requires { IsNumbered split.now }
+    ensures made { IfOk result (λ o. set_tree o ≡ set_by split.now number sort (Some form.now)) }
+    ensures fits { OkOnlyIf result (form_fits split.now sort form.now) }
+    ensures refused { LargeOnlyIfNot result (form_fits split.now sort form.now) }
 {
     let new = with_number(alloc, split, sort, form)?;
     let own = own_form(alloc, sort, number)?;
@@ -102,10 +103,10 @@ fn set_if_any(
     sort: Sort,
     set: &Option<FlowForm>,
 ) -> Result<Option<FlowForm>, FormFault>
-    requires { HasNumber split.now.sorts.now (cell_test_tree split.now.test.now) split.now.variables }
-    ensures made { IfOk result (λ o. set_tree o ≡ with_set split.now.sorts.now (cell_test_tree split.now.test.now) number sort (set_tree set.now)) }
-    ensures fits { IfOk result (λ _. set_fits split.now.sorts.now (cell_test_tree split.now.test.now) sort (set_tree set.now) ≡ true) }
-    ensures refused { IfErr result (λ e. e ≡ FormFault.TooLarge → set_fits split.now.sorts.now (cell_test_tree split.now.test.now) sort (set_tree set.now) ≡ false) }
+    requires { IsNumbered split.now }
+    ensures made { IfOk result (λ o. set_tree o ≡ set_by split.now number sort set.now) }
+    ensures fits { OkOnlyIf result (set_fits_by split.now sort set.now) }
+    ensures refused { LargeOnlyIfNot result (set_fits_by split.now sort set.now) }
 {
     match set {
         None => Ok(None),
@@ -115,7 +116,7 @@ fn set_if_any(
 
 #[tactic(auto, using(flow_ways::proofs::CourseLists::map_pushed))]
 fn push_set(list: &mut Vec<Option<FlowForm>>, set: Option<FlowForm>) -> Result<(), NoMemory>
-    ensures { OnOk result (map set_tree list.new.items ≡ map set_tree list.old.items ++ set_tree set ∷ []) }
+    ensures { AddsSets result list.old list.new (set_tree set ∷ []) }
 {
     append(list, set)
 }
@@ -131,11 +132,11 @@ fn push_sets(
     sets: &[Option<FlowForm>],
     list: &mut Vec<Option<FlowForm>>,
 ) -> Result<(), FormFault>
-    requires number { HasNumber split.now.sorts.now (cell_test_tree split.now.test.now) split.now.variables }
+    requires number { IsNumbered split.now }
     requires within { number + length own.now < 2 ^ 64 }
-    ensures made { OnOk result (map set_tree list.new.items ≡ map set_tree list.old.items ++ sets_with split.now.sorts.now (cell_test_tree split.now.test.now) number own.now (map set_tree sets.now)) }
-    ensures fits { OnOk result (sets_fit split.now.sorts.now (cell_test_tree split.now.test.now) own.now (map set_tree sets.now) ≡ true) }
-    ensures refused { IfErr result (λ e. e ≡ FormFault.TooLarge → sets_fit split.now.sorts.now (cell_test_tree split.now.test.now) own.now (map set_tree sets.now) ≡ false) }
+    ensures made { AddsSets result list.old list.new (sets_by split.now number own.now sets.now) }
+    ensures fits { OnOk result (sets_fit_by split.now own.now sets.now ≡ true) }
+    ensures refused { LargeOnlyIfNot result (sets_fit_by split.now own.now sets.now) }
 {
     match own {
         [] => Ok(()),
@@ -154,11 +155,11 @@ fn push_sets_of(
     sets: &[Option<FlowForm>],
     list: &mut Vec<Option<FlowForm>>,
 ) -> Result<(), FormFault>
-    requires number { HasNumber split.now.sorts.now (cell_test_tree split.now.test.now) split.now.variables }
+    requires number { IsNumbered split.now }
     requires within { number + length others.now + 1 < 2 ^ 64 }
-    ensures made { OnOk result (map set_tree list.new.items ≡ map set_tree list.old.items ++ sets_with split.now.sorts.now (cell_test_tree split.now.test.now) number (sort ∷ others.now) (map set_tree sets.now)) }
-    ensures fits { OnOk result (sets_fit split.now.sorts.now (cell_test_tree split.now.test.now) (sort ∷ others.now) (map set_tree sets.now) ≡ true) }
-    ensures refused { IfErr result (λ e. e ≡ FormFault.TooLarge → sets_fit split.now.sorts.now (cell_test_tree split.now.test.now) (sort ∷ others.now) (map set_tree sets.now) ≡ false) }
+    ensures made { AddsSets result list.old list.new (sets_by split.now number (sort ∷ others.now) sets.now) }
+    ensures fits { OnOk result (sets_fit_by split.now (sort ∷ others.now) sets.now ≡ true) }
+    ensures refused { LargeOnlyIfNot result (sets_fit_by split.now (sort ∷ others.now) sets.now) }
 {
     match sets {
         [] => Ok(()),
@@ -180,11 +181,11 @@ fn push_sets_then(
     rest: &[Option<FlowForm>],
     list: &mut Vec<Option<FlowForm>>,
 ) -> Result<(), FormFault>
-    requires number { HasNumber split.now.sorts.now (cell_test_tree split.now.test.now) split.now.variables }
+    requires number { IsNumbered split.now }
     requires within { number + length others.now + 1 < 2 ^ 64 }
-    ensures made { OnOk result (map set_tree list.new.items ≡ map set_tree list.old.items ++ set_tree new ∷ sets_with split.now.sorts.now (cell_test_tree split.now.test.now) (suc number) others.now (map set_tree rest.now)) }
-    ensures fits { OnOk result (sets_fit split.now.sorts.now (cell_test_tree split.now.test.now) others.now (map set_tree rest.now) ≡ true) }
-    ensures refused { IfErr result (λ e. e ≡ FormFault.TooLarge → sets_fit split.now.sorts.now (cell_test_tree split.now.test.now) others.now (map set_tree rest.now) ≡ false) }
+    ensures made { AddsSets result list.old list.new (set_tree new ∷ sets_by split.now (suc number) others.now rest.now) }
+    ensures fits { OnOk result (sets_fit_by split.now others.now rest.now ≡ true) }
+    ensures refused { LargeOnlyIfNot result (sets_fit_by split.now others.now rest.now) }
 {
     push_set(list, new)?;
     push_sets(alloc, split, number + 1, others, rest, list)
@@ -195,10 +196,10 @@ fn sets_of(
     split: &Split,
     sets: &[Option<FlowForm>],
 ) -> Result<Vec<Option<FlowForm>>, FormFault>
-    requires { HasNumber split.now.sorts.now (cell_test_tree split.now.test.now) split.now.variables }
-    ensures made { IfOk result (λ list. map set_tree list.items ≡ sets_with split.now.sorts.now (cell_test_tree split.now.test.now) 0 split.now.sorts.now (map set_tree sets.now)) }
-    ensures fits { IfOk result (λ _. sets_fit split.now.sorts.now (cell_test_tree split.now.test.now) split.now.sorts.now (map set_tree sets.now) ≡ true) }
-    ensures refused { IfErr result (λ e. e ≡ FormFault.TooLarge → sets_fit split.now.sorts.now (cell_test_tree split.now.test.now) split.now.sorts.now (map set_tree sets.now) ≡ false) }
+    requires { IsNumbered split.now }
+    ensures made { MakesList set_tree result (sets_by split.now 0 split.now.sorts.now sets.now) }
+    ensures fits { OkOnlyIf result (sets_fit_by split.now split.now.sorts.now sets.now) }
+    ensures refused { LargeOnlyIfNot result (sets_fit_by split.now split.now.sorts.now sets.now) }
 {
     let own = split.sorts;
     let _known = own.len();
@@ -208,10 +209,10 @@ fn sets_of(
 }
 
 fn result_with(alloc: Global, split: &Split, sorted: &SortedForm) -> Result<SortedForm, FormFault>
-    requires { HasNumber split.now.sorts.now (cell_test_tree split.now.test.now) split.now.variables }
-    ensures made { IfOk result (λ r. sorted_form r ≡ with_result split.now.sorts.now (cell_test_tree split.now.test.now) (sorted_form sorted.now)) }
-    ensures fits { IfOk result (λ _. result_fits split.now.sorts.now (cell_test_tree split.now.test.now) (sorted_form sorted.now) ≡ true) }
-    ensures refused { IfErr result (λ e. e ≡ FormFault.TooLarge → result_fits split.now.sorts.now (cell_test_tree split.now.test.now) (sorted_form sorted.now) ≡ false) }
+    requires { IsNumbered split.now }
+    ensures made { IfOk result (λ r. sorted_form r ≡ result_by split.now sorted.now) }
+    ensures fits { OkOnlyIf result (result_fits_by split.now sorted.now) }
+    ensures refused { LargeOnlyIfNot result (result_fits_by split.now sorted.now) }
 {
     let form = with_number(alloc, split, sorted.sort, &sorted.form)?;
     Ok(SortedForm {
@@ -222,7 +223,7 @@ fn result_with(alloc: Global, split: &Split, sorted: &SortedForm) -> Result<Sort
 
 #[tactic(auto, using(flow_ways::proofs::CourseLists::map_pushed))]
 fn push_result(list: &mut Vec<SortedForm>, sorted: SortedForm) -> Result<(), NoMemory>
-    ensures { OnOk result (map sorted_form list.new.items ≡ map sorted_form list.old.items ++ sorted_form sorted ∷ []) }
+    ensures { AddsResults result list.old list.new (sorted_form sorted ∷ []) }
 {
     append(list, sorted)
 }
@@ -236,10 +237,10 @@ fn push_results(
     results: &[SortedForm],
     list: &mut Vec<SortedForm>,
 ) -> Result<(), FormFault>
-    requires { HasNumber split.now.sorts.now (cell_test_tree split.now.test.now) split.now.variables }
-    ensures made { OnOk result (map sorted_form list.new.items ≡ map sorted_form list.old.items ++ map (with_result split.now.sorts.now (cell_test_tree split.now.test.now)) (map sorted_form results.now)) }
-    ensures fits { OnOk result (list_all (result_fits split.now.sorts.now (cell_test_tree split.now.test.now)) (map sorted_form results.now) ≡ true) }
-    ensures refused { IfErr result (λ e. e ≡ FormFault.TooLarge → list_all (result_fits split.now.sorts.now (cell_test_tree split.now.test.now)) (map sorted_form results.now) ≡ false) }
+    requires { IsNumbered split.now }
+    ensures made { AddsResults result list.old list.new (results_by split.now results.now) }
+    ensures fits { OnOk result (results_fit_by split.now results.now ≡ true) }
+    ensures refused { LargeOnlyIfNot result (results_fit_by split.now results.now) }
 {
     match results {
         [] => Ok(()),
@@ -256,10 +257,10 @@ fn push_results_from(
     rest: &[SortedForm],
     list: &mut Vec<SortedForm>,
 ) -> Result<(), FormFault>
-    requires { HasNumber split.now.sorts.now (cell_test_tree split.now.test.now) split.now.variables }
-    ensures made { OnOk result (map sorted_form list.new.items ≡ map sorted_form list.old.items ++ with_result split.now.sorts.now (cell_test_tree split.now.test.now) (sorted_form first.now) ∷ map (with_result split.now.sorts.now (cell_test_tree split.now.test.now)) (map sorted_form rest.now)) }
-    ensures fits { OnOk result ((result_fits split.now.sorts.now (cell_test_tree split.now.test.now) (sorted_form first.now) && list_all (result_fits split.now.sorts.now (cell_test_tree split.now.test.now)) (map sorted_form rest.now)) ≡ true) }
-    ensures refused { IfErr result (λ e. e ≡ FormFault.TooLarge → (result_fits split.now.sorts.now (cell_test_tree split.now.test.now) (sorted_form first.now) && list_all (result_fits split.now.sorts.now (cell_test_tree split.now.test.now)) (map sorted_form rest.now)) ≡ false) }
+    requires { IsNumbered split.now }
+    ensures made { AddsResults result list.old list.new (results_by split.now (first.now ∷ rest.now)) }
+    ensures fits { OnOk result (results_fit_by split.now (first.now ∷ rest.now) ≡ true) }
+    ensures refused { LargeOnlyIfNot result (results_fit_by split.now (first.now ∷ rest.now)) }
 {
     let new = result_with(alloc, split, first)?;
     push_result(list, new)?;
@@ -271,10 +272,10 @@ fn results_of(
     split: &Split,
     results: &[SortedForm],
 ) -> Result<Vec<SortedForm>, FormFault>
-    requires { HasNumber split.now.sorts.now (cell_test_tree split.now.test.now) split.now.variables }
-    ensures made { IfOk result (λ list. map sorted_form list.items ≡ map (with_result split.now.sorts.now (cell_test_tree split.now.test.now)) (map sorted_form results.now)) }
-    ensures fits { IfOk result (λ _. list_all (result_fits split.now.sorts.now (cell_test_tree split.now.test.now)) (map sorted_form results.now) ≡ true) }
-    ensures refused { IfErr result (λ e. e ≡ FormFault.TooLarge → list_all (result_fits split.now.sorts.now (cell_test_tree split.now.test.now)) (map sorted_form results.now) ≡ false) }
+    requires { IsNumbered split.now }
+    ensures made { MakesList sorted_form result (results_by split.now results.now) }
+    ensures fits { OkOnlyIf result (results_fit_by split.now results.now) }
+    ensures refused { LargeOnlyIfNot result (results_fit_by split.now results.now) }
 {
     let mut list = Vec::new(alloc);
     push_results(alloc, split, results, &mut list)?;
@@ -282,10 +283,10 @@ fn results_of(
 }
 
 fn action_with(alloc: Global, split: &Split, action: &FlowAction) -> Result<FlowAction, FormFault>
-    requires { HasNumber split.now.sorts.now (cell_test_tree split.now.test.now) split.now.variables }
-    ensures made { IfOk result (λ a. flow_action a ≡ with_action split.now.sorts.now (cell_test_tree split.now.test.now) (flow_action action.now)) }
-    ensures fits { IfOk result (λ _. action_fits split.now.sorts.now (cell_test_tree split.now.test.now) (flow_action action.now) ≡ true) }
-    ensures refused { IfErr result (λ e. e ≡ FormFault.TooLarge → action_fits split.now.sorts.now (cell_test_tree split.now.test.now) (flow_action action.now) ≡ false) }
+    requires { IsNumbered split.now }
+    ensures made { IfOk result (λ a. flow_action a ≡ action_by split.now action.now) }
+    ensures fits { OkOnlyIf result (action_fits_by split.now action.now) }
+    ensures refused { LargeOnlyIfNot result (action_fits_by split.now action.now) }
 {
     match action {
         FlowAction::Assigned(sets) => Ok(FlowAction::Assigned(sets_of(alloc, split, sets)?)),
@@ -301,8 +302,8 @@ pub(crate) fn number_action(
     split: &Split,
     action: &FlowAction,
 ) -> Result<Option<FlowAction>, NoMemory>
-    requires { HasNumber split.now.sorts.now (cell_test_tree split.now.test.now) split.now.variables }
-    ensures { IfOk result (λ o. option_map flow_action o ≡ action_if_read split.now.sorts.now (cell_test_tree split.now.test.now) (flow_action action.now)) }
+    requires { IsNumbered split.now }
+    ensures { IfOk result (λ o. option_map flow_action o ≡ read_action_by split.now action.now) }
 {
     if !action_reads(&split.test.cell, action) {
         return Ok(None);
