@@ -3,3 +3,4 @@ pub mod FormTexts
 pub mod ActionTexts
 pub mod ReasonTexts
 pub mod FlowTexts
+pub mod Working

@@ -1,10 +1,8 @@
 //! Actions, as text.
-ghost use Rattle.std.specs.Prelude.{◌≡◌, ◌++◌, true, map, IfOk, OnOk};
+ghost use Rattle.std.specs.Prelude.{◌≡◌, true};
 ghost use Rattle.flow_ways.specs.ActionTrees.{set_tree};
-ghost use Rattle.flow_ways.specs.WayTrees.{sorted_form};
-ghost use Rattle.flow_edges.specs.EdgeViews.{flow_action};
-ghost use Rattle.flow_print.specs.NameTables.{names_of};
-ghost use Rattle.flow_print.specs.ActionTexts.{stays_first as is_still_first, target_text, targets_text, value_text, values_text, results_text, action_text};
+ghost use Rattle.flow_print.specs.ActionTexts.{stays_first as is_still_first};
+ghost use Rattle.flow_print.specs.Working.Written.{Writes, target_of, targets_of, value_of, values_of, results_of, action_of};
 
 use crate::forms::put_form;
 use crate::names::{FlowNames, put_variable, sort_width, variable_width};
@@ -35,7 +33,7 @@ fn put_target(
     first: bool,
     form: &Option<FlowForm>,
 ) -> Result<(), NoMemory>
-    ensures { OnOk result (out.new.items ≡ out.old.items ++ target_text (names_of names.now.variables.now names.now.sorts.now names.now.functions.now) number first (set_tree form.now)) }
+    ensures { Writes result out.old out.new (target_of names.now number first form.now) }
 {
     match form {
         None => Ok(()),
@@ -53,7 +51,7 @@ fn put_targets(
     names: &FlowNames,
     forms: &[Option<FlowForm>],
 ) -> Result<(), NoMemory>
-    ensures { OnOk result (out.new.items ≡ out.old.items ++ targets_text (names_of names.now.variables.now names.now.sorts.now names.now.functions.now) 0 true (map set_tree forms.now)) }
+    ensures { Writes result out.old out.new (targets_of names.now forms.now) }
 {
     let mut first = true;
     for (number, form) in forms.iter().enumerate() {
@@ -72,7 +70,7 @@ fn put_value(
     first: bool,
     form: &Option<FlowForm>,
 ) -> Result<(), NoMemory>
-    ensures { OnOk result (out.new.items ≡ out.old.items ++ value_text (names_of names.now.variables.now names.now.sorts.now names.now.functions.now) number first (set_tree form.now)) }
+    ensures { Writes result out.old out.new (value_of names.now number first form.now) }
 {
     match form {
         None => Ok(()),
@@ -90,7 +88,7 @@ fn put_values(
     names: &FlowNames,
     forms: &[Option<FlowForm>],
 ) -> Result<(), NoMemory>
-    ensures { OnOk result (out.new.items ≡ out.old.items ++ values_text (names_of names.now.variables.now names.now.sorts.now names.now.functions.now) 0 true (map set_tree forms.now)) }
+    ensures { Writes result out.old out.new (values_of names.now forms.now) }
 {
     let mut first = true;
     for (number, form) in forms.iter().enumerate() {
@@ -107,7 +105,7 @@ fn put_results(
     names: &FlowNames,
     results: &[SortedForm],
 ) -> Result<(), NoMemory>
-    ensures { OnOk result (out.new.items ≡ out.old.items ++ results_text (names_of names.now.variables.now names.now.sorts.now names.now.functions.now) true (map sorted_form results.now)) }
+    ensures { Writes result out.old out.new (results_of names.now results.now) }
 {
     let mut first = true;
     for entry in results {
@@ -125,7 +123,7 @@ pub(crate) fn put_action(
     names: &FlowNames,
     action: &FlowAction,
 ) -> Result<(), NoMemory>
-    ensures { OnOk result (out.new.items ≡ out.old.items ++ action_text (names_of names.now.variables.now names.now.sorts.now names.now.functions.now) (flow_action action.now)) }
+    ensures { Writes result out.old out.new (action_of names.now action.now) }
 {
     match action {
         FlowAction::Assigned(forms) => {

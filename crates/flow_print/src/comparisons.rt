@@ -1,9 +1,7 @@
 //! Comparisons, as text.
-ghost use Rattle.std.specs.Prelude.{◌≡◌, ◌++◌, true, OnOk};
-ghost use Rattle.flow_forms.specs.Forms.{form_tree};
-ghost use Rattle.flow_forms.specs.Comparisons.{comparison_tree};
-ghost use Rattle.flow_print.specs.NameTables.{names_of};
-ghost use Rattle.flow_print.specs.FormTexts.{form_text, side_end, is_on_side as is_written_on, side_text, comparison_text};
+ghost use Rattle.std.specs.Prelude.{◌≡◌, true};
+ghost use Rattle.flow_print.specs.FormTexts.{side_end, is_on_side as is_written_on};
+ghost use Rattle.flow_print.specs.Working.Written.{Writes, compared_of, side_of, comparison_of};
 
 use crate::forms::{put_form, put_plus, put_times};
 use crate::names::FlowNames;
@@ -15,7 +13,7 @@ use text_print::{put, put_number};
 
 // Appends the number at the end of a side of an equation.
 fn put_side_end(alloc: Global, out: &mut Vec<u8>, first: bool, number: u64) -> Result<(), NoMemory>
-    ensures { OnOk result (out.new.items ≡ out.old.items ++ side_end first number) }
+    ensures { Writes result out.old out.new (side_end first number) }
 {
     if !first && number == 0 {
         return Ok(());
@@ -41,7 +39,7 @@ fn put_side(
     first: bool,
     form: &FlowForm,
 ) -> Result<(), NoMemory>
-    ensures { OnOk result (out.new.items ≡ out.old.items ++ side_text (names_of names.now.variables.now names.now.sorts.now names.now.functions.now) width right first (form_tree form.now)) }
+    ensures { Writes result out.old out.new (side_of names.now width right first form.now) }
 {
     match form {
         FlowForm::Constant(number) => {
@@ -70,7 +68,7 @@ fn put_sides(
     sign: &[u8],
     right: &FlowForm,
 ) -> Result<(), NoMemory>
-    ensures { OnOk result (out.new.items ≡ out.old.items ++ (form_text (names_of names.now.variables.now names.now.sorts.now names.now.functions.now) width (form_tree left.now) ++ sign.now ++ form_text (names_of names.now.variables.now names.now.sorts.now names.now.functions.now) width (form_tree right.now))) }
+    ensures { Writes result out.old out.new (compared_of names.now width left.now sign.now right.now) }
 {
     put_form(alloc, out, names, width, true, left)?;
     put(out, sign)?;
@@ -84,7 +82,7 @@ pub(crate) fn put_comparison(
     names: &FlowNames,
     comparison: &FlowComparison,
 ) -> Result<(), NoMemory>
-    ensures { OnOk result (out.new.items ≡ out.old.items ++ comparison_text (names_of names.now.variables.now names.now.sorts.now names.now.functions.now) (comparison_tree comparison.now)) }
+    ensures { Writes result out.old out.new (comparison_of names.now comparison.now) }
 {
     match comparison {
         FlowComparison::Zero(width, form) => {

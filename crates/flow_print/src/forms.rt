@@ -1,8 +1,8 @@
 //! Forms, as text.
-ghost use Rattle.std.specs.Prelude.{◌≡◌, ◌++◌, true, codes, OnOk};
+ghost use Rattle.std.specs.Prelude.{◌≡◌, ◌++◌, true, codes};
 ghost use Rattle.flow_forms.specs.Forms.{form_tree};
-ghost use Rattle.flow_print.specs.NameTables.{names_of};
-ghost use Rattle.flow_print.specs.FormTexts.{star_text, plus_text, minus_text, sign_text, times_text, magnitude as magnitude_of, constant_text, one_text, width_text, conversion_text, is_long as has_too_many, arguments_text, part_text};
+ghost use Rattle.flow_print.specs.FormTexts.{star_text, plus_text, minus_text, sign_text, times_text, constant_text, one_text, width_text, conversion_text, is_long as has_too_many};
+ghost use Rattle.flow_print.specs.Working.Written.{Writes, factor_text, part_of, arguments_of};
 
 use crate::limits::MAX_SHOWN_NODES;
 use crate::names::{FlowNames, put_function, put_variable, sort_width};
@@ -15,7 +15,7 @@ use text_print::{put, put_number};
 
 // Appends the text before a part of a product, unless the part is the first.
 fn put_star(out: &mut Vec<u8>, first: bool) -> Result<(), NoMemory>
-    ensures { OnOk result (out.new.items ≡ out.old.items ++ star_text first) }
+    ensures { Writes result out.old out.new (star_text first) }
 {
     if first {
         return Ok(());
@@ -25,7 +25,7 @@ fn put_star(out: &mut Vec<u8>, first: bool) -> Result<(), NoMemory>
 
 /// Appends the text before a part of a sum, unless the part is the first.
 pub(crate) fn put_plus(out: &mut Vec<u8>, first: bool) -> Result<(), NoMemory>
-    ensures { OnOk result (out.new.items ≡ out.old.items ++ plus_text first) }
+    ensures { Writes result out.old out.new (plus_text first) }
 {
     if first {
         return Ok(());
@@ -35,7 +35,7 @@ pub(crate) fn put_plus(out: &mut Vec<u8>, first: bool) -> Result<(), NoMemory>
 
 // Appends the text before a part with a minus.
 fn put_minus(out: &mut Vec<u8>, first: bool) -> Result<(), NoMemory>
-    ensures { OnOk result (out.new.items ≡ out.old.items ++ minus_text first) }
+    ensures { Writes result out.old out.new (minus_text first) }
 {
     if first {
         return put(out, b"0 - ");
@@ -45,7 +45,7 @@ fn put_minus(out: &mut Vec<u8>, first: bool) -> Result<(), NoMemory>
 
 // Appends the sign before a part of a sum.
 fn put_sign(out: &mut Vec<u8>, width: Width, first: bool, number: u64) -> Result<(), NoMemory>
-    ensures { OnOk result (out.new.items ≡ out.old.items ++ sign_text width first number) }
+    ensures { Writes result out.old out.new (sign_text width first number) }
 {
     if is_minus(width, number) {
         return put_minus(out, first);
@@ -55,7 +55,7 @@ fn put_sign(out: &mut Vec<u8>, width: Width, first: bool, number: u64) -> Result
 
 /// Appends a coefficient other than 1.
 pub(crate) fn put_times(alloc: Global, out: &mut Vec<u8>, times: u64) -> Result<(), NoMemory>
-    ensures { OnOk result (out.new.items ≡ out.old.items ++ times_text times) }
+    ensures { Writes result out.old out.new (times_text times) }
 {
     if times == 1 {
         return Ok(());
@@ -72,7 +72,7 @@ fn put_coefficient(
     first: bool,
     number: u64,
 ) -> Result<(), NoMemory>
-    ensures { OnOk result (out.new.items ≡ out.old.items ++ (sign_text width first number ++ times_text (magnitude_of width number))) }
+    ensures { Writes result out.old out.new (factor_text width first number) }
 {
     put_sign(out, width, first, number)?;
     put_times(alloc, out, magnitude(width, number))
@@ -86,7 +86,7 @@ fn put_constant(
     first: bool,
     number: u64,
 ) -> Result<(), NoMemory>
-    ensures { OnOk result (out.new.items ≡ out.old.items ++ constant_text width first number) }
+    ensures { Writes result out.old out.new (constant_text width first number) }
 {
     if first {
         return put_number(alloc, out, number);
@@ -100,7 +100,7 @@ fn put_constant(
 
 // Appends the product of no cells, unless it ends a product.
 fn put_one(out: &mut Vec<u8>, first: bool) -> Result<(), NoMemory>
-    ensures { OnOk result (out.new.items ≡ out.old.items ++ one_text first) }
+    ensures { Writes result out.old out.new (one_text first) }
 {
     if first {
         return put(out, b"1");
@@ -109,7 +109,7 @@ fn put_one(out: &mut Vec<u8>, first: bool) -> Result<(), NoMemory>
 }
 
 fn put_width(out: &mut Vec<u8>, width: Width) -> Result<(), NoMemory>
-    ensures { OnOk result (out.new.items ≡ out.old.items ++ width_text width) }
+    ensures { Writes result out.old out.new (width_text width) }
 {
     match width {
         Width::W8 => put(out, b"8"),
@@ -121,7 +121,7 @@ fn put_width(out: &mut Vec<u8>, width: Width) -> Result<(), NoMemory>
 
 // Appends the word of a conversion and an opening parenthesis.
 fn put_conversion(out: &mut Vec<u8>, signed: bool, to: Width) -> Result<(), NoMemory>
-    ensures { OnOk result (out.new.items ≡ out.old.items ++ (conversion_text signed to ++ codes "(")) }
+    ensures { Writes result out.old out.new (conversion_text signed to ++ codes "(") }
 {
     if signed {
         put(out, b"s")?;
@@ -146,7 +146,7 @@ fn put_arguments(
     names: &FlowNames,
     arguments: &FlowForm,
 ) -> Result<(), NoMemory>
-    ensures { OnOk result (out.new.items ≡ out.old.items ++ arguments_text (names_of names.now.variables.now names.now.sorts.now names.now.functions.now) (form_tree arguments.now)) }
+    ensures { Writes result out.old out.new (arguments_of names.now arguments.now) }
 {
     if is_long(arguments) {
         return put(out, b"(..)");
@@ -166,7 +166,7 @@ pub(crate) fn put_form(
     first: bool,
     form: &FlowForm,
 ) -> Result<(), NoMemory>
-    ensures { OnOk result (out.new.items ≡ out.old.items ++ part_text (names_of names.now.variables.now names.now.sorts.now names.now.functions.now) width first (form_tree form.now)) }
+    ensures { Writes result out.old out.new (part_of names.now width first form.now) }
 {
     match form {
         FlowForm::Constant(number) => put_constant(alloc, out, width, first, *number),

@@ -1,6 +1,7 @@
 //! The names with which comments are written.
-ghost use Rattle.std.specs.Prelude.{◌≡◌, ◌++◌, OnOk};
-ghost use Rattle.flow_print.specs.NameTables.{names_of, variable_text, function_text, variable_width, sort_width as width_of_sort};
+ghost use Rattle.std.specs.Prelude.{◌≡◌};
+ghost use Rattle.flow_print.specs.NameTables.{variable_text, function_text, variable_width, sort_width as width_of_sort};
+ghost use Rattle.flow_print.specs.Working.Written.{Writes, names_in};
 
 use flow_model::Sort;
 use kat_model::{NoMemory, Width};
@@ -25,7 +26,7 @@ pub(crate) fn put_variable(
     names: &FlowNames,
     number: usize,
 ) -> Result<(), NoMemory>
-    ensures { OnOk result (out.new.items ≡ out.old.items ++ variable_text (names_of names.now.variables.now names.now.sorts.now names.now.functions.now) number) }
+    ensures { Writes result out.old out.new (variable_text (names_in names.now) number) }
 {
     let variables = names.variables;
     match variables.get(number) {
@@ -42,7 +43,7 @@ pub(crate) fn put_function(
     names: &FlowNames,
     number: usize,
 ) -> Result<(), NoMemory>
-    ensures { OnOk result (out.new.items ≡ out.old.items ++ function_text (names_of names.now.variables.now names.now.sorts.now names.now.functions.now) number) }
+    ensures { Writes result out.old out.new (function_text (names_in names.now) number) }
 {
     let functions = names.functions;
     match functions.get(number) {
@@ -63,7 +64,7 @@ pub(crate) fn sort_width(sort: Sort) -> Width
 
 /// Returns the width of a variable.
 pub(crate) fn variable_width(names: &FlowNames, number: usize) -> Width
-    ensures { result ≡ variable_width (names_of names.now.variables.now names.now.sorts.now names.now.functions.now) number }
+    ensures { result ≡ variable_width (names_in names.now) number }
 {
     let sorts = names.sorts;
     match sorts.get(number) {

@@ -1,10 +1,9 @@
 //! Hypotheses, each after the comment with its reason if that reason is new.
-ghost use Rattle.std.specs.Prelude.{◌≡◌, ◌∷◌, ◌++◌, [], if◌then◌else◌, codes, length, map, OnOk};
-ghost use Rattle.problem_file.specs.CommentedTexts.{comments_text, commented_hyps};
-ghost use Rattle.problem_file.specs.Questions.{plain_name};
+ghost use Rattle.std.specs.Prelude.{◌≡◌, ◌++◌};
 ghost use Rattle.problem_file.specs.Working.Scopes.{IsPlain};
 ghost use Rattle.flow_abstraction.specs.HypothesisViews.{flow_rule};
-ghost use Rattle.flow_print.specs.ReasonTexts.{two_tests, three_tests, reason_text, is_same_reason, is_new as is_new_reason, reason_before, comments_before, comments_from};
+ghost use Rattle.flow_print.specs.ReasonTexts.{two_tests, three_tests, reason_text, is_same_reason};
+ghost use Rattle.flow_print.specs.Working.Written.{Writes, reason_line, is_new_at, reason_lines, hypothesis_lines};
 
 use flow_abstraction::FlowRule;
 use kat_model::{NoMemory, Problem};
@@ -15,7 +14,7 @@ use text_print::{put, put_numbered, put_word};
 
 // Appends the name of a fact over two tests, and the tests.
 fn put_two(alloc: Global, out: &mut Vec<u8>, name: &str, i: usize, j: usize) -> Result<(), NoMemory>
-    ensures { OnOk result (out.new.items ≡ out.old.items ++ (name.now ++ two_tests i j)) }
+    ensures { Writes result out.old out.new (name.now ++ two_tests i j) }
 {
     put_word(out, name)?;
     put_numbered(alloc, out, " t", i)?;
@@ -31,7 +30,7 @@ fn put_three(
     j: usize,
     k: usize,
 ) -> Result<(), NoMemory>
-    ensures { OnOk result (out.new.items ≡ out.old.items ++ (name.now ++ three_tests i j k)) }
+    ensures { Writes result out.old out.new (name.now ++ three_tests i j k) }
 {
     put_two(alloc, out, name, i, j)?;
     put_numbered(alloc, out, " t", k)
@@ -39,7 +38,7 @@ fn put_three(
 
 // Appends the assignment, or the fact with its tests.
 fn put_reason(alloc: Global, out: &mut Vec<u8>, rule: &FlowRule) -> Result<(), NoMemory>
-    ensures { OnOk result (out.new.items ≡ out.old.items ++ reason_text (flow_rule rule.now)) }
+    ensures { Writes result out.old out.new (reason_text (flow_rule rule.now)) }
 {
     match rule {
         FlowRule::Assignment(action, test) => {
@@ -62,7 +61,7 @@ fn put_new_reason(
     new: bool,
     rule: &FlowRule,
 ) -> Result<(), NoMemory>
-    ensures { OnOk result (out.new.items ≡ out.old.items ++ comments_text (if new then (codes " " ++ reason_text (flow_rule rule.now)) ∷ [] else [])) }
+    ensures { Writes result out.old out.new (reason_line new rule.now) }
 {
     if !new {
         return Ok(());
@@ -94,7 +93,7 @@ fn same_reason(left: &FlowRule, right: &FlowRule) -> bool
 // Returns whether the reason of hypothesis `number` is another than that of the hypothesis before it.
 #[tactic(auto, using(crate::proofs::NamedNumbers::reason_there, crate::proofs::NamedNumbers::no_reason))]
 fn is_new(rules: &[FlowRule], number: usize, rule: &FlowRule) -> bool
-    ensures { result ≡ is_new_reason (reason_before (map flow_rule rules.now) number) (flow_rule rule.now) }
+    ensures { result ≡ is_new_at rules.now number rule.now }
 {
     if number == 0 {
         return true;
@@ -113,7 +112,7 @@ fn put_comment(
     rules: &[FlowRule],
     number: usize,
 ) -> Result<(), NoMemory>
-    ensures { OnOk result (out.new.items ≡ out.old.items ++ comments_text (comments_before (map flow_rule rules.now) number)) }
+    ensures { Writes result out.old out.new (reason_lines rules.now number) }
 {
     match rules.get(number) {
         Some(rule) => put_new_reason(alloc, out, is_new(rules, number, rule), rule),
@@ -130,7 +129,7 @@ pub(crate) fn put_hyps(
     scope: &Scope,
 ) -> Result<(), NoMemory>
     requires { IsPlain scope.now problem.now.tests problem.now.actions }
-    ensures { OnOk result (out.new.items ≡ out.old.items ++ commented_hyps plain_name (comments_from (map flow_rule rules.now) 0 (length problem.now.hyps)) problem.now.hyps) }
+    ensures { Writes result out.old out.new (hypothesis_lines rules.now problem.now) }
 {
     let hyps = problem.hyps();
     for (number, hyp) in hyps.iter().enumerate() {

@@ -1,11 +1,5 @@
 //! Comments with the meanings of tests and actions.
-ghost use Rattle.std.specs.Prelude.{◌≡◌, ◌++◌, map, OnOk};
-ghost use Rattle.std.specs.List.{enumerate_from};
-ghost use Rattle.flow_forms.specs.Comparisons.{comparison_tree};
-ghost use Rattle.problem_file.specs.CommentedTexts.{comment_text, comments_text};
-ghost use Rattle.flow_edges.specs.EdgeViews.{flow_action};
-ghost use Rattle.flow_print.specs.NameTables.{names_of};
-ghost use Rattle.flow_print.specs.FlowTexts.{test_comment, action_comment};
+ghost use Rattle.flow_print.specs.Working.Written.{Writes, test_line, test_lines, action_line, action_lines};
 
 use crate::actions::put_action;
 use crate::comparisons::put_comparison;
@@ -24,7 +18,7 @@ fn put_test_comment(
     number: usize,
     comparison: &FlowComparison,
 ) -> Result<(), NoMemory>
-    ensures { OnOk result (out.new.items ≡ out.old.items ++ comment_text (test_comment (names_of names.now.variables.now names.now.sorts.now names.now.functions.now) (number, comparison_tree comparison.now))) }
+    ensures { Writes result out.old out.new (test_line names.now number comparison.now) }
 {
     put(out, b"# ")?;
     put_test_name(alloc, out, number)?;
@@ -40,7 +34,7 @@ pub(crate) fn put_test_comments(
     names: &FlowNames,
     tests: &[FlowComparison],
 ) -> Result<(), NoMemory>
-    ensures { OnOk result (out.new.items ≡ out.old.items ++ comments_text (map (test_comment (names_of names.now.variables.now names.now.sorts.now names.now.functions.now)) (enumerate_from 0 (map comparison_tree tests.now)))) }
+    ensures { Writes result out.old out.new (test_lines names.now tests.now) }
 {
     for (number, comparison) in tests.iter().enumerate() {
         put_test_comment(alloc, out, names, number, comparison)?;
@@ -55,7 +49,7 @@ fn put_action_comment(
     number: usize,
     action: &FlowAction,
 ) -> Result<(), NoMemory>
-    ensures { OnOk result (out.new.items ≡ out.old.items ++ comment_text (action_comment (names_of names.now.variables.now names.now.sorts.now names.now.functions.now) (number, flow_action action.now))) }
+    ensures { Writes result out.old out.new (action_line names.now number action.now) }
 {
     put(out, b"# ")?;
     put_action_name(alloc, out, number)?;
@@ -71,7 +65,7 @@ pub(crate) fn put_action_comments(
     names: &FlowNames,
     actions: &[FlowAction],
 ) -> Result<(), NoMemory>
-    ensures { OnOk result (out.new.items ≡ out.old.items ++ comments_text (map (action_comment (names_of names.now.variables.now names.now.sorts.now names.now.functions.now)) (enumerate_from 0 (map flow_action actions.now)))) }
+    ensures { Writes result out.old out.new (action_lines names.now actions.now) }
 {
     for (number, action) in actions.iter().enumerate() {
         put_action_comment(alloc, out, names, number, action)?;

@@ -6,6 +6,7 @@ ghost use Rattle.flow_edges.specs.EdgeViews.{flow_action};
 ghost use Rattle.flow_abstraction.specs.HypothesisViews.{flow_rule};
 ghost use Rattle.flow_print.specs.NameTables.{names_of};
 ghost use Rattle.flow_print.specs.FlowTexts.{flow_text};
+ghost use Rattle.flow_print.specs.Working.Written.{IsTextOf};
 
 use crate::names::FlowNames;
 use crate::reasons::put_hyps;
@@ -29,7 +30,7 @@ fn text_in(
     plain: &Scope,
 ) -> Result<Vec<u8>, NoMemory>
     requires { IsPlain plain.now problem.now.tests problem.now.actions }
-    ensures { IfOk result (λ v. v.items ≡ flow_text (names_of names.now.variables.now names.now.sorts.now names.now.functions.now) (map flow_rule rules.now) (record { problem = problem.now; tests = map comparison_tree tests.now; actions = map flow_action actions.now })) }
+    ensures { IfOk result (IsTextOf names.now rules.now problem.now tests.now actions.now) }
 {
     let mut out = Vec::new(alloc);
     put_test_comments(alloc, &mut out, names, tests)?;
