@@ -129,9 +129,17 @@ class Words(Script):
         self.assertIn("own text", self.call("show", "/dev/stdin", environment={"READ": "1"}, text="own text").stdout)
 
     def test_a_signal_ends_the_program_too(self) -> None:
-        for number in (signal.SIGTERM, signal.SIGINT, signal.SIGHUP):
+        numbers = (signal.SIGTERM, signal.SIGINT, signal.SIGHUP)
+
+        # A shell cannot catch a signal that was ignored when it began, as some are where the tests run in the background.
+        def take_signals() -> None:
+            for number in numbers:
+                signal.signal(number, signal.SIG_DFL)
+
+        for number in numbers:
             began = time.monotonic()
-            with subprocess.Popen([self.tree / "kat", "decide"], stdout=subprocess.PIPE, env={**os.environ, "SLEEP": "60"}) as started:
+            with subprocess.Popen([self.tree / "kat", "decide"], stdout=subprocess.PIPE, env={**os.environ, "SLEEP": "60"},
+                                  preexec_fn=take_signals) as started:
                 # The program has begun once it prints. It holds the pipe as long as it runs.
                 self.assertEqual(started.stdout.read(1), b"<")
                 started.send_signal(number)
