@@ -12,7 +12,7 @@
 //! ```
 //!
 //! Each function is a command of kat on texts instead of files; `docs/commands.md` of the repository says what each prints.
-//! Any number of threads may call at once. A call needs up to 1 MB of stack (`docs/embedding.md`).
+//! Any number of threads may call at once. Give a thread that calls 5 MB of stack, and more for `flow` (`docs/embedding.md`).
 #![warn(missing_docs)]
 
 mod calls;
