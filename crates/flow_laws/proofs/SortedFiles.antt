@@ -12,8 +12,8 @@ use Rattle.flow_model.specs.declared.sort.Sort.{Sort}
 use Rattle.flow_model.specs.Graphs.{Graph}
 use Rattle.flow_ways.specs.Sorted.{IsSortedGraph}
 use Rattle.flow_problem.specs.PlacedProblems.{IsFlowPair}
-use Rattle.flow_syntax.specs.Syntax.{BlockSyntax, ItemSyntax, sorts, function, variables, graph, rounds, split, equal}
-use Rattle.flow_syntax.specs.Sizes.{nodes_with}
+use Rattle.flow_syntax.specs.Syntax.{BlockSyntax, MatchSyntax, ItemSyntax, sorts, function, variables, graph, rounds, split, equal, matching}
+use Rattle.flow_syntax.specs.Sizes.{nodes_with, nodes_with_match}
 use Rattle.flow_syntax.specs.Terminals.{spelled_number}
 use Rattle.flow_syntax.proofs.WholeSyntax.{AreWholeBlocks, IsWholeItem, AreWholeItems}
 use Rattle.flow_syntax.proofs.SpelledWhole.{spelled_whole}
@@ -21,7 +21,7 @@ use Rattle.flow_text.specs.declared.meaning.Meaning.{Meaning}
 use Rattle.flow_text.specs.declared.meaning.Meaning.TheVariants.{SortName, Function, Variable, GraphName}
 use Rattle.flow_text.specs.DeclaredNames.{variable_names, function_names}
 use Rattle.flow_text.specs.Scopes.{ScopeParts, counts, meaning, may_declare, with_sort, may_have_function, with_function, with_variable, may_have_graph, counts_of, scope_before, sorts_declared, variables_declared, sort_named, parameters_after}
-use Rattle.flow_text.specs.Checking.{FlowFileParts, GraphSyntax, a_graph, Known, nothing_known, in_scope, graph_meant, at_most_once, with_nodes, few_rounds, function_known, variables_known, graph_known, rounds_known, split_known, goal_known, item_known, items_known, shared_sorts, sorts_returned, whole_graph, next_graph, graphs_after, with_goal, file_of, graph_of, graph_or_none, pair_of}
+use Rattle.flow_text.specs.Checking.{FlowFileParts, GraphSyntax, a_graph, Known, nothing_known, in_scope, graph_meant, at_most_once, with_nodes, with_match, few_rounds, function_known, variables_known, graph_known, rounds_known, split_known, goal_known, item_known, items_known, matches_of, shared_sorts, sorts_returned, whole_graph, next_graph, graphs_after, with_goal, file_of, graph_of, graph_or_none, pair_of}
 use Rattle.flow_text.specs.Texts.{IsFlowText}
 use Rattle.flow_text.proofs.NameTables.{get-insert_name}
 use Rattle.flow_laws.proofs.Holding.{Holds, any_holds, then_holds, weakened, value_holds}
@@ -183,7 +183,7 @@ if_not P false x y h k = k
 
 split_kept : (k : Known) (word : TokenParts) → IsKnown k → Holds IsKnown (split_known k word)
 split_kept k word h =
-    if_not IsKnown k.splits _ (Ok (record { scope = k.scope; graphs = k.graphs; rounds = k.rounds; splits = true; goal = k.goal; nodes = k.nodes })) tt (h.0, h.1, h.2)
+    if_not IsKnown k.splits _ (Ok (record { scope = k.scope; graphs = k.graphs; matches = k.matches; rounds = k.rounds; splits = true; goal = k.goal; nodes = k.nodes })) tt (h.0, h.1, h.2)
 
 meant_below : (n : ℕ) (t : TokenParts) (o : Option Meaning) → ((m : Meaning) → o ≡ Some m → IsBelow n m) → Holds (λ i. i < n) (graph_meant t o)
 meant_below n t None h = tt
@@ -197,6 +197,10 @@ goal_kept k word before after h =
     then_holds (λ j. j < length k.graphs) IsKnown (graph_meant after (meaning k.scope after)) _ (meant_below (length k.graphs) after (meaning k.scope after) (h.1 (bytes_of after))) (λ j b.
     (h.0, h.1, (a, b)))))
 
+match_kept : (k : Known) (word : TokenParts) (m : MatchSyntax) (n : Option ℕ) → IsKnown k → Holds IsKnown (with_match k word m n)
+match_kept k word m None h = tt
+match_kept k word m (Some n) h = (h.0, h.1, h.2)
+
 item_kept : (k : Known) (x : ItemSyntax) → IsWholeItem x → IsKnown k → Holds IsKnown (item_known k x)
 item_kept k (sorts word names) w h = scope_known k (sorts_declared k.scope names) h (sorts_below (length k.graphs) k.scope names h.1)
 item_kept k (function word result name parameters) w h = function_kept k result name parameters h
@@ -205,6 +209,7 @@ item_kept k (graph word name blocks) w h = graph_kept k word name blocks w h
 item_kept k (rounds word number) w h = rounds_kept k word number h
 item_kept k (split word) w h = split_kept k word h
 item_kept k (equal word before after) w h = goal_kept k word before after h
+item_kept k (matching word m) w h = match_kept k word m (nodes_with_match k.nodes m) h
 
 items_kept : (k : Known) (xs : List ItemSyntax) → AreWholeItems xs → IsKnown k → Holds IsKnown (items_known k xs)
 items_kept k [] w h = h
@@ -224,12 +229,13 @@ IsGoodFile f = AreGood f.sorts f.graphs × IsFlowPair (pair_of f)
 goal_good : (vs fs : List (List ℕ)) (k : Known) (goal : Option (ℕ × ℕ)) → IsKnown k → IsGoal (length k.graphs) goal → Holds IsGoodFile (with_goal vs fs k goal)
 goal_good vs fs k None h g = tt
 goal_good vs fs k (Some goal) h g =
+    then_holds (λ ms. Unit {0}) IsGoodFile (matches_of k goal) _ (any_holds (matches_of k goal)) (λ ms v.
     then_holds (GraphsOf k.scope.variables (length k.graphs)) IsGoodFile (graphs_after k.scope goal (shared_sorts k.scope goal k.graphs) [] k.graphs) _
     (graphs_good k.scope goal (shared_sorts k.scope goal k.graphs) (length k.graphs) k.graphs [] (omega arith) h.0 tt)
     (λ gs a.
     let before = good_at k.scope.variables gs goal.0 a.0 (subst (λ n. goal.0 < n) (sym a.1) g.0) in
     let after = good_at k.scope.variables gs goal.1 a.0 (subst (λ n. goal.1 < n) (sym a.1) g.1) in
-    (a.0, record { before_blocks = before.0; after_blocks = after.0; before_sorted = before.1; after_sorted = after.1 }))
+    (a.0, record { before_blocks = before.0; after_blocks = after.0; before_sorted = before.1; after_sorted = after.1 })))
 
 file_good : (is : List ItemSyntax) → AreWholeItems is → Holds IsGoodFile (file_of is)
 file_good is w =
