@@ -1,23 +1,23 @@
 -- Equations and matches resolved, one more.
-use Rattle.std.proofs.Common.{◌≡◌, ◌<◌, ◌≤◌, ℕ, ◌+◌, List, [], ◌∷◌, ◌++◌, length, drop, get_or, map, Bool, true, false, ◌&&◌, ◌||◌, Option, Some, None, Result, Ok, Err, nat_eq, refl, sym, ap, ◌∙◌}
+use Rattle.std.proofs.Common.{◌≡◌, ◌<◌, ◌≤◌, ℕ, ◌+◌, List, [], ◌∷◌, ◌++◌, length, drop, get_or, map, ◌&&◌, ◌||◌, Option, Result, Ok, Err, nat_eq, refl, sym, ap, ◌∙◌}
 use Rattle.std.specs.List.{list_any}
-use Rattle.std.proofs.lemmas.List.{map-append, length-map, drop_more, drop_all}
+use Rattle.std.proofs.lemmas.List.{map-append, drop_more, drop_all}
 use Rattle.text_parser.specs.declared.fault.TextFault.{TextFault}
 use Rattle.text_parser.specs.TokenParts.{TokenParts}
 use Rattle.text_parser.specs.Parsed.{◌>>=◌}
 use Rattle.flow_syntax.specs.declared.written.Equation.{Equation as Written}
 use Rattle.flow_syntax.specs.declared.written.Block.{Block}
-use Rattle.flow_syntax.specs.SyntaxViews.{equation_syntax, equations_syntax, block_syntax, blocks_syntax}
+use Rattle.flow_syntax.specs.SyntaxViews.{equation_syntax, equations_syntax, blocks_syntax}
 use Rattle.flow_syntax.proofs.Stacked.{equations_push, blocks_push}
 use Rattle.flow_text.specs.declared.matches.Equation.{Equation}
 use Rattle.flow_text.specs.declared.matches.Match.{Match}
 use Rattle.flow_text.specs.declared.known.WrittenMatch.{WrittenMatch}
 use Rattle.flow_text.specs.Matches as parts
 use Rattle.flow_text.specs.Matches.{FileMatch}
-use Rattle.flow_text.specs.MatchViews.{equation_parts, equations_of, match_parts, matches_parts}
+use Rattle.flow_text.specs.MatchViews.{equation_parts, equations_of, match_parts}
 use Rattle.flow_text.specs.KnownViews.{given_match_of}
 use Rattle.flow_text.specs.Scopes.{ScopeParts}
-use Rattle.flow_text.specs.Checking.{GivenMatch, block_names, next_equation, equations_after, with_name, with_names, next_matches, matches_after}
+use Rattle.flow_text.specs.Checking.{block_names, next_equation, equations_after, with_name, with_names, next_matches, matches_after}
 
 -- ---- what is there already
 

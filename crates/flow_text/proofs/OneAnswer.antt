@@ -1,5 +1,5 @@
 -- Bytes are the text of exactly one flow file or have exactly one first fault.
-use Rattle.std.proofs.Common.{◌≡◌, ◌⊎◌, inl, inr, ⊎_elim, ℕ, List, length, map, Result, Ok, Err, IfErr, refl, sym, ap, subst, ◌∙◌}
+use Rattle.std.proofs.Common.{◌≡◌, ◌⊎◌, inl, inr, ⊎_elim, ℕ, List, length, Result, Ok, Err, IfErr, refl, sym, ap, subst, ◌∙◌}
 use Rattle.text_parser.specs.declared.fault.TextFault.{TextFault}
 use Rattle.text_parser.specs.declared.fault.TextFault.TheVariants.{NoMemory, BadToken}
 use Rattle.text_parser.specs.TokenParts.{TokenParts}

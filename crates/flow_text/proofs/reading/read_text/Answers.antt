@@ -1,4 +1,4 @@
-use Rattle.std.proofs.Common.{length, map, Err, sym, subst, ap, ◌∙◌}
+use Rattle.std.proofs.Common.{length, Err, sym, subst, ap, ◌∙◌}
 use Rattle.std.proofs.lemmas.Result.{err_from_is_err_and}
 use Rattle.text_parser.specs.declared.fault.TextFault.{TextFault}
 use Rattle.text_parser.specs.TokenParts.{parts_of_tokens}
