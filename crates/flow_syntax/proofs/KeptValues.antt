@@ -37,15 +37,17 @@ first_fits rules g Fits k Otherwise t ps x vs m h = absurd m
 one_less : (m n : ℕ) → suc m ≡ suc n → m ≡ n
 one_less m n e = omega (arith, e)
 
-pub values_fit : {V : Type 0} (rules : List RuleParts) (g : Actions V) (Fits : List Part → List V → Type 0) → Keeps rules g Fits → (ms : List Mark) (ps : List Part) (steps : List Step) (ts : List TokenParts) → length ms ≡ length ts → IsLeftmost rules ps steps ms → Fits ps (values g steps ts)
+pub values_fit : {V : Type 0} (rules : List RuleParts) (g : Actions V) (Fits : List Part → List V → Type 0) → Keeps rules g Fits → (ps : List Part) (steps : List Step) (ms : List Mark) (ts : List TokenParts) → length ms ≡ length ts → IsLeftmost rules ps steps ms → Fits ps (values g steps ts)
 values_fit rules g Fits k [] [] [] [] e l = k.nothing
-values_fit rules g Fits k (m ∷ ms) (Token t ∷ ps) (Match ∷ steps) (x ∷ ts) e (same, l) = k.token t ps x (values g steps ts) (values_fit rules g Fits k ms ps steps ts (one_less _ _ e) l)
-values_fit rules g Fits k (m ∷ ms) (Opening t ∷ ps) (Match ∷ steps) (x ∷ ts) e (same, l) = k.opening t ps x (values g steps ts) (values_fit rules g Fits k ms ps steps ts (one_less _ _ e) l)
-values_fit rules g Fits k ms (Closing ∷ ps) (Close ∷ steps) ts e l = k.closing ps (values g steps ts) (values_fit rules g Fits k ms ps steps ts e l)
-values_fit rules g Fits k (m ∷ ms) (Phrase n ∷ ps) (Shift i ∷ steps) (x ∷ ts) e (start, parts, is, may, l) =
-    k.rule i n start parts ps _ is (first_fits rules g Fits k start _ (parts ++ ps) x (values g steps ts) may (values_fit rules g Fits k ms (parts ++ ps) steps ts (one_less _ _ e) l))
-values_fit rules g Fits k ms (Phrase n ∷ ps) (Apply i ∷ steps) ts e (parts, is, l) =
-    k.rule i n Otherwise parts ps (values g steps ts) is (values_fit rules g Fits k ms (parts ++ ps) steps ts e l)
-values_fit rules g Fits k (m ∷ ms) ps steps [] e l = absurd (omega (arith, e))
-values_fit rules g Fits k [] ps steps (x ∷ ts) e l = absurd (omega (arith, e))
-values_fit rules g Fits k ms ps steps ts e l = absurd l
+values_fit rules g Fits k [] [] [] (x ∷ ts) e l = absurd (omega (arith, e))
+values_fit rules g Fits k (Token t ∷ ps) (Match ∷ steps) (m ∷ ms) (x ∷ ts) e (same, l) = k.token t ps x (values g steps ts) (values_fit rules g Fits k ps steps ms ts (one_less _ _ e) l)
+values_fit rules g Fits k (Token t ∷ ps) (Match ∷ steps) (m ∷ ms) [] e l = absurd (omega (arith, e))
+values_fit rules g Fits k (Opening t ∷ ps) (Match ∷ steps) (m ∷ ms) (x ∷ ts) e (same, l) = k.opening t ps x (values g steps ts) (values_fit rules g Fits k ps steps ms ts (one_less _ _ e) l)
+values_fit rules g Fits k (Opening t ∷ ps) (Match ∷ steps) (m ∷ ms) [] e l = absurd (omega (arith, e))
+values_fit rules g Fits k (Closing ∷ ps) (Close ∷ steps) ms ts e l = k.closing ps (values g steps ts) (values_fit rules g Fits k ps steps ms ts e l)
+values_fit rules g Fits k (Phrase n ∷ ps) (Shift i ∷ steps) (m ∷ ms) (x ∷ ts) e (start, parts, is, may, l) =
+    k.rule i n start parts ps _ is (first_fits rules g Fits k start _ (parts ++ ps) x (values g steps ts) may (values_fit rules g Fits k (parts ++ ps) steps ms ts (one_less _ _ e) l))
+values_fit rules g Fits k (Phrase n ∷ ps) (Shift i ∷ steps) (m ∷ ms) [] e l = absurd (omega (arith, e))
+values_fit rules g Fits k (Phrase n ∷ ps) (Apply i ∷ steps) ms ts e (parts, is, l) =
+    k.rule i n Otherwise parts ps (values g steps ts) is (values_fit rules g Fits k (parts ++ ps) steps ms ts e l)
+values_fit rules g Fits k ps steps ms ts e l = absurd l

@@ -447,5 +447,5 @@ grammar_keeps = record { nothing = tt; token = λ t ps x vs h. h; opening = λ t
 pub spelled_whole : (tokens : List TokenParts) (end : ℕ) (is : List ItemSyntax) → AreSpelled tokens end is → AreWholeItems is
 spelled_whole tokens end is s =
     let leftmost = derivation_leftmost rules FILE (marks_of tokens) end s.steps s.derived in
-    let fits : AreOf (Phrase FILE ∷ []) (values actions s.steps tokens) = values_fit rules actions AreOf grammar_keeps (marks_of tokens) (Phrase FILE ∷ []) s.steps tokens (marks_length tokens) leftmost in
+    let fits : AreOf (Phrase FILE ∷ []) (values actions s.steps tokens) = values_fit rules actions AreOf grammar_keeps (Phrase FILE ∷ []) s.steps (marks_of tokens) tokens (marks_length tokens) leftmost in
     subst AreWholeItems s.value fits.0

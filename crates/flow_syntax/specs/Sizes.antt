@@ -63,7 +63,7 @@ jump_short abort = true
 abbrev pub block_short : BlockSyntax → Bool
 block_short (a_block is_cut name statements jump) = all_pass statement_short statements && jump_short jump
 
--- `n` nodes with those of a graph of `m` nodes, in which each expression is short or not; `None` if these are too many
+-- `n` nodes with `m` others, in which each expression is short or not; `None` if the others or all together are too many
 abbrev pub few_nodes : Bool → ℕ → ℕ → Option ℕ
 few_nodes short n m =
     if short then (if nat_lt MAX_TERM_NODES m then None else (if nat_lt MAX_TEXT_NODES (n + m) then None else Some (n + m))) else None

@@ -1,6 +1,6 @@
 //! Sizes of graphs and of matches.
 ghost use Rattle.std.specs.Prelude.{◌≡◌, ◌+◌, length, min};
-ghost use Rattle.flow_syntax.specs.Sizes.{total, expr_nodes, cond_node_nodes, statement_nodes, jump_nodes, block_nodes, is_short, all_pass, cond_node_short, statement_short, jump_short, block_short, nodes_with, equation_nodes, equation_short, match_nodes, match_short, nodes_with_match};
+ghost use Rattle.flow_syntax.specs.Sizes.{total, expr_nodes, cond_node_nodes, statement_nodes, jump_nodes, block_nodes, is_short, all_pass, cond_node_short, statement_short, jump_short, block_short, few_nodes, nodes_with, equation_nodes, equation_short, match_nodes, match_short, nodes_with_match};
 ghost use Rattle.flow_syntax.specs.SyntaxViews.{tokens_syntax, expr_syntax, exprs_syntax, cond_node_syntax, cond_syntax, statement_syntax, statements_syntax, jump_syntax, block_syntax, blocks_syntax, equations_syntax, match_syntax};
 
 use crate::written::{Block, CondNode, Equation, Jump, Match, Node, Statement};
@@ -205,13 +205,12 @@ fn total_nodes(blocks: &[Block]) -> u64
     nodes
 }
 
-/// Returns the number of nodes so far with those of another graph, or `None` if the graph or all graphs together are too
-/// large.
-pub fn nodes_with(so_far: u64, blocks: &[Block]) -> Option<u64>
-    ensures { result ≡ nodes_with so_far (blocks_syntax blocks.now) }
+// Returns the number of nodes so far with others, in which each expression is short or not, or `None` if the others or all
+// together are too many.
+fn few_nodes(short: bool, so_far: u64, nodes: u64) -> Option<u64>
+    ensures { result ≡ few_nodes short so_far nodes }
 {
-    let nodes = total_nodes(blocks);
-    if !are_short(blocks) {
+    if !short {
         return None;
     }
     if MAX_TERM_NODES < nodes {
@@ -222,6 +221,14 @@ pub fn nodes_with(so_far: u64, blocks: &[Block]) -> Option<u64>
         return None;
     }
     Some(all)
+}
+
+/// Returns the number of nodes so far with those of another graph, or `None` if the graph or all together are too large.
+#[tactic(auto, using(crate::proofs::CappedNodes::few_capped))]
+pub fn nodes_with(so_far: u64, blocks: &[Block]) -> Option<u64>
+    ensures { result ≡ nodes_with so_far (blocks_syntax blocks.now) }
+{
+    few_nodes(are_short(blocks), so_far, total_nodes(blocks))
 }
 
 #[tactic(auto, using(crate::proofs::Stacked::pushes, crate::proofs::LastMembers::more))]
@@ -274,19 +281,9 @@ fn is_match_short(matched: &Match) -> bool
 }
 
 /// Returns the number of nodes so far with those of a match, or `None` if the match or all together are too large.
+#[tactic(auto, using(crate::proofs::CappedNodes::few_capped))]
 pub fn nodes_with_match(so_far: u64, matched: &Match) -> Option<u64>
     ensures { result ≡ nodes_with_match so_far (match_syntax matched.now) }
 {
-    let nodes = match_nodes(matched);
-    if !is_match_short(matched) {
-        return None;
-    }
-    if MAX_TERM_NODES < nodes {
-        return None;
-    }
-    let all = so_far.saturating_add(nodes);
-    if MAX_TEXT_NODES < all {
-        return None;
-    }
-    Some(all)
+    few_nodes(is_match_short(matched), so_far, match_nodes(matched))
 }
