@@ -1,23 +1,30 @@
 -- Equations and matches resolved, one more.
-use Rattle.std.proofs.Common.{◌≡◌, ◌<◌, ◌≤◌, ℕ, ◌+◌, List, [], ◌∷◌, ◌++◌, length, drop, get_or, map, ◌&&◌, ◌||◌, Option, Result, Ok, Err, nat_eq, refl, sym, ap, ◌∙◌}
+use Rattle.std.proofs.Common.{◌≡◌, ◌<◌, ◌≤◌, ℕ, zero, suc, ◌+◌, ◌-◌, List, [], ◌∷◌, ◌++◌, length, length-append, take, drop, get_or, map, true, false, ◌&&◌, ◌||◌, Option, Result, Ok, Err, slice_get, nat_eq, refl, sym, ap, ◌∙◌, arith}
+use Rattle.std.proofs.lemmas.Bool.{eqb-true}
 use Rattle.std.specs.List.{list_any}
-use Rattle.std.proofs.lemmas.List.{map-append, drop_more, drop_all}
+use Rattle.std.proofs.lemmas.List.{map-append, length-map, length-reverse, nil_from_length, drop_more, drop_all}
 use Rattle.text_parser.specs.declared.fault.TextFault.{TextFault}
 use Rattle.text_parser.specs.TokenParts.{TokenParts}
 use Rattle.text_parser.specs.Parsed.{◌>>=◌}
+use Rattle.flow_model.specs.Conditions.{always}
+use Rattle.flow_syntax.specs.declared.written.CondNode.{CondNode}
 use Rattle.flow_syntax.specs.declared.written.Equation.{Equation as Written}
 use Rattle.flow_syntax.specs.declared.written.Block.{Block}
-use Rattle.flow_syntax.specs.SyntaxViews.{equation_syntax, equations_syntax, blocks_syntax}
-use Rattle.flow_syntax.proofs.Stacked.{equations_push, blocks_push}
+use Rattle.flow_syntax.specs.SyntaxViews.{cond_syntax, equation_syntax, equations_syntax, blocks_syntax}
+use Rattle.flow_syntax.specs.Syntax.{CondSyntax}
+use Rattle.flow_syntax.proofs.Stacked.{cond_none, equations_push, blocks_push}
 use Rattle.flow_text.specs.declared.matches.Equation.{Equation}
 use Rattle.flow_text.specs.declared.matches.Match.{Match}
 use Rattle.flow_text.specs.declared.known.WrittenMatch.{WrittenMatch}
+use Rattle.flow_text.specs.declared.known.WrittenGraph.{WrittenGraph}
 use Rattle.flow_text.specs.Matches as parts
 use Rattle.flow_text.specs.Matches.{FileMatch}
 use Rattle.flow_text.specs.MatchViews.{equation_parts, equations_of, match_parts}
-use Rattle.flow_text.specs.KnownViews.{given_match_of}
+use Rattle.flow_text.specs.KnownViews.{graph_syntax, given_match_of}
 use Rattle.flow_text.specs.Scopes.{ScopeParts}
-use Rattle.flow_text.specs.Checking.{block_names, next_equation, equations_after, with_name, with_names, next_matches, matches_after}
+use Rattle.flow_text.specs.Resolving.{condition_of}
+use Rattle.flow_text.specs.Checking.{block_names, next_equation, equations_after, condition_or_always, with_name, with_names, next_matches, matches_after, blocks_or_none}
+use Rattle.flow_text.proofs.LastTaken.{before_last}
 
 -- ---- what is there already
 
@@ -28,8 +35,6 @@ given_seen k (q ∷ qs) = ap (λ b. nat_eq q.variable k || b) (given_seen k qs)
 pub matched_seen : (k l : ℕ) (ms : List Match) → list_any (λ (m : FileMatch). nat_eq m.before k && nat_eq m.after l) (map match_parts ms) ≡ list_any (λ (m : Match). nat_eq m.before k && nat_eq m.after l) ms
 matched_seen k l [] = refl
 matched_seen k l (m ∷ ms) = ap (λ b. (nat_eq m.before k && nat_eq m.after l) || b) (matched_seen k l ms)
-
-pub ruleset seen = (given_seen, matched_seen)
 
 -- ---- equations
 
@@ -44,7 +49,30 @@ equation_made s made before q x e =
 pub equation_refused : (s : ScopeParts) (made : List parts.Equation) (before : List Written) (q : Written) (fault : TextFault) → next_equation s made (equation_syntax q) ≡ Err fault → equations_after s made (equations_syntax (before ++ q ∷ [])) ≡ Err fault
 equation_refused s made before q fault e = equation_first s made before q ∙ ap (λ (m : Result parts.Equation TextFault). m >>= λ y. equations_after s (made ++ y ∷ []) (equations_syntax before)) e
 
+-- ---- conditions
+
+cond_length : (ns : List CondNode) → length (cond_syntax ns) ≡ length ns
+unfolding cond_syntax
+cond_length ns = length-map _ _ ∙ length-reverse ns
+
+pub no_condition : (s : ScopeParts) (ns : List CondNode) → nat_eq (length ns) 0 ≡ true → condition_or_always s (cond_syntax ns) ≡ Ok always
+no_condition s ns e = ap (condition_or_always s) (ap cond_syntax (nil_from_length ns (eqb-true (length ns) 0 e)) ∙ cond_none)
+
+given_condition : (s : ScopeParts) (b : CondSyntax) → nat_eq (length b) 0 ≡ false → condition_or_always s b ≡ condition_of s b
+given_condition s [] e = absurd cc
+given_condition s (n ∷ ns) e = refl
+
+pub some_condition : (s : ScopeParts) (ns : List CondNode) → nat_eq (length ns) 0 ≡ false → condition_or_always s (cond_syntax ns) ≡ condition_of s (cond_syntax ns)
+some_condition s ns e = given_condition s (cond_syntax ns) (ap (λ n. nat_eq n 0) (cond_length ns) ∙ e)
+
 -- ---- blocks of the same name
+
+-- the number of the next block is that of those done
+pub next_number : (n : ℕ) (rest before : List Block) (b : Block) → rest ≡ before ++ b ∷ [] → length rest ≤ n → n - length rest + 1 ≡ n - length (take (length rest - 1) rest)
+next_number n rest before b is within =
+    let long : length rest ≡ length before + 1 = ap length is ∙ length-append before (b ∷ []) in
+    let left : length (take (length rest - 1) rest) ≡ length before = ap length (before_last rest before b is) in
+    omega (arith, long, left, within)
 
 module _ (find : List ℕ → Option ℕ) (word : TokenParts) where
   name_first : (made : List FileMatch) (k : ℕ) (before : List Block) (b : Block) → with_names find word made (block_names k (blocks_syntax (before ++ b ∷ []))) ≡ (with_name made word k (find b.name.text.now) >>= λ ms. with_names find word ms (block_names (k + 1) (blocks_syntax before)))
@@ -74,3 +102,10 @@ module _ (s : ScopeParts) (names : List (List ℕ × ℕ)) (first second : List 
 
   pub no_match : (made : List FileMatch) (xs : List WrittenMatch) (i : ℕ) (whole : Result (List FileMatch) TextFault) → length xs ≤ i → matches_after s names first second made (map given_match_of (drop i xs)) ≡ whole → whole ≡ Ok made
   no_match made xs i whole past invariant = sym invariant ∙ ap (λ l. matches_after s names first second made (map given_match_of l)) (drop_all i xs past)
+
+-- ---- graphs
+
+pub no_blocks_at : (graphs : List WrittenGraph) (k : ℕ) → length graphs ≤ k → [] ≡ blocks_or_none (slice_get (map graph_syntax graphs) k)
+no_blocks_at [] k h = refl
+no_blocks_at (g ∷ gs) zero h = absurd (omega (arith, h))
+no_blocks_at (g ∷ gs) (suc k) h = no_blocks_at gs k (omega (arith, h))

@@ -1,6 +1,5 @@
 -- No item has the fault `NoMemory`.
-use Rattle.std.proofs.Common.{ℕ, ◌+◌, List, [], ◌∷◌, ◌++◌, length, Bool, Option, Some, None, not, nat_eq, nat_lt}
-use Rattle.std.specs.Prelude.{◌&&◌}
+use Rattle.std.proofs.Common.{ℕ, ◌+◌, List, [], ◌∷◌, ◌++◌, length, Bool, Option, Some, None, not, ◌&&◌, nat_eq, nat_lt, slice_get}
 use Rattle.kat_model.specs.Stores.{modulus}
 use Rattle.kat_model.specs.declared.expression.Rel.{Rel}
 use Rattle.kat_model.specs.declared.expression.Rel.TheVariants.{Eq, Ne}
@@ -26,7 +25,7 @@ use Rattle.flow_text.specs.Scopes.{FunctionParts, function_parts, ScopeParts, me
 use Rattle.flow_text.specs.Resolving.{Expected, operand, second_operand, number_of_width, number_in, with_expected_sort, variable_in, application_of, function_in, conversion_in, sort_or_u64, sort_of_first, sort_of_sides, node_in, sort_expected, next_node, nodes_after, expression_of, relation_on, rel_named, width_of_sort, comparison_of, signed_comparison_of, part_of, parts_after, condition_of}
 use Rattle.flow_syntax.specs.Sizes.{nodes_with, nodes_with_match}
 use Rattle.flow_text.specs.Matches.{Equation, FileMatch}
-use Rattle.flow_text.specs.Checking.{is_set, target_of, target_meant, next_target, targets_after, expressions_after, expressions_of, seconds, assigned, statement_of, statements_after, block_or_fault, found, block_names, block_name, returned, jump_of, may_have_block, block_of, next_block, blocks_after, graph_of, GraphSyntax, a_graph, GivenMatch, given_match, Known, nothing_known, graph_meant, at_most_once, with_nodes, with_match, few_rounds, is_given_by, equation_for, next_equation, equations_after, condition_or_always, rounds_given, is_matched, may_match, blocks_matched, with_equations, with_name, with_names, with_blocks, next_matches, matches_after, matches_of, item_known, items_known, sorts_returned, shared_sorts, whole_graph, next_graph, graphs_after, with_goal, file_of}
+use Rattle.flow_text.specs.Checking.{is_set, target_of, target_meant, next_target, targets_after, expressions_after, expressions_of, seconds, assigned, statement_of, statements_after, block_or_fault, found, block_names, block_name, returned, jump_of, may_have_block, block_of, next_block, blocks_after, graph_of, GraphSyntax, a_graph, GivenMatch, given_match, Known, nothing_known, graph_meant, at_most_once, with_nodes, with_match, few_rounds, is_given_by, equation_for, next_equation, equations_after, condition_or_always, rounds_given, is_matched, may_match, blocks_matched, resolved_match, with_name, with_names, with_blocks, next_matches, matches_after, blocks_or_none, matches_of, item_known, items_known, sorts_returned, shared_sorts, whole_graph, next_graph, graphs_after, with_goal, file_of}
 
 -- ---- names
 
@@ -194,11 +193,11 @@ statements_named s made (x ∷ xs) = then_named (statement_of s x) _ (statement_
 
 -- ---- blocks
 
-module _ (s : ScopeParts) (results : Option (List Sort)) (find : List ℕ → Option ℕ) where
-  block_or_fault_named : (t : TokenParts) (k : Option ℕ) → IsNamed (block_or_fault t k)
-  block_or_fault_named t None = tt
-  block_or_fault_named t (Some k) = tt
+block_or_fault_named : (t : TokenParts) (k : Option ℕ) → IsNamed (block_or_fault t k)
+block_or_fault_named t None = tt
+block_or_fault_named t (Some k) = tt
 
+module _ (s : ScopeParts) (results : Option (List Sort)) (find : List ℕ → Option ℕ) where
   returned_named : (expected : Option (List Sort)) (word : TokenParts) (es : List ExprSyntax) → IsNamed (returned s expected word es)
   returned_named None word es = tt
   returned_named (Some expected) word es = if_named (nat_eq (length expected) (length es)) _ _ (then_named (expressions_of s expected es) _ (expressions_named s [] expected es) (λ vs. tt)) tt
@@ -298,18 +297,14 @@ rounds_given_named (Some t) = then_named (few_rounds t (spelled_number t)) _ (fe
 may_match_named : (ms : List FileMatch) (k l : ℕ) (t : TokenParts) → IsNamed (may_match ms k l t)
 may_match_named ms k l t = if_named (is_matched ms k l) _ _ tt (if_named (nat_lt (length ms + 1) MAX_MATCHES) _ _ tt tt)
 
-number_named_by : (t : TokenParts) (k : Option ℕ) → IsNamed (block_or_fault t k)
-number_named_by t None = tt
-number_named_by t (Some k) = tt
-
 blocks_matched_named : (ms : List FileMatch) (t u : TokenParts) (i j : Option ℕ) → IsNamed (blocks_matched ms t u i j)
 blocks_matched_named ms t u i j =
-    then_named (block_or_fault t i) _ (number_named_by t i) (λ k.
-    then_named (block_or_fault u j) _ (number_named_by u j) (λ l.
+    then_named (block_or_fault t i) _ (block_or_fault_named t i) (λ k.
+    then_named (block_or_fault u j) _ (block_or_fault_named u j) (λ l.
     then_named (may_match ms k l t) _ (may_match_named ms k l t) (λ v. tt)))
 
-with_equations_named : (s : ScopeParts) (blocks : ℕ × ℕ) (at : ℕ) (m : BlockMatchSyntax) → IsNamed (with_equations s blocks at m)
-with_equations_named s blocks at m =
+resolved_match_named : (s : ScopeParts) (blocks : ℕ × ℕ) (at : ℕ) (m : BlockMatchSyntax) → IsNamed (resolved_match s blocks at m)
+resolved_match_named s blocks at m =
     then_named (equations_after s [] m.forth) _ (equations_named s [] m.forth) (λ f.
     then_named (equations_after s [] m.back) _ (equations_named s [] m.back) (λ g.
     then_named (equations_after s [] m.keeping) _ (equations_named s [] m.keeping) (λ q.
@@ -328,7 +323,7 @@ module _ (s : ScopeParts) (names : List (List ℕ × ℕ)) (first second : List 
   with_blocks_named : (t : ScopeParts) (made : List FileMatch) (word : TokenParts) (m : BlockMatchSyntax) → IsNamed (with_blocks t first second made word m)
   with_blocks_named t made word m =
       then_named (blocks_matched made m.before m.after (first (bytes_of m.before)) (second (bytes_of m.after))) _ (blocks_matched_named made m.before m.after (first (bytes_of m.before)) (second (bytes_of m.after))) (λ blocks.
-      then_named (with_equations t blocks (place_of word) m) _ (with_equations_named t blocks (place_of word) m) (λ x. tt))
+      then_named (resolved_match t blocks (place_of word) m) _ (resolved_match_named t blocks (place_of word) m) (λ x. tt))
 
   next_matches_named : (made : List FileMatch) (x : GivenMatch) → IsNamed (next_matches s names first second made x)
   next_matches_named made (given_match n word same_names) = with_names_named second word made names
@@ -339,7 +334,10 @@ module _ (s : ScopeParts) (names : List (List ℕ × ℕ)) (first second : List 
   matches_after_named made (x ∷ xs) = then_named (next_matches s names first second made x) _ (next_matches_named made x) (λ ms. matches_after_named ms xs)
 
 matches_named : (k : Known) (goal : ℕ × ℕ) → IsNamed (matches_of k goal)
-matches_named k goal = matches_after_named k.scope _ _ _ [] k.matches
+matches_named k goal =
+    let bs = blocks_or_none (slice_get k.graphs goal.0) in
+    let cs = blocks_or_none (slice_get k.graphs goal.1) in
+    matches_after_named k.scope (block_names 0 bs) (found (block_names 0 bs)) (found (block_names 0 cs)) [] k.matches
 
 -- ---- files
 

@@ -293,8 +293,8 @@ file_match blocks forth back keeping condition n splits at =
     record { before = blocks.0; after = blocks.1; forth = forth; back = back; keeping = keeping; condition = condition; rounds = n; splits = splits; at = at }
 
 -- what relates the states at matched blocks, and what is said of their question
-abbrev pub with_equations : ScopeParts → ℕ × ℕ → ℕ → BlockMatchSyntax → Result FileMatch TextFault
-with_equations s blocks at m =
+abbrev pub resolved_match : ScopeParts → ℕ × ℕ → ℕ → BlockMatchSyntax → Result FileMatch TextFault
+resolved_match s blocks at m =
     equations_after s [] m.forth >>= λ f. equations_after s [] m.back >>= λ g. equations_after s [] m.keeping
     >>= λ q. condition_or_always s m.condition >>= λ c. rounds_given m.rounds >>= λ n. Ok (file_match blocks f g q c n m.splits at)
 
@@ -314,7 +314,7 @@ with_names find word before (x ∷ xs) = with_name before word x.1 (find x.0) >>
 abbrev pub with_blocks : ScopeParts → (List ℕ → Option ℕ) → (List ℕ → Option ℕ) → List FileMatch → TokenParts → BlockMatchSyntax → Result (List FileMatch) TextFault
 with_blocks s first second before word m =
     blocks_matched before m.before m.after (first (bytes_of m.before)) (second (bytes_of m.after))
-    >>= λ blocks. with_equations s blocks (place_of word) m >>= λ x. Ok (before ++ x ∷ [])
+    >>= λ blocks. resolved_match s blocks (place_of word) m >>= λ x. Ok (before ++ x ∷ [])
 
 -- the matches before, and those of an item; `names` are those of the blocks of the first graph
 abbrev pub next_matches : ScopeParts → List (List ℕ × ℕ) → (List ℕ → Option ℕ) → (List ℕ → Option ℕ) → List FileMatch → GivenMatch → Result (List FileMatch) TextFault

@@ -1,5 +1,6 @@
 //! Matches of blocks with their names resolved and their sorts checked.
-ghost use Rattle.std.specs.Prelude.{◌≡◌, [], ◌∷◌, map, slice_get, IfOk, None, false};
+ghost use Rattle.std.specs.Prelude.{◌≡◌, ◌&&◌, nat_eq, [], ◌∷◌, map, slice_get, IfOk, None, false};
+ghost use Rattle.std.specs.List.{list_any};
 ghost use Rattle.std.specs.BTreeMap.{get_by_text};
 ghost use Rattle.std.specs.Option.{option_map};
 ghost use Rattle.text_parser.specs.TokenParts.{parts_of_token};
@@ -8,7 +9,7 @@ ghost use Rattle.problem_file.specs.Working.Walks.{Does};
 ghost use Rattle.flow_model.specs.declared.graph.CondNode.TheVariants as node;
 ghost use Rattle.flow_model.specs.Conditions.{always};
 ghost use Rattle.flow_text.specs.Trees.{cond_of};
-ghost use Rattle.flow_text.specs.Checking.{block_names, is_given_by, next_equation, equations_after, condition_or_always, rounds_given, is_matched, may_match, blocks_matched, file_match, with_equations, with_name, with_names, with_blocks, next_matches, blocks_or_none, matches_between, matches_of};
+ghost use Rattle.flow_text.specs.Checking.{block_names, is_given_by, next_equation, equations_after, condition_or_always, rounds_given, is_matched, may_match, blocks_matched, file_match, resolved_match, with_name, with_names, with_blocks, next_matches, blocks_or_none, matches_between, matches_of};
 ghost use Rattle.flow_text.specs.MatchViews.{equation_parts, equations_of, match_parts, matches_parts};
 ghost use Rattle.flow_text.specs.ScopeViews.{scope_parts, sight_parts};
 ghost use Rattle.flow_text.specs.KnownViews.{graph_syntax, given_match_of, known_parts};
@@ -17,7 +18,7 @@ ghost use Rattle.flow_syntax.specs.SyntaxViews.{cond_syntax, blocks_syntax, equa
 use crate::check::next_target;
 use crate::check_blocks::{block_named, block_names, number_of};
 use crate::faults::{limit_fault, repeat_fault};
-use crate::known::{Known, WrittenGraph, WrittenMatch, few_rounds};
+use crate::known::{Known, WrittenMatch, few_rounds};
 use crate::limits::MAX_MATCHES;
 use crate::resolve_cond::resolve_cond;
 use crate::resolve_expr::resolve_expr;
@@ -76,7 +77,6 @@ impl Drop for Match {
     }
 }
 
-#[tactic(auto, using(crate::proofs::MatchSteps::seen))]
 fn is_given_by(equations: &[Equation], k: usize) -> bool
     ensures { result ≡ is_given_by (equations_of equations.now) k }
 {
@@ -140,7 +140,7 @@ fn condition_or_always(
 }
 
 fn rounds_given(token: Option<Token>) -> Result<Option<u64>, TextFault>
-    ensures { result ≡ rounds_given (option_map parts_of_token token) }
+    ensures { result ≡ rounds_given (option_map parts_of_token token.entry) }
 {
     match token {
         None => Ok(None),
@@ -151,16 +151,18 @@ fn rounds_given(token: Option<Token>) -> Result<Option<u64>, TextFault>
     }
 }
 
-#[tactic(auto, using(crate::proofs::MatchSteps::seen))]
-fn is_matched(matches: &[Match], k: usize, l: usize) -> bool
-    ensures { result ≡ is_matched (matches_parts matches.now) k l }
+fn is_listed(matches: &[Match], k: usize, l: usize) -> bool
+    ensures { result ≡ list_any (λ m. nat_eq m.before k && nat_eq m.after l) (matches_parts matches.now) }
 {
-    if k == 0 && l == 0 {
-        return true;
-    }
     matches
         .iter()
         .any(|matched| matched.before == k && matched.after == l)
+}
+
+fn is_matched(matches: &[Match], k: usize, l: usize) -> bool
+    ensures { result ≡ is_matched (matches_parts matches.now) k l }
+{
+    (k == 0 && l == 0) || is_listed(matches, k, l)
 }
 
 // Checks that the blocks are not matched yet, and that there may be another match.
@@ -193,14 +195,14 @@ fn blocks_matched(
 }
 
 // Returns the match of two blocks, of which the names are resolved.
-fn with_equations(
+fn resolved_match(
     alloc: Global,
     visible_names: &VisibleNames,
     blocks: (usize, usize),
     at: usize,
     written: &BlockMatch,
 ) -> Result<Match, TextFault>
-    ensures { Makes (Unit {0}) match_parts result (with_equations (sight_parts visible_names.now) blocks at (block_match_syntax written.now)) }
+    ensures { Makes (Unit {0}) match_parts result (resolved_match (sight_parts visible_names.now) blocks at (block_match_syntax written.now)) }
 {
     let forth = equations(alloc, visible_names, &written.forth)?;
     let back = equations(alloc, visible_names, &written.back)?;
@@ -271,11 +273,10 @@ fn add_names(
 ) -> Result<(), TextFault>
     ensures { Does (Unit {0}) result (matches_parts matches.new.items) (with_names (get_by_text after.now) (parts_of_token word.now) (matches_parts matches.old.items) (block_names 0 (blocks_syntax blocks.now))) }
 {
-    let mut k: usize = 0;
     let mut rest = blocks;
-    'blocks: while let Some((block, _)) = rest.split_last() {
+    'each: while let Some((block, _)) = rest.split_last() {
+        let k = blocks.len() - rest.len();
         add_name(alloc, matches, word, k, number_of(after, &block.name))?;
-        k += 1;
         rest = &rest[..rest.len() - 1];
     }
     Ok(())
@@ -294,7 +295,7 @@ fn add_blocks(
     ensures { Does (Unit {0}) result (matches_parts matches.new.items) (with_blocks (sight_parts visible_names.now) (get_by_text first.now) (get_by_text second.now) (matches_parts matches.old.items) (parts_of_token word.now) (block_match_syntax written.now)) }
 {
     let blocks = blocks_matched(matches, first, second, &written.before, &written.after)?;
-    let matched = with_equations(alloc, visible_names, blocks, word.at, written)?;
+    let matched = resolved_match(alloc, visible_names, blocks, word.at, written)?;
     append(matches, matched)?;
     Ok(())
 }
@@ -361,13 +362,18 @@ fn matches_between(
     Ok(matches)
 }
 
-// Returns the blocks of the graph with this number, or none.
-fn blocks_at<'s, 'a>(graphs: &'s [WrittenGraph<'a>], k: usize) -> &'s [Block<'a>]
-    ensures { blocks_syntax result.now ≡ blocks_or_none (slice_get (map graph_syntax graphs.now) k) }
+// Returns the matches between these blocks and those of the graph with this number.
+fn matches_with(
+    alloc: Global,
+    known: &Known,
+    blocks: &[Block],
+    k: usize,
+) -> Result<Vec<Match>, TextFault>
+    ensures { Makes (Unit {0}) (λ v. matches_parts v.items) result (matches_between (scope_parts known.now.scope) (blocks_syntax blocks.now) (blocks_or_none (slice_get (map graph_syntax known.now.graphs.items) k)) (map given_match_of known.now.matches.items)) }
 {
-    match graphs.get(k) {
-        Some(graph) => &graph.blocks,
-        None => &[],
+    match known.graphs.get(k) {
+        Some(graph) => matches_between(alloc, &known.scope, blocks, &graph.blocks, &known.matches),
+        None => matches_between(alloc, &known.scope, blocks, &[], &known.matches),
     }
 }
 
@@ -379,7 +385,8 @@ pub(crate) fn file_matches(
 ) -> Result<Vec<Match>, TextFault>
     ensures { Makes (Unit {0}) (λ v. matches_parts v.items) result (matches_of (known_parts known.now) goal) }
 {
-    let blocks = blocks_at(&known.graphs, goal.0);
-    let others = blocks_at(&known.graphs, goal.1);
-    matches_between(alloc, &known.scope, blocks, others, &known.matches)
+    match known.graphs.get(goal.0) {
+        Some(graph) => matches_with(alloc, known, &graph.blocks, goal.1),
+        None => matches_with(alloc, known, &[], goal.1),
+    }
 }
