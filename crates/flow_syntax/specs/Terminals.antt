@@ -8,7 +8,7 @@ use Rattle.text_parser.specs.declared.terminal.Terminal.{Terminal}
 use Rattle.text_parser.specs.declared.terminal.Terminal.TheVariants.{Zero, One, Number, WideNumber}
 use Rattle.text_parser.specs.Terminals as grammar
 use Rattle.flow_syntax.specs.declared.rule.TheConstants.{NUMBER, WIDE_NUMBER, OPEN_ROUND, CLOSE_ROUND}
-use Rattle.flow_syntax.specs.declared.terminal.TheConstants.{NAME, OTHER, SORT, FUN, VAR, GRAPH, BLOCK, CUT, GOTO, IF, ELSE, RETURN, ABORT, ASSERT, EQUAL, ROUNDS, SPLIT, TRUE, FALSE, U8, U16, U32, U64, S8, S16, S32, S64, SLT, SLE, SGT, SGE, COMMA, SEMICOLON, CURLY_OPEN, CURLY_CLOSE, BECOMES, EQ, NE, LT, LE, GT, GE, PLUS, MINUS, STAR, AND, OR, BANG, MATCH, WHERE, BACK, KEEPING, ALL_NAMES}
+use Rattle.flow_syntax.specs.declared.terminal.TheConstants.{NAME, OTHER, SORT, FUN, VAR, GRAPH, BLOCK, CUT, GOTO, IF, ELSE, RETURN, ABORT, ASSERT, EQUAL, ROUNDS, SPLIT, TRUE, FALSE, U8, U16, U32, U64, S8, S16, S32, S64, SLT, SLE, SGT, SGE, COMMA, SEMICOLON, CURLY_OPEN, CURLY_CLOSE, BECOMES, EQ, NE, LT, LE, GT, GE, PLUS, MINUS, STAR, AND, OR, BANG, WHERE, BACK, KEEPING, ALL_NAMES}
 
 -- the terminal of a keyword or a name
 abbrev pub word_terminal : List ℕ → ℕ

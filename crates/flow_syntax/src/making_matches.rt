@@ -1,7 +1,6 @@
 //! What productions make of the parts of a `match`.
-ghost use Rattle.std.specs.Prelude.{◌≡◌, ◌∷◌, [], OnOk};
-ghost use Rattle.flow_syntax.specs.Actions.{equations, tokens, first, rest, second, fourth, past_four, token_in, expr_in, equations_in, matches_done};
-ghost use Rattle.flow_syntax.specs.Syntax.{equation};
+ghost use Rattle.std.specs.Prelude.{◌≡◌, OnOk};
+ghost use Rattle.flow_syntax.specs.Actions.{matches_done};
 ghost use Rattle.flow_syntax.specs.SyntaxViews.{stack_syntax};
 
 use crate::action::MatchAction;
