@@ -58,7 +58,7 @@
 
 (defvar katflow-font-lock-keywords
   `((,(concat (regexp-opt '("graph" "block") 'symbols) kat-name-after) 2 font-lock-function-name-face)
-    (,(regexp-opt '("sort" "fun" "var" "graph" "block" "cut" "rounds" "split") 'symbols) . font-lock-keyword-face)
+    (,(regexp-opt '("sort" "fun" "var" "graph" "block" "cut" "rounds" "split" "match" "where" "back" "keeping" "names") 'symbols) . font-lock-keyword-face)
     (,(regexp-opt '("equal") 'symbols) . font-lock-builtin-face)
     (,(regexp-opt '("goto" "if" "else" "return" "abort" "assert") 'symbols) . font-lock-keyword-face)
     (,(regexp-opt '("true" "false") 'symbols) . font-lock-constant-face)

@@ -78,7 +78,7 @@ class FlowReader(Reader):
             self.graph(start)
         elif word == "equal":
             self.found.sides = tuple(self.names())
-        elif word in ("rounds", "split"):
+        elif word in ("rounds", "split", "match"):
             while self.take() != ";":
                 pass
         else:

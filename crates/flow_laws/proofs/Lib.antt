@@ -3,6 +3,7 @@ pub mod OneOutcome
 pub mod Holding
 pub mod SortedNodes
 pub mod SortedGraphs
+pub mod SortedMatches
 pub mod SortedFiles
 pub mod ReadGraphs
 pub mod WholeFiles

@@ -16,10 +16,10 @@ use Rattle.text_parser.proofs.Printed.{token_utf8}
 use Rattle.text_parser.proofs.Slices.{slices_from}
 use Rattle.problem_file.specs.CommentedTexts.{IsComment}
 use Rattle.problem_file.proofs.Comments.{comment_nil, comment_name}
-use Rattle.flow_syntax.specs.Syntax.{ItemSyntax, sorts, function, variables, graph, rounds, split, equal}
+use Rattle.flow_syntax.specs.Syntax.{ItemSyntax, sorts, function, variables, graph, rounds, split, equal, matching}
 use Rattle.flow_syntax.proofs.NamedValues.{Each, AreNamed, spelled_named}
 use Rattle.flow_text.specs.DeclaredNames.{variable_names, function_names}
-use Rattle.flow_text.specs.Checking.{FlowFileParts, Known, nothing_known, items_known, shared_sorts, graphs_after, with_goal, file_of}
+use Rattle.flow_text.specs.Checking.{FlowFileParts, Known, nothing_known, items_known, matches_of, shared_sorts, graphs_after, with_goal, file_of}
 use Rattle.flow_text.specs.Texts.{IsFlowText}
 use Rattle.flow_laws.proofs.Holding.{Holds, any_holds, then_holds, value_holds}
 
@@ -79,6 +79,7 @@ variables_named (graph word name bs ∷ xs) h = variables_named xs h
 variables_named (rounds word number ∷ xs) h = variables_named xs h
 variables_named (split word ∷ xs) h = variables_named xs h
 variables_named (equal word before after ∷ xs) h = variables_named xs h
+variables_named (matching word m ∷ xs) h = variables_named xs h
 
 functions_named : (is : List ItemSyntax) → AreNamed IsLine is → AreComments (function_names is)
 functions_named [] h = tt
@@ -89,6 +90,7 @@ functions_named (graph word name bs ∷ xs) h = functions_named xs h
 functions_named (rounds word number ∷ xs) h = functions_named xs h
 functions_named (split word ∷ xs) h = functions_named xs h
 functions_named (equal word before after ∷ xs) h = functions_named xs h
+functions_named (matching word m ∷ xs) h = functions_named xs h
 
 abbrev HasNames : List (List ℕ) → List (List ℕ) → FlowFileParts → Type 0
 HasNames vs fs f = (f.variable_names ≡ vs) × (f.function_names ≡ fs)
@@ -96,7 +98,8 @@ HasNames vs fs f = (f.variable_names ≡ vs) × (f.function_names ≡ fs)
 goal_names : (vs fs : List (List ℕ)) (k : Known) (goal : Option (ℕ × ℕ)) → Holds (HasNames vs fs) (with_goal vs fs k goal)
 goal_names vs fs k None = tt
 goal_names vs fs k (Some goal) =
-    then_holds (λ gs. Unit {0}) (HasNames vs fs) (graphs_after k.scope goal (shared_sorts k.scope goal k.graphs) [] k.graphs) _ (any_holds (graphs_after k.scope goal (shared_sorts k.scope goal k.graphs) [] k.graphs)) (λ gs u. (refl, refl))
+    then_holds (λ ms. Unit {0}) (HasNames vs fs) (matches_of k goal) _ (any_holds (matches_of k goal)) (λ ms v.
+    then_holds (λ gs. Unit {0}) (HasNames vs fs) (graphs_after k.scope goal (shared_sorts k.scope goal k.graphs) [] k.graphs) _ (any_holds (graphs_after k.scope goal (shared_sorts k.scope goal k.graphs) [] k.graphs)) (λ gs u. (refl, refl)))
 
 file_names : (is : List ItemSyntax) → Holds (HasNames (variable_names is) (function_names is)) (file_of is)
 file_names is =

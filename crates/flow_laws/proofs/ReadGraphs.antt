@@ -25,7 +25,7 @@ use Rattle.flow_text.specs.Trees.{only_expr, only_cond}
 use Rattle.flow_laws.proofs.SortedGraphs.{IsPart, AreParts, AreConds}
 use Rattle.flow_laws.specs.WholeGraphs.{is_whole_expr, are_whole_exprs, has_whole_sides, is_whole_cond, is_whole_statement, is_whole_jump, is_whole_block, are_whole_blocks}
 
-both : (a b : Bool) → a ≡ true → b ≡ true → (a && b) ≡ true
+pub both : (a b : Bool) → a ≡ true → b ≡ true → (a && b) ≡ true
 both a b g h = rw (g, h) refl
 
 module _ (sorts : List Sort) where
@@ -36,7 +36,7 @@ module _ (sorts : List Sort) where
   one_expr (e ∷ []) h = (refl, refl)
   one_expr (e ∷ f ∷ es) h = absurd h
 
-  expr_whole : (ns : List ExprNode) → IsSorted sorts false (read.expr_of ns) → (is_whole_expr ns ≡ true) × (read.expr_of ns ≡ expr_of ns)
+  pub expr_whole : (ns : List ExprNode) → IsSorted sorts false (read.expr_of ns) → (is_whole_expr ns ≡ true) × (read.expr_of ns ≡ expr_of ns)
   expr_whole ns h = one_expr (exprs_of ns) h
 
   values_whole : (es : List (Vec ExprNode Global)) → AreSorted sorts (read.values_of es) → (are_whole_exprs es ≡ true) × (read.values_of es ≡ values_of es)
@@ -91,7 +91,7 @@ module _ (sorts : List Sort) where
       let more = nodes_whole ns h.1 in
       (both (has_whole_sides n) (list_all has_whole_sides ns) one.0 more.0, ap₂ (λ (x : CondPart) (xs : List CondPart). x ∷ xs) one.1 more.1)
 
-  cond_whole : (ns : List CondNode) → IsSortedCond sorts (read.cond_of ns) → (is_whole_cond ns ≡ true) × (read.cond_of ns ≡ cond_of ns)
+  pub cond_whole : (ns : List CondNode) → IsSortedCond sorts (read.cond_of ns) → (is_whole_cond ns ≡ true) × (read.cond_of ns ≡ cond_of ns)
   cond_whole ns h =
       let one = one_cond (conds_of (map read.cond_part ns)) h in
       let nodes = nodes_whole ns (parts_sorted (map read.cond_part ns) one.2) in

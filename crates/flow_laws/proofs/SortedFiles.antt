@@ -1,9 +1,10 @@
--- Flow files of whole items are sorted, and each of their graphs has a block.
-use Rattle.std.proofs.Common.{◌≡◌, ◌<◌, ◌≤◌, ℕ, zero, suc, ◌+◌, List, [], ◌∷◌, ◌++◌, take, length, length-append, Bool, true, false, cond, if◌then◌else◌, Option, Some, None, Result, Ok, slice_get, refl, sym, ◌∙◌, subst, arith}
+-- Flow files of whole items are sorted, and each of their graphs has a block; the blocks of their matches exist.
+use Rattle.std.proofs.Common.{◌≡◌, ◌<◌, ◌≤◌, ℕ, zero, suc, ◌+◌, List, [], ◌∷◌, ◌++◌, length, length-append, map, Bool, true, false, cond, if◌then◌else◌, Option, Some, None, Result, Ok, slice_get, refl, sym, ◌∙◌, ap, subst, arith}
 use Rattle.std.specs.Ordering.{nat_cmp}
 use Rattle.std.specs.Cmp.Lexicographic.{slice_cmp}
 use Rattle.std.specs.FinMap.{FinMap, empty, get, insert, get-empty}
 use Rattle.std.specs.Str.{bytes_eq}
+use Rattle.std.proofs.lemmas.List.{append_assoc, append-nil, length-map, map-append}
 use Rattle.text_parser.specs.declared.fault.TextFault.{TextFault}
 use Rattle.text_parser.specs.declared.fault.TextFault.TheVariants as fault
 use Rattle.text_parser.specs.TokenParts.{TokenParts, place_of, bytes_of}
@@ -12,20 +13,22 @@ use Rattle.flow_model.specs.declared.sort.Sort.{Sort}
 use Rattle.flow_model.specs.Graphs.{Graph}
 use Rattle.flow_ways.specs.Sorted.{IsSortedGraph}
 use Rattle.flow_problem.specs.PlacedProblems.{IsFlowPair}
-use Rattle.flow_syntax.specs.Syntax.{BlockSyntax, ItemSyntax, sorts, function, variables, graph, rounds, split, equal}
-use Rattle.flow_syntax.specs.Sizes.{nodes_with}
+use Rattle.flow_syntax.specs.Syntax.{BlockSyntax, MatchSyntax, ItemSyntax, sorts, function, variables, graph, rounds, split, equal, matching}
+use Rattle.flow_syntax.specs.Sizes.{nodes_with, nodes_with_match}
 use Rattle.flow_syntax.specs.Terminals.{spelled_number}
-use Rattle.flow_syntax.proofs.WholeSyntax.{AreWholeBlocks, IsWholeItem, AreWholeItems}
+use Rattle.flow_syntax.proofs.WholeSyntax.{AreWholeBlocks, IsWholeMatch, IsWholeItem, AreWholeItems}
 use Rattle.flow_syntax.proofs.SpelledWhole.{spelled_whole}
 use Rattle.flow_text.specs.declared.meaning.Meaning.{Meaning}
 use Rattle.flow_text.specs.declared.meaning.Meaning.TheVariants.{SortName, Function, Variable, GraphName}
 use Rattle.flow_text.specs.DeclaredNames.{variable_names, function_names}
 use Rattle.flow_text.specs.Scopes.{ScopeParts, counts, meaning, may_declare, with_sort, may_have_function, with_function, with_variable, may_have_graph, counts_of, scope_before, sorts_declared, variables_declared, sort_named, parameters_after}
-use Rattle.flow_text.specs.Checking.{FlowFileParts, GraphSyntax, a_graph, Known, nothing_known, in_scope, graph_meant, at_most_once, with_nodes, few_rounds, function_known, variables_known, graph_known, rounds_known, split_known, goal_known, item_known, items_known, shared_sorts, sorts_returned, whole_graph, next_graph, graphs_after, with_goal, file_of, graph_of, graph_or_none, pair_of}
+use Rattle.flow_text.specs.Matches.{FileMatch}
+use Rattle.flow_text.specs.Checking.{FlowFileParts, GraphSyntax, a_graph, given_match, Known, nothing_known, in_scope, graph_meant, at_most_once, with_nodes, with_match, few_rounds, function_known, variables_known, graph_known, rounds_known, split_known, goal_known, item_known, items_known, blocks_or_none, matches_of, shared_sorts, sorts_returned, whole_graph, next_graph, graphs_after, with_goal, file_of, graph_of, graph_or_none, pair_of}
 use Rattle.flow_text.specs.Texts.{IsFlowText}
 use Rattle.flow_text.proofs.NameTables.{get-insert_name}
 use Rattle.flow_laws.proofs.Holding.{Holds, any_holds, then_holds, weakened, value_holds}
-use Rattle.flow_laws.proofs.SortedGraphs.{GraphOf, graph_good}
+use Rattle.flow_laws.proofs.SortedGraphs.{GraphOf, taken_declared, graph_good}
+use Rattle.flow_laws.proofs.SortedMatches.{AreMatches, AreWholeGiven, given_more, matches_good}
 
 -- ---- graphs
 
@@ -56,29 +59,44 @@ good_at vars [] i h lt = absurd (omega (arith, lt))
 good_at vars (g ∷ gs) zero h lt = h.0
 good_at vars (g ∷ gs) (suc i) h lt = good_at vars gs i h.1 (omega (arith, lt))
 
--- good graphs, of this number
-abbrev GraphsOf : List Sort → ℕ → List Graph → Type 0
-GraphsOf vars n gs = AreGood vars gs × (length gs ≡ n)
+-- the numbers of blocks of graphs
+abbrev sizes : List Graph → List ℕ
+sizes gs = map (λ (g : Graph). length g) gs
 
--- a variable that was declared before has the sort that it had
-taken_declared : (n : ℕ) (vars : List Sort) (k : ℕ) (sort : Sort) → slice_get (take n vars) k ≡ Some sort → slice_get vars k ≡ Some sort
-taken_declared zero vars k sort e = absurd cc
-taken_declared (suc n) [] k sort e = e
-taken_declared (suc n) (x ∷ xs) zero sort e = e
-taken_declared (suc n) (x ∷ xs) (suc k) sort e = taken_declared n xs k sort e
+abbrev written_size : GraphSyntax → ℕ
+written_size (a_graph before bs) = length bs
 
-whole_good : (s : ScopeParts) (results : List Sort) (g : GraphSyntax) → IsWhole g → Holds (IsGood s.variables) (whole_graph s results g)
+-- good graphs with these numbers of blocks
+abbrev GraphsOf : List Sort → List ℕ → List Graph → Type 0
+GraphsOf vars ns gs = AreGood vars gs × (sizes gs ≡ ns)
+
+-- likewise one graph
+abbrev IsGraphOf : List Sort → ℕ → Graph → Type 0
+IsGraphOf vars n g = IsGood vars g × (length g ≡ n)
+
+size_at : (gs : List Graph) (written : List GraphSyntax) (i : ℕ) → sizes gs ≡ map written_size written → length (graph_or_none (slice_get gs i)) ≡ length (blocks_or_none (slice_get written i))
+size_at [] [] i e = refl
+size_at [] (w ∷ ws) i e = absurd cc
+size_at (g ∷ gs) [] i e = absurd cc
+size_at (g ∷ gs) (a_graph before bs ∷ ws) zero e = cc
+size_at (g ∷ gs) (w ∷ ws) (suc i) e = let more : sizes gs ≡ map written_size ws = cc in size_at gs ws i more
+
+whole_good : (s : ScopeParts) (results : List Sort) (g : GraphSyntax) → IsWhole g → Holds (IsGraphOf s.variables (written_size g)) (whole_graph s results g)
 whole_good s results (a_graph (counts i m n j) bs) h =
     let t = scope_before s (counts i m n j) in
-    weakened (GraphOf s.variables (length bs)) (IsGood s.variables) (graph_of t (Some results) bs) (graph_good t s.variables (taken_declared n s.variables) (Some results) bs h.1)
-    (λ g a. (let some = h.0 in let same = a.1 in omega (arith, some, same), a.0))
+    weakened (GraphOf s.variables (length bs)) (IsGraphOf s.variables (length bs)) (graph_of t (Some results) bs) (graph_good t s.variables (taken_declared n s.variables) (Some results) bs h.1)
+    (λ g a. (let some = h.0 in let same = a.1 in (omega (arith, some, same), a.0), a.1))
 
-graphs_good : (s : ScopeParts) (goal : ℕ × ℕ) (shared : List Sort) (n : ℕ) (gs : List GraphSyntax) (before : List Graph) → length before + length gs ≡ n → AreWhole gs → AreGood s.variables before → Holds (GraphsOf s.variables n) (graphs_after s goal shared before gs)
-graphs_good s goal shared n [] before e h k = (k, omega (arith, e))
-graphs_good s goal shared n (g ∷ gs) before e h k =
-    then_holds (IsGood s.variables) (GraphsOf s.variables n) (next_graph s goal shared (length before) g) (λ x. graphs_after s goal shared (before ++ x ∷ []) gs)
+graphs_good : (s : ScopeParts) (goal : ℕ × ℕ) (shared : List Sort) (ns : List ℕ) (gs : List GraphSyntax) (before : List Graph) → sizes before ++ map written_size gs ≡ ns → AreWhole gs → AreGood s.variables before → Holds (GraphsOf s.variables ns) (graphs_after s goal shared before gs)
+graphs_good s goal shared ns [] before e h k = (k, sym (append-nil (sizes before)) ∙ e)
+graphs_good s goal shared ns (g ∷ gs) before e h k =
+    then_holds (IsGraphOf s.variables (written_size g)) (GraphsOf s.variables ns) (next_graph s goal shared (length before) g) (λ x. graphs_after s goal shared (before ++ x ∷ []) gs)
     (whole_good s (sorts_returned s goal shared (length before) g) g h.0)
-    (λ x a. graphs_good s goal shared n gs (before ++ x ∷ []) (let more = length-append before (x ∷ []) in omega (arith, e, more)) h.1 (good_more s.variables before x k a))
+    (λ x a.
+    let more : sizes (before ++ x ∷ []) ++ map written_size gs ≡ ns =
+    ap (λ (l : List ℕ). l ++ map written_size gs) (map-append (λ (b : Graph). length b) before (x ∷ [])) ∙ append_assoc (sizes before) (length x ∷ []) (map written_size gs)
+    ∙ ap (λ (n : ℕ). sizes before ++ n ∷ map written_size gs) a.1 ∙ e in
+    graphs_good s goal shared ns gs (before ++ x ∷ []) more h.1 (good_more s.variables before x k a.0))
 
 -- ---- names of graphs mean graphs that there are
 
@@ -136,19 +154,19 @@ goal_more : (n k : ℕ) (goal : Option (ℕ × ℕ)) → n ≤ k → IsGoal n go
 goal_more n k None h g = tt
 goal_more n k (Some goal) h g = let i = g.0 in let j = g.1 in (omega (arith, h, i), omega (arith, h, j))
 
--- graphs are whole, and names and the goal mean some of them
+-- graphs and matches are whole, and names and the goal mean some of the graphs
 abbrev IsKnown : Known → Type 0
-IsKnown k = AreWhole k.graphs × NamesBelow (length k.graphs) k.scope × IsGoal (length k.graphs) k.goal
+IsKnown k = AreWhole k.graphs × NamesBelow (length k.graphs) k.scope × IsGoal (length k.graphs) k.goal × AreWholeGiven k.matches
 
 scope_known : (k : Known) (m : Result ScopeParts TextFault) → IsKnown k → Holds (NamesBelow (length k.graphs)) m → Holds IsKnown (m >>= λ s. Ok (in_scope k s))
-scope_known k m h g = then_holds (NamesBelow (length k.graphs)) IsKnown m (λ s. Ok (in_scope k s)) g (λ s n. (h.0, n, h.2))
+scope_known k m h g = then_holds (NamesBelow (length k.graphs)) IsKnown m (λ s. Ok (in_scope k s)) g (λ s n. (h.0, n, h.2, h.3))
 
 function_kept : (k : Known) (result name : TokenParts) (parameters : List TokenParts) → IsKnown k → Holds IsKnown (function_known k result name parameters)
 function_kept k result name parameters h =
     then_holds (λ r. Unit {0}) IsKnown (sort_named k.scope result) _ (any_holds (sort_named k.scope result)) (λ r u.
     then_holds (λ x. Unit {0}) IsKnown (may_have_function k.scope name) _ (any_holds (may_have_function k.scope name)) (λ x v.
     then_holds (λ ps. Unit {0}) IsKnown (parameters_after k.scope [] parameters) (λ ps. Ok (in_scope k (with_function k.scope name r ps))) (any_holds (parameters_after k.scope [] parameters)) (λ ps w.
-    (h.0, names_more (length k.graphs) k.scope.meanings (bytes_of name) (Function (length k.scope.functions)) h.1 tt, h.2))))
+    (h.0, names_more (length k.graphs) k.scope.meanings (bytes_of name) (Function (length k.scope.functions)) h.1 tt, h.2, h.3))))
 
 variables_kept : (k : Known) (sort : TokenParts) (names : List TokenParts) → IsKnown k → Holds IsKnown (variables_known k sort names)
 variables_kept k sort names h =
@@ -164,6 +182,7 @@ nodes_kept k word t bs (Some n) w h =
       names_more (length (k.graphs ++ g ∷ [])) k.scope.meanings (bytes_of t) (GraphName (length k.graphs))
           (λ q m e. below_more (length k.graphs) (length (k.graphs ++ g ∷ [])) m (omega (arith, more)) (h.1 q m e)) (omega (arith, more)),
       goal_more (length k.graphs) (length (k.graphs ++ g ∷ [])) k.goal (omega (arith, more)) h.2,
+      h.3,
     )
 
 graph_kept : (k : Known) (word name : TokenParts) (bs : List BlockSyntax) → (0 < length bs) × AreWholeBlocks bs → IsKnown k → Holds IsKnown (graph_known k word name bs)
@@ -175,7 +194,7 @@ graph_kept k word name bs w h =
 rounds_kept : (k : Known) (word number : TokenParts) → IsKnown k → Holds IsKnown (rounds_known k word number)
 rounds_kept k word number h =
     then_holds (λ u. Unit {0}) IsKnown (at_most_once k.rounds (fault.DoubleName (place_of word))) _ (any_holds (at_most_once k.rounds (fault.DoubleName (place_of word)))) (λ u v.
-    then_holds (λ n. Unit {0}) IsKnown (few_rounds number (spelled_number number)) _ (any_holds (few_rounds number (spelled_number number))) (λ n w. (h.0, h.1, h.2)))
+    then_holds (λ n. Unit {0}) IsKnown (few_rounds number (spelled_number number)) _ (any_holds (few_rounds number (spelled_number number))) (λ n w. (h.0, h.1, h.2, h.3)))
 
 if_not : {V : Type 0} (P : V → Type 0) (b : Bool) (x y : Result V TextFault) → Holds P x → Holds P y → Holds P (if b then x else y)
 if_not P true x y h k = h
@@ -183,7 +202,7 @@ if_not P false x y h k = k
 
 split_kept : (k : Known) (word : TokenParts) → IsKnown k → Holds IsKnown (split_known k word)
 split_kept k word h =
-    if_not IsKnown k.splits _ (Ok (record { scope = k.scope; graphs = k.graphs; rounds = k.rounds; splits = true; goal = k.goal; nodes = k.nodes })) tt (h.0, h.1, h.2)
+    if_not IsKnown k.splits _ (Ok (record { scope = k.scope; graphs = k.graphs; matches = k.matches; rounds = k.rounds; splits = true; goal = k.goal; nodes = k.nodes })) tt (h.0, h.1, h.2, h.3)
 
 meant_below : (n : ℕ) (t : TokenParts) (o : Option Meaning) → ((m : Meaning) → o ≡ Some m → IsBelow n m) → Holds (λ i. i < n) (graph_meant t o)
 meant_below n t None h = tt
@@ -195,7 +214,11 @@ goal_kept k word before after h =
     then_holds (λ u. Unit {0}) IsKnown (at_most_once k.goal (fault.TwoGoals (place_of word))) _ (any_holds (at_most_once k.goal (fault.TwoGoals (place_of word)))) (λ u v.
     then_holds (λ i. i < length k.graphs) IsKnown (graph_meant before (meaning k.scope before)) _ (meant_below (length k.graphs) before (meaning k.scope before) (h.1 (bytes_of before))) (λ i a.
     then_holds (λ j. j < length k.graphs) IsKnown (graph_meant after (meaning k.scope after)) _ (meant_below (length k.graphs) after (meaning k.scope after) (h.1 (bytes_of after))) (λ j b.
-    (h.0, h.1, (a, b)))))
+    (h.0, h.1, (a, b), h.3))))
+
+match_kept : (k : Known) (word : TokenParts) (m : MatchSyntax) (n : Option ℕ) → IsWholeMatch m → IsKnown k → Holds IsKnown (with_match k word m n)
+match_kept k word m None w h = tt
+match_kept k word m (Some n) w h = (h.0, h.1, h.2, given_more k.matches (given_match (counts_of k.scope) word m) h.3 w)
 
 item_kept : (k : Known) (x : ItemSyntax) → IsWholeItem x → IsKnown k → Holds IsKnown (item_known k x)
 item_kept k (sorts word names) w h = scope_known k (sorts_declared k.scope names) h (sorts_below (length k.graphs) k.scope names h.1)
@@ -205,6 +228,7 @@ item_kept k (graph word name blocks) w h = graph_kept k word name blocks w h
 item_kept k (rounds word number) w h = rounds_kept k word number h
 item_kept k (split word) w h = split_kept k word h
 item_kept k (equal word before after) w h = goal_kept k word before after h
+item_kept k (matching word m) w h = match_kept k word m (nodes_with_match k.nodes m) w h
 
 items_kept : (k : Known) (xs : List ItemSyntax) → AreWholeItems xs → IsKnown k → Holds IsKnown (items_known k xs)
 items_kept k [] w h = h
@@ -214,22 +238,32 @@ no_name : (q : List ℕ) (m : Meaning) → get (empty {X = Meaning} {R = slice_c
 no_name q m e = let none : get (empty {X = Meaning} {R = slice_cmp nat_cmp}) q ≡ None = get-empty (slice_cmp nat_cmp) q in absurd cc
 
 known_first : IsKnown nothing_known
-known_first = (tt, λ q m e. absurd (no_name q m e), tt)
+known_first = (tt, λ q m e. absurd (no_name q m e), tt, tt)
 
 -- ---- files
 
 abbrev IsGoodFile : FlowFileParts → Type 0
-IsGoodFile f = AreGood f.sorts f.graphs × IsFlowPair (pair_of f)
+IsGoodFile f = AreGood f.sorts f.graphs × IsFlowPair (pair_of f) × AreMatches f.sorts (length (pair_of f).before) (length (pair_of f).after) f.matches
+
+matches_fit : (vars : List Sort) (gs : List Graph) (written : List GraphSyntax) (goal : ℕ × ℕ) (ms : List FileMatch) → sizes gs ≡ map written_size written → AreMatches vars (length (blocks_or_none (slice_get written goal.0))) (length (blocks_or_none (slice_get written goal.1))) ms → AreMatches vars (length (graph_or_none (slice_get gs goal.0))) (length (graph_or_none (slice_get gs goal.1))) ms
+matches_fit vars gs written goal ms e h =
+    subst (λ n. AreMatches vars n (length (graph_or_none (slice_get gs goal.1))) ms) (sym (size_at gs written goal.0 e))
+    (subst (λ n. AreMatches vars (length (blocks_or_none (slice_get written goal.0))) n ms) (sym (size_at gs written goal.1 e)) h)
 
 goal_good : (vs fs : List (List ℕ)) (k : Known) (goal : Option (ℕ × ℕ)) → IsKnown k → IsGoal (length k.graphs) goal → Holds IsGoodFile (with_goal vs fs k goal)
 goal_good vs fs k None h g = tt
 goal_good vs fs k (Some goal) h g =
-    then_holds (GraphsOf k.scope.variables (length k.graphs)) IsGoodFile (graphs_after k.scope goal (shared_sorts k.scope goal k.graphs) [] k.graphs) _
-    (graphs_good k.scope goal (shared_sorts k.scope goal k.graphs) (length k.graphs) k.graphs [] (omega arith) h.0 tt)
+    let vars = k.scope.variables in
+    let bs = blocks_or_none (slice_get k.graphs goal.0) in
+    let cs = blocks_or_none (slice_get k.graphs goal.1) in
+    then_holds (AreMatches vars (length bs) (length cs)) IsGoodFile (matches_of k goal) _ (matches_good k.scope bs cs k.matches h.3) (λ ms m.
+    then_holds (GraphsOf vars (map written_size k.graphs)) IsGoodFile (graphs_after k.scope goal (shared_sorts k.scope goal k.graphs) [] k.graphs) _
+    (graphs_good k.scope goal (shared_sorts k.scope goal k.graphs) (map written_size k.graphs) k.graphs [] refl h.0 tt)
     (λ gs a.
-    let before = good_at k.scope.variables gs goal.0 a.0 (subst (λ n. goal.0 < n) (sym a.1) g.0) in
-    let after = good_at k.scope.variables gs goal.1 a.0 (subst (λ n. goal.1 < n) (sym a.1) g.1) in
-    (a.0, record { before_blocks = before.0; after_blocks = after.0; before_sorted = before.1; after_sorted = after.1 }))
+    let many : length gs ≡ length k.graphs = sym (length-map gs (λ (x : Graph). length x)) ∙ ap length a.1 ∙ length-map k.graphs written_size in
+    let before = good_at vars gs goal.0 a.0 (subst (λ n. goal.0 < n) (sym many) g.0) in
+    let after = good_at vars gs goal.1 a.0 (subst (λ n. goal.1 < n) (sym many) g.1) in
+    (a.0, record { before_blocks = before.0; after_blocks = after.0; before_sorted = before.1; after_sorted = after.1 }, matches_fit vars gs k.graphs goal ms a.1 m)))
 
 file_good : (is : List ItemSyntax) → AreWholeItems is → Holds IsGoodFile (file_of is)
 file_good is w =
@@ -243,6 +277,9 @@ text_good text f h = value_holds IsGoodFile (file_of h.spelled) f (file_good h.s
 pub flow_graphs_good : (text : List ℕ) (f : FlowFileParts) → IsFlowText text f → AreGood f.sorts f.graphs
 flow_graphs_good text f h = (text_good text f h).0
 
--- likewise both of the goal
+-- likewise both of the goal, and their matches
 pub flow_pairs_sorted : (text : List ℕ) (f : FlowFileParts) → IsFlowText text f → IsFlowPair (pair_of f)
 flow_pairs_sorted text f h = (text_good text f h).1
+
+pub flow_matches_sorted : (text : List ℕ) (f : FlowFileParts) → IsFlowText text f → AreMatches f.sorts (length (pair_of f).before) (length (pair_of f).after) f.matches
+flow_matches_sorted text f h = (text_good text f h).2

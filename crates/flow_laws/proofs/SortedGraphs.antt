@@ -1,5 +1,5 @@
 -- Conditions, statements, jumps and blocks of whole items are sorted where they have no fault.
-use Rattle.std.proofs.Common.{◌≡◌, ℕ, zero, suc, ◌+◌, List, [], ◌∷◌, ◌++◌, length, length-append, false, nat_eq, Option, Some, None, Ok, slice_get, refl, sym, ◌∙◌, ap, subst, arith, append_assoc}
+use Rattle.std.proofs.Common.{◌≡◌, ℕ, zero, suc, ◌+◌, List, [], ◌∷◌, ◌++◌, take, length, length-append, false, nat_eq, Option, Some, None, Ok, slice_get, refl, sym, ◌∙◌, ap, subst, arith, append_assoc}
 use Rattle.std.proofs.lemmas.Bool.Decides.{nat_tests}
 use Rattle.std.proofs.lemmas.List.{append-nil, length-map}
 use Rattle.kat_model.specs.declared.expression.Rel.{Rel}
@@ -105,7 +105,7 @@ relation_good (Opaque k) t rel = tt
 
 -- ---- assignments
 
-abbrev IsTarget : List Sort → ℕ × Sort → Type 0
+abbrev pub IsTarget : List Sort → ℕ × Sort → Type 0
 IsTarget sorts x = slice_get sorts x.0 ≡ Some x.1
 
 abbrev AreTargets : List Sort → List (ℕ × Sort) → Type 0
@@ -158,6 +158,13 @@ graph_more : (sorts : List Sort) (g : Graph) (b : Block) → IsSortedGraph sorts
 graph_more sorts [] b h k = (k, tt)
 graph_more sorts (c ∷ cs) b h k = (h.0, graph_more sorts cs b h.1 k)
 
+-- a variable that was declared before has the sort that it had
+pub taken_declared : (n : ℕ) (vars : List Sort) (k : ℕ) (sort : Sort) → slice_get (take n vars) k ≡ Some sort → slice_get vars k ≡ Some sort
+taken_declared zero vars k sort e = absurd cc
+taken_declared (suc n) [] k sort e = e
+taken_declared (suc n) (x ∷ xs) zero sort e = e
+taken_declared (suc n) (x ∷ xs) (suc k) sort e = taken_declared n xs k sort e
+
 module _ (s : ScopeParts) (sorts : List Sort) (declared : (k : ℕ) (sort : Sort) → slice_get s.variables k ≡ Some sort → slice_get sorts k ≡ Some sort) where
   comparison_good : (sort : Sort) (relation : TokenParts) (e f : ExprSyntax) → ArePolish 1 e → ArePolish 1 f → Holds (IsPartOf sorts 0) (comparison_of s sort relation e f)
   comparison_good sort relation e f h k =
@@ -192,7 +199,7 @@ module _ (s : ScopeParts) (sorts : List Sort) (declared : (k : ℕ) (sort : Sort
       (parts_good ns (condition_count x + n) (before ++ p ∷ []) h.1)
       (λ out made. (p ∷ made.0, made.1 ∙ append_assoc before (p ∷ []) made.0, (a.0, made.2), a.1 n (conds_of made.0) made.3)))
 
-  condition_good : (b : CondSyntax) → IsWholeCond b → Holds (IsSortedCond sorts) (condition_of s b)
+  pub condition_good : (b : CondSyntax) → IsWholeCond b → Holds (IsSortedCond sorts) (condition_of s b)
   condition_good b h =
       then_holds (ArePartsOf sorts [] 1) (IsSortedCond sorts) (parts_after s [] b) (λ ps. Ok (only_cond (conds_of ps))) (parts_good b 1 [] h)
       (λ ps a. subst (λ qs. IsSortedCond sorts (only_cond (conds_of qs))) (sym a.1) (only_sorted sorts (conds_of a.0) a.3 (conds_sorted sorts a.0 a.2)))
@@ -203,7 +210,7 @@ module _ (s : ScopeParts) (sorts : List Sort) (declared : (k : ℕ) (sort : Sort
   target_good before t k None e = tt
   target_good before t k (Some sort) e = let h : Holds (IsTarget sorts) (Ok (k, sort)) = declared k sort e in if_holds (IsTarget sorts) (is_set before k) _ (Ok (k, sort)) (λ again. tt) h
 
-  meant_good : (before : List (ℕ × Sort)) (t : TokenParts) (m : Option Meaning) → Holds (IsTarget sorts) (target_meant s before t m)
+  pub meant_good : (before : List (ℕ × Sort)) (t : TokenParts) (m : Option Meaning) → Holds (IsTarget sorts) (target_meant s before t m)
   meant_good before t None = tt
   meant_good before t (Some (Variable k)) = target_good before t k (slice_get s.variables k) refl
   meant_good before t (Some other) = tt

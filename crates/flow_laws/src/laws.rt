@@ -5,7 +5,9 @@ ghost use Rattle.flow_text.specs.Checking.{FlowFileParts, pair_of};
 ghost use Rattle.flow_text.specs.Texts.{IsFlowText};
 ghost use Rattle.flow_text.specs.FileViews.{file_parts};
 ghost use Rattle.flow_text.specs.declared.reading.FlowFile.{FlowFile};
+ghost use Rattle.flow_laws.specs.SortedMatches.{IsMatchOf};
 ghost use Rattle.flow_laws.specs.WholeGraphs.{IsWholeGraph};
+ghost use Rattle.flow_laws.specs.WholeMatches.{IsWholeMatch};
 ghost use Rattle.flow_problem.specs.PlacedProblems.{IsFlowPair};
 ghost use Rattle.flow_laws.specs.Laws.{WholeOutcomes};
 
@@ -15,9 +17,20 @@ pub fn files_are_sorted()
     ensures { (text : List ℕ) (f : FlowFileParts) → IsFlowText text f → IsFlowPair (pair_of f) }
 {}
 
-/// The nodes of each expression and of each condition of a flow file that is read are exactly one tree.
+/// The blocks of each match of a flow file are blocks of its graphs, and each of its expressions has the sort that its
+/// place requires.
+pub fn matches_are_sorted()
+    ensures { (text : List ℕ) (f : FlowFileParts) → IsFlowText text f → All (IsMatchOf (pair_of f)) f.matches }
+{}
+
+/// The nodes of each expression and of each condition of a graph that is read are exactly one tree.
 pub fn graphs_are_whole()
     ensures { (text : List ℕ) (f : FlowFile) → IsFlowText text (file_parts f) → All IsWholeGraph f.graphs.items }
+{}
+
+/// The nodes of each expression and of the condition of a match that is read are exactly one tree.
+pub fn matches_are_whole()
+    ensures { (text : List ℕ) (f : FlowFile) → IsFlowText text (file_parts f) → All IsWholeMatch f.matches.items }
 {}
 
 /// The names of the variables and of the functions of a flow file may be comments: they are UTF-8 without a line feed.

@@ -1,5 +1,5 @@
 -- What fits the parts of a derivation, where each rule keeps it.
-use Rattle.std.proofs.Common.{◌≡◌, ℕ, List, [], ◌∷◌, ◌++◌, map, Some, slice_get}
+use Rattle.std.proofs.Common.{◌≡◌, ℕ, suc, List, [], ◌∷◌, ◌++◌, length, Some, slice_get, arith}
 use Rattle.text_parser.specs.TokenParts.{TokenParts}
 use Rattle.flow_syntax.specs.declared.rule.TheConstants.{OPEN_ROUND}
 use Rattle.flow_syntax.specs.declared.rule.Mark.{Mark}
@@ -34,13 +34,20 @@ first_fits rules g Fits k (Open u) t ps x vs m h = k.opening u ps x vs h
 first_fits rules g Fits k (Group n) t ps x vs m h = k.opening OPEN_ROUND ps x vs h
 first_fits rules g Fits k Otherwise t ps x vs m h = absurd m
 
-pub values_fit : {V : Type 0} (rules : List RuleParts) (g : Actions V) (Fits : List Part → List V → Type 0) → Keeps rules g Fits → (mark : TokenParts → Mark) (ps : List Part) (steps : List Step) (ts : List TokenParts) → IsLeftmost rules ps steps (map mark ts) → Fits ps (values g steps ts)
-values_fit rules g Fits k mark [] [] [] l = k.nothing
-values_fit rules g Fits k mark (Token t ∷ ps) (Match ∷ steps) (x ∷ ts) (e, l) = k.token t ps x (values g steps ts) (values_fit rules g Fits k mark ps steps ts l)
-values_fit rules g Fits k mark (Opening t ∷ ps) (Match ∷ steps) (x ∷ ts) (e, l) = k.opening t ps x (values g steps ts) (values_fit rules g Fits k mark ps steps ts l)
-values_fit rules g Fits k mark (Closing ∷ ps) (Close ∷ steps) ts l = k.closing ps (values g steps ts) (values_fit rules g Fits k mark ps steps ts l)
-values_fit rules g Fits k mark (Phrase n ∷ ps) (Shift i ∷ steps) (x ∷ ts) (start, parts, e, m, l) =
-    k.rule i n start parts ps _ e (first_fits rules g Fits k start _ (parts ++ ps) x (values g steps ts) m (values_fit rules g Fits k mark (parts ++ ps) steps ts l))
-values_fit rules g Fits k mark (Phrase n ∷ ps) (Apply i ∷ steps) ts (parts, e, l) =
-    k.rule i n Otherwise parts ps (values g steps ts) e (values_fit rules g Fits k mark (parts ++ ps) steps ts l)
-values_fit rules g Fits k mark ps steps ts l = absurd l
+one_less : (m n : ℕ) → suc m ≡ suc n → m ≡ n
+one_less m n e = omega (arith, e)
+
+pub values_fit : {V : Type 0} (rules : List RuleParts) (g : Actions V) (Fits : List Part → List V → Type 0) → Keeps rules g Fits → (ps : List Part) (steps : List Step) (ms : List Mark) (ts : List TokenParts) → length ms ≡ length ts → IsLeftmost rules ps steps ms → Fits ps (values g steps ts)
+values_fit rules g Fits k [] [] [] [] e l = k.nothing
+values_fit rules g Fits k [] [] [] (x ∷ ts) e l = absurd (omega (arith, e))
+values_fit rules g Fits k (Token t ∷ ps) (Match ∷ steps) (m ∷ ms) (x ∷ ts) e (same, l) = k.token t ps x (values g steps ts) (values_fit rules g Fits k ps steps ms ts (one_less _ _ e) l)
+values_fit rules g Fits k (Token t ∷ ps) (Match ∷ steps) (m ∷ ms) [] e l = absurd (omega (arith, e))
+values_fit rules g Fits k (Opening t ∷ ps) (Match ∷ steps) (m ∷ ms) (x ∷ ts) e (same, l) = k.opening t ps x (values g steps ts) (values_fit rules g Fits k ps steps ms ts (one_less _ _ e) l)
+values_fit rules g Fits k (Opening t ∷ ps) (Match ∷ steps) (m ∷ ms) [] e l = absurd (omega (arith, e))
+values_fit rules g Fits k (Closing ∷ ps) (Close ∷ steps) ms ts e l = k.closing ps (values g steps ts) (values_fit rules g Fits k ps steps ms ts e l)
+values_fit rules g Fits k (Phrase n ∷ ps) (Shift i ∷ steps) (m ∷ ms) (x ∷ ts) e (start, parts, is, may, l) =
+    k.rule i n start parts ps _ is (first_fits rules g Fits k start _ (parts ++ ps) x (values g steps ts) may (values_fit rules g Fits k (parts ++ ps) steps ms ts (one_less _ _ e) l))
+values_fit rules g Fits k (Phrase n ∷ ps) (Shift i ∷ steps) (m ∷ ms) [] e l = absurd (omega (arith, e))
+values_fit rules g Fits k (Phrase n ∷ ps) (Apply i ∷ steps) ms ts e (parts, is, l) =
+    k.rule i n Otherwise parts ps (values g steps ts) is (values_fit rules g Fits k (parts ++ ps) steps ms ts e l)
+values_fit rules g Fits k ps steps ms ts e l = absurd l

@@ -16,6 +16,7 @@ pub mod Stacked
 pub mod Taken
 pub mod NodeLists
 pub mod LastMembers
+pub mod CappedNodes
 pub mod NamedSyntax
 pub mod WholeSyntax
 pub mod SpelledWhole

@@ -6,7 +6,7 @@ use Rattle.flow_syntax.specs.declared.rule.Step.{Step}
 use Rattle.flow_syntax.specs.declared.rule.Step.TheVariants.{Shift, Apply, Match, Close}
 use Rattle.flow_syntax.specs.Values.{taken_by, with_leaf, step_values, values}
 use Rattle.flow_syntax.specs.declared.action.Action.{Action}
-use Rattle.flow_syntax.specs.declared.action.Action.TheVariants.{Names, Exprs, Conds, Bodies, Items}
+use Rattle.flow_syntax.specs.declared.action.Action.TheVariants.{Names, Exprs, Conds, Bodies, Matches, Items}
 use Rattle.flow_syntax.specs.declared.action.NameAction.{NameAction}
 use Rattle.flow_syntax.specs.declared.action.NameAction.TheVariants.{Keep, NoTokens, OneToken, NextToken, NoParameters, SomeParameters}
 use Rattle.flow_syntax.specs.declared.action.ExprAction.{ExprAction}
@@ -15,10 +15,12 @@ use Rattle.flow_syntax.specs.declared.action.CondAction.{CondAction}
 use Rattle.flow_syntax.specs.declared.action.CondAction.TheVariants as cond
 use Rattle.flow_syntax.specs.declared.action.BodyAction.{BodyAction}
 use Rattle.flow_syntax.specs.declared.action.BodyAction.TheVariants.{Assigning, Asserting, Going, Branching, Returning, Aborting, CutBlock, PlainBlock, NoBlocks, NextCutBlock, NextPlainBlock}
+use Rattle.flow_syntax.specs.declared.action.MatchAction.{MatchAction}
+use Rattle.flow_syntax.specs.declared.action.MatchAction.TheVariants.{NoEquations, NextEquation, FirstEquation, GivenEquations, GivenCondition, GivenNumber, GivenWord, MatchNames, MatchBlocks}
 use Rattle.flow_syntax.specs.declared.action.ItemAction.{ItemAction}
-use Rattle.flow_syntax.specs.declared.action.ItemAction.TheVariants.{NoItems, SortsItem, FunctionItem, VariablesItem, GraphItem, RoundsItem, SplitItem, EqualItem}
-use Rattle.flow_syntax.specs.Syntax.{ItemSyntax, sorts, function, variables, graph, rounds, split, equal}
-use Rattle.flow_syntax.specs.Actions.{ValueSyntax, token, tokens, items, first, rest, no_token, token_in, tokens_in, items_in, names_done, exprs_done, conds_done, bodies_done, items_done}
+use Rattle.flow_syntax.specs.declared.action.ItemAction.TheVariants.{NoItems, SortsItem, FunctionItem, VariablesItem, GraphItem, RoundsItem, SplitItem, EqualItem, MatchItem}
+use Rattle.flow_syntax.specs.Syntax.{ItemSyntax, sorts, function, variables, graph, rounds, split, equal, matching}
+use Rattle.flow_syntax.specs.Actions.{ValueSyntax, token, tokens, items, first, rest, no_token, token_in, tokens_in, items_in, names_done, exprs_done, conds_done, bodies_done, matches_done, items_done}
 use Rattle.flow_syntax.specs.Productions.{listed_actions, act, actions}
 use Rattle.flow_syntax.specs.Spelling.{AreSpelled}
 
@@ -41,6 +43,7 @@ AreNamed P (graph word name bs ∷ xs) = AreNamed P xs
 AreNamed P (rounds word number ∷ xs) = AreNamed P xs
 AreNamed P (split word ∷ xs) = AreNamed P xs
 AreNamed P (equal word before after ∷ xs) = AreNamed P xs
+AreNamed P (matching word m ∷ xs) = AreNamed P xs
 
 abbrev IsNamed : (TokenParts → Type 0) → ValueSyntax → Type 0
 IsNamed P (token t) = P t
@@ -90,6 +93,9 @@ module _ (P : TokenParts → Type 0) (none : P no_token) where
 
   past7 : (vs : List ValueSyntax) → AllNamed P vs → AllNamed P (rest (rest (rest (rest (rest (rest (rest vs)))))))
   past7 vs h = past1 (rest (rest (rest (rest (rest (rest vs)))))) (past6 vs h)
+
+  past10 : (vs : List ValueSyntax) → AllNamed P vs → AllNamed P (rest (rest (rest (rest (rest (rest (rest (rest (rest (rest vs))))))))))
+  past10 vs h = past3 (rest (rest (rest (rest (rest (rest (rest vs))))))) (past7 vs h)
 
   -- ---- each action keeps the names
 
@@ -142,6 +148,17 @@ module _ (P : TokenParts → Type 0) (none : P no_token) where
   bodies_kept NextCutBlock vs h = (tt, past7 vs h)
   bodies_kept NextPlainBlock vs h = (tt, past6 vs h)
 
+  matches_kept : (a : MatchAction) (vs : List ValueSyntax) → AllNamed P vs → AllNamed P (matches_done a vs)
+  matches_kept NoEquations vs h = (tt, h)
+  matches_kept NextEquation vs h = (tt, past5 vs h)
+  matches_kept FirstEquation vs h = (tt, past4 vs h)
+  matches_kept GivenEquations vs h = (tt, past2 vs h)
+  matches_kept GivenCondition vs h = (tt, past2 vs h)
+  matches_kept GivenNumber vs h = ((token_named (first (rest vs)) (at1 (rest vs) (past1 vs h)), tt), past2 vs h)
+  matches_kept GivenWord vs h = ((token_named (first vs) (at1 vs h), tt), past1 vs h)
+  matches_kept MatchNames vs h = (tt, past2 vs h)
+  matches_kept MatchBlocks vs h = (tt, past10 vs h)
+
   items_kept : (a : ItemAction) (vs : List ValueSyntax) → AllNamed P vs → AllNamed P (items_done a vs)
   items_kept NoItems vs h = (tt, h)
   items_kept SortsItem vs h = (items_named (first (rest (rest (rest vs)))) (at1 (rest (rest (rest vs))) (past3 vs h)), past4 vs h)
@@ -153,6 +170,7 @@ module _ (P : TokenParts → Type 0) (none : P no_token) where
   items_kept RoundsItem vs h = (items_named (first (rest (rest (rest vs)))) (at1 (rest (rest (rest vs))) (past3 vs h)), past4 vs h)
   items_kept SplitItem vs h = (items_named (first (rest (rest vs))) (at1 (rest (rest vs)) (past2 vs h)), past3 vs h)
   items_kept EqualItem vs h = (items_named (first (rest (rest (rest (rest (rest vs)))))) (at1 (rest (rest (rest (rest (rest vs))))) (past5 vs h)), past6 vs h)
+  items_kept MatchItem vs h = (items_named (first (rest (rest vs))) (at1 (rest (rest vs)) (past2 vs h)), past3 vs h)
 
   act_kept : (o : Option Action) (vs : List ValueSyntax) → AllNamed P vs → AllNamed P (act o vs)
   act_kept None vs h = h
@@ -160,6 +178,7 @@ module _ (P : TokenParts → Type 0) (none : P no_token) where
   act_kept (Some (Exprs a)) vs h = exprs_kept a vs h
   act_kept (Some (Conds a)) vs h = conds_kept a vs h
   act_kept (Some (Bodies a)) vs h = bodies_kept a vs h
+  act_kept (Some (Matches a)) vs h = matches_kept a vs h
   act_kept (Some (Items a)) vs h = items_kept a vs h
 
   leaf_kept : (ts : List TokenParts) (vs : List ValueSyntax) → Each P ts → AllNamed P vs → AllNamed P (with_leaf actions ts vs)

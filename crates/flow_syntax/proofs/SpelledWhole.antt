@@ -8,14 +8,16 @@ use Rattle.flow_syntax.specs.Rules.{rule_parts}
 use Rattle.flow_syntax.specs.Values.{values}
 use Rattle.flow_syntax.proofs.Leftmost.{derivation_leftmost}
 use Rattle.flow_syntax.proofs.KeptValues.{started, Keeps, values_fit}
-use Rattle.flow_syntax.specs.declared.phrase.TheConstants.{FILE, FIRST_BLOCK, MORE_BLOCKS, BODY, RESULTS, CONDITION, MORE_CONJUNCTIONS, CONJUNCTION, MORE_LITERALS, LITERAL, EXPRESSION, MORE_SUMMANDS, PRODUCT, MORE_FACTORS, FACTOR, CALL, ARGUMENTS, MORE_EXPRESSIONS}
-use Rattle.flow_syntax.specs.Terminals.{mark_of}
+use Rattle.flow_syntax.specs.declared.phrase.TheConstants.{FILE, FIRST_BLOCK, MORE_BLOCKS, BODY, RESULTS, CONDITION, MORE_CONJUNCTIONS, CONJUNCTION, MORE_LITERALS, LITERAL, EXPRESSION, MORE_SUMMANDS, PRODUCT, MORE_FACTORS, FACTOR, CALL, ARGUMENTS, MORE_EXPRESSIONS, MATCHED, WHERE_EQUATIONS, BACK_EQUATIONS, KEEPING_EQUATIONS, EQUATIONS, MORE_EQUATIONS, MATCH_CONDITION}
+use Rattle.flow_syntax.specs.declared.terminal.TheConstants.{WHERE, BACK, KEEPING}
+use Rattle.flow_syntax.specs.Marks.{marks_of}
 use Rattle.flow_syntax.specs.Syntax.{both, either, ItemSyntax}
-use Rattle.flow_syntax.specs.Actions.{ValueSyntax, first, rest, second, third, fourth, fifth, token_in, expr_in, exprs_in, operators_in, operands_in, cond_in, statements_in, jump_in, blocks_in, items_in, done}
-use Rattle.flow_syntax.specs.Productions.{Production, rules_of, rules, productions, listed_actions, act, actions, file_rules, names_rules, more_names_rules, sort_name_rules, parameters_rules, more_sorts_rules, first_block_rules, more_blocks_rules, body_rules, results_rules, condition_rules, more_conjunctions_rules, conjunction_rules, more_literals_rules, literal_rules, relation_rules, continues_rules, expression_rules, more_summands_rules, product_rules, more_factors_rules, factor_rules, call_rules, arguments_rules, more_expressions_rules}
+use Rattle.flow_syntax.specs.Actions.{ValueSyntax, first, rest, second, third, fourth, fifth, token_in, expr_in, exprs_in, operators_in, operands_in, cond_in, statements_in, jump_in, blocks_in, equations_in, match_in, items_in, done}
+use Rattle.flow_syntax.specs.Productions.{Production, rules_of, rules, productions, listed_actions, act, actions, file_rules, names_rules, more_names_rules, sort_name_rules, parameters_rules, more_sorts_rules, first_block_rules, more_blocks_rules, body_rules, results_rules, condition_rules, more_conjunctions_rules, conjunction_rules, more_literals_rules, literal_rules, relation_rules, continues_rules, expression_rules, more_summands_rules, product_rules, more_factors_rules, factor_rules, call_rules, arguments_rules, more_expressions_rules, matched_rules, given_equations_rules, equations_rules, more_equations_rules, match_condition_rules, match_rounds_rules, match_split_rules}
 use Rattle.flow_syntax.specs.Spelling.{AreSpelled}
 use Rattle.flow_syntax.proofs.GrammarExamples.{rules_listed}
-use Rattle.flow_syntax.proofs.WholeSyntax.{ArePolish, AreAllPolish, IsWholeCond, IsWholeOrNone, AreWholeStatements, IsWholeJump, AreWholeBlocks, AreWholeItems, join_polish, operations_polish, call_polish, linked_whole, more_whole, graph_whole}
+use Rattle.flow_syntax.proofs.MarkLists.{marks_length}
+use Rattle.flow_syntax.proofs.WholeSyntax.{ArePolish, AreAllPolish, IsWholeCond, IsWholeOrNone, AreWholeStatements, IsWholeJump, AreWholeBlocks, AreWholeEquations, IsWholeMatch, AreWholeItems, whole_or_none, join_polish, operations_polish, call_polish, linked_whole, more_whole, graph_whole}
 
 -- what the value of a phrase is
 data Shape : Type 0 where
@@ -28,6 +30,8 @@ data Shape : Type 0 where
   a_body : Shape
   first_blocks : Shape
   other_blocks : Shape
+  some_equations : Shape
+  some_match : Shape
   some_items : Shape
 
 abbrev shape_of : ℕ → Shape
@@ -50,6 +54,13 @@ shape_of n =
     else if nat_eq n CALL then some_exprs
     else if nat_eq n ARGUMENTS then some_exprs
     else if nat_eq n MORE_EXPRESSIONS then some_exprs
+    else if nat_eq n MATCHED then some_match
+    else if nat_eq n WHERE_EQUATIONS then some_equations
+    else if nat_eq n BACK_EQUATIONS then some_equations
+    else if nat_eq n KEEPING_EQUATIONS then some_equations
+    else if nat_eq n EQUATIONS then some_equations
+    else if nat_eq n MORE_EQUATIONS then some_equations
+    else if nat_eq n MATCH_CONDITION then cond_or_none
     else a_value
 
 abbrev HasShape : Shape → ValueSyntax → Type 0
@@ -62,6 +73,8 @@ HasShape cond_or_none v = IsWholeOrNone (cond_in v)
 HasShape a_body v = AreWholeStatements (statements_in v) × IsWholeJump (jump_in v)
 HasShape first_blocks v = (0 < length (blocks_in v)) × AreWholeBlocks (blocks_in v)
 HasShape other_blocks v = AreWholeBlocks (blocks_in v)
+HasShape some_equations v = AreWholeEquations (equations_in v)
+HasShape some_match v = IsWholeMatch (match_in v)
 HasShape some_items v = AreWholeItems (items_in v)
 
 -- the values at the front of the stack are those of the parts
@@ -104,7 +117,10 @@ file_kept = (
             (λ ps vs h. ((tt, h.0), h.1)),
             (
               (λ ps vs h. ((tt, h.0), h.1)),
-              ((λ ps vs h. (tt, h)), tt),
+              (
+                (λ ps vs h. ((h.0, h.1.0), h.1.1)),
+                ((λ ps vs h. (tt, h)), tt),
+              ),
             ),
           ),
         ),
@@ -355,10 +371,62 @@ more_expressions_kept = (
   ((λ ps vs h. (tt, h)), tt),
 )
 
+matched_kept : AreKept matched_rules
+matched_kept = (
+  (λ ps vs h. (tt, h)),
+  ((λ ps vs h. ((h.0, h.1.0, h.1.1.0, h.1.1.1.0), h.1.1.1.1.1.1)), tt),
+)
+
+where_kept : AreKept (given_equations_rules WHERE_EQUATIONS WHERE)
+where_kept = (
+  (λ ps vs h. h),
+  ((λ ps vs h. (tt, h)), tt),
+)
+
+back_kept : AreKept (given_equations_rules BACK_EQUATIONS BACK)
+back_kept = (
+  (λ ps vs h. h),
+  ((λ ps vs h. (tt, h)), tt),
+)
+
+keeping_kept : AreKept (given_equations_rules KEEPING_EQUATIONS KEEPING)
+keeping_kept = (
+  (λ ps vs h. h),
+  ((λ ps vs h. (tt, h)), tt),
+)
+
+equations_kept : AreKept equations_rules
+equations_kept =
+    ((λ ps vs h. ((h.0, h.1.0), h.1.1)), tt)
+
+more_equations_kept : AreKept more_equations_rules
+more_equations_kept = (
+  (λ ps vs h. ((h.0, h.1.0), h.1.1)),
+  ((λ ps vs h. (tt, h)), tt),
+)
+
+match_condition_kept : AreKept match_condition_rules
+match_condition_kept = (
+  (λ ps vs h. (whole_or_none (cond_in (second vs)) h.0, h.1)),
+  ((λ ps vs h. (tt, h)), tt),
+)
+
+match_rounds_kept : AreKept match_rounds_rules
+match_rounds_kept = (
+  (λ ps vs h. (tt, h)),
+  ((λ ps vs h. (tt, h)), tt),
+)
+
+match_split_kept : AreKept match_split_rules
+match_split_kept = (
+  (λ ps vs h. (tt, h)),
+  ((λ ps vs h. (tt, h)), tt),
+)
+
 all_kept : AreKept productions
 unfolding productions
 all_kept =
-    (and_kept (and_kept (and_kept (and_kept (and_kept (and_kept (and_kept (and_kept (and_kept (and_kept (and_kept (and_kept (and_kept (and_kept (and_kept (and_kept (and_kept (and_kept (and_kept (and_kept (and_kept (and_kept (and_kept (and_kept (file_rules, file_kept) names_rules names_kept) more_names_rules more_names_kept) sort_name_rules sort_name_kept) parameters_rules parameters_kept) more_sorts_rules more_sorts_kept) first_block_rules first_block_kept) more_blocks_rules more_blocks_kept) body_rules body_kept) results_rules results_kept) condition_rules condition_kept) more_conjunctions_rules more_conjunctions_kept) conjunction_rules conjunction_kept) more_literals_rules more_literals_kept) literal_rules literal_kept) relation_rules relation_kept) continues_rules continues_kept) expression_rules expression_kept) more_summands_rules more_summands_kept) product_rules product_kept) more_factors_rules more_factors_kept) factor_rules factor_kept) call_rules call_kept) arguments_rules arguments_kept) more_expressions_rules more_expressions_kept).1
+    (and_kept (and_kept (and_kept (and_kept (and_kept (and_kept (and_kept (and_kept (and_kept (and_kept (and_kept (and_kept (and_kept (and_kept (and_kept (and_kept (and_kept (and_kept (and_kept (and_kept (and_kept (and_kept (and_kept (and_kept (and_kept (and_kept (and_kept (and_kept (and_kept (and_kept (and_kept (and_kept (and_kept (file_rules, file_kept) names_rules names_kept) more_names_rules more_names_kept) sort_name_rules sort_name_kept) parameters_rules parameters_kept) more_sorts_rules more_sorts_kept) first_block_rules first_block_kept) more_blocks_rules more_blocks_kept) body_rules body_kept) results_rules results_kept) condition_rules condition_kept) more_conjunctions_rules more_conjunctions_kept) conjunction_rules conjunction_kept) more_literals_rules more_literals_kept) literal_rules literal_kept) relation_rules relation_kept) continues_rules continues_kept) expression_rules expression_kept) more_summands_rules more_summands_kept) product_rules product_kept) more_factors_rules more_factors_kept) factor_rules factor_kept) call_rules call_kept) arguments_rules arguments_kept) more_expressions_rules more_expressions_kept) matched_rules matched_kept) (given_equations_rules WHERE_EQUATIONS WHERE) where_kept) (given_equations_rules BACK_EQUATIONS BACK) back_kept) (given_equations_rules KEEPING_EQUATIONS KEEPING) keeping_kept) equations_rules equations_kept) more_equations_rules more_equations_kept) match_condition_rules match_condition_kept) match_rounds_rules match_rounds_kept) match_split_rules match_split_kept).1
 
 -- ---- a rule by its number
 
@@ -378,6 +446,6 @@ grammar_keeps = record { nothing = tt; token = λ t ps x vs h. h; opening = λ t
 
 pub spelled_whole : (tokens : List TokenParts) (end : ℕ) (is : List ItemSyntax) → AreSpelled tokens end is → AreWholeItems is
 spelled_whole tokens end is s =
-    let leftmost = derivation_leftmost rules FILE (map mark_of tokens) end s.steps s.derived in
-    let fits : AreOf (Phrase FILE ∷ []) (values actions s.steps tokens) = values_fit rules actions AreOf grammar_keeps mark_of (Phrase FILE ∷ []) s.steps tokens leftmost in
+    let leftmost = derivation_leftmost rules FILE (marks_of tokens) end s.steps s.derived in
+    let fits : AreOf (Phrase FILE ∷ []) (values actions s.steps tokens) = values_fit rules actions AreOf grammar_keeps (Phrase FILE ∷ []) s.steps (marks_of tokens) tokens (marks_length tokens) leftmost in
     subst AreWholeItems s.value fits.0

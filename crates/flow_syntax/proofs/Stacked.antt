@@ -9,11 +9,13 @@ use Rattle.flow_syntax.specs.declared.written.CondNode.{CondNode}
 use Rattle.flow_syntax.specs.declared.written.Statement.{Statement}
 use Rattle.flow_syntax.specs.declared.written.Jump.{Jump}
 use Rattle.flow_syntax.specs.declared.written.Block.{Block}
+use Rattle.flow_syntax.specs.declared.written.Equation.{Equation}
+use Rattle.flow_syntax.specs.declared.written.Match.{Match}
 use Rattle.flow_syntax.specs.declared.written.Item.{Item}
 use Rattle.flow_syntax.specs.declared.value.Value.{Value}
 use Rattle.flow_syntax.specs.declared.value.Value.TheVariants as value
-use Rattle.flow_syntax.specs.Actions.{token, tokens, expr, exprs, operations, no_call, cond, body, blocks, items}
-use Rattle.flow_syntax.specs.SyntaxViews.{tokens_syntax, node_syntax, expr_syntax, exprs_syntax, cond_node_syntax, cond_syntax, statement_syntax, statements_syntax, jump_syntax, block_syntax, blocks_syntax, item_syntax, items_syntax, value_syntax, stack_syntax}
+use Rattle.flow_syntax.specs.Actions.{token, tokens, expr, exprs, operations, no_call, cond, body, blocks, equations, a_match, items}
+use Rattle.flow_syntax.specs.SyntaxViews.{tokens_syntax, node_syntax, expr_syntax, exprs_syntax, cond_node_syntax, cond_syntax, statement_syntax, statements_syntax, jump_syntax, block_syntax, blocks_syntax, equation_syntax, equations_syntax, match_syntax, item_syntax, items_syntax, value_syntax, stack_syntax}
 use Rattle.flow_syntax.proofs.Reversed.{reversed_append}
 
 pub stack_push : (vs : List Value) (v : Value) → stack_syntax (vs ++ v ∷ []) ≡ value_syntax v ∷ stack_syntax vs
@@ -72,6 +74,14 @@ pub blocks_none : blocks_syntax [] ≡ []
 unfolding blocks_syntax
 blocks_none = refl
 
+pub equations_push : (xs : List Equation) (x : Equation) → equations_syntax (xs ++ x ∷ []) ≡ equation_syntax x ∷ equations_syntax xs
+unfolding equations_syntax
+equations_push xs x = reversed_append equation_syntax xs (x ∷ [])
+
+pub equations_none : equations_syntax [] ≡ []
+unfolding equations_syntax
+equations_none = refl
+
 pub items_push : (xs : List Item) (x : Item) → items_syntax (xs ++ x ∷ []) ≡ item_syntax x ∷ items_syntax xs
 unfolding items_syntax
 items_push xs x = reversed_append item_syntax xs (x ∷ [])
@@ -110,6 +120,14 @@ pub blocks_value : (x : Vec Block Global) → value_syntax (value.Blocks x) ≡ 
 unfolding value_syntax
 blocks_value x = refl
 
+pub equations_value : (x : Vec Equation Global) → value_syntax (value.Equations x) ≡ equations (equations_syntax x.items)
+unfolding value_syntax
+equations_value x = refl
+
+pub match_value : (m : Match) → value_syntax (value.Match m) ≡ a_match (match_syntax m)
+unfolding value_syntax
+match_value m = refl
+
 pub items_value : (x : Vec Item Global) → value_syntax (value.Items x) ≡ items (items_syntax x.items)
 unfolding value_syntax
 items_value x = refl
@@ -122,4 +140,4 @@ pub body_value : (x : Vec Statement Global) (y : Jump) → value_syntax (value.B
 unfolding value_syntax
 body_value x y = refl
 
-pub ruleset pushes = (stack_push, stack_none, tokens_push, tokens_none, expr_push, expr_none, exprs_push, exprs_none, cond_push, cond_none, statements_push, statements_none, blocks_push, blocks_none, items_push, items_none, token_value, no_call_value, tokens_value, expr_value, exprs_value, operations_value, cond_value, body_value, blocks_value, items_value)
+pub ruleset pushes = (stack_push, stack_none, tokens_push, tokens_none, expr_push, expr_none, exprs_push, exprs_none, cond_push, cond_none, statements_push, statements_none, blocks_push, blocks_none, equations_push, equations_none, items_push, items_none, token_value, no_call_value, tokens_value, expr_value, exprs_value, operations_value, cond_value, body_value, blocks_value, equations_value, match_value, items_value)

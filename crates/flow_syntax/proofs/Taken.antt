@@ -9,12 +9,14 @@ use Rattle.flow_syntax.specs.declared.written.CondNode.{CondNode}
 use Rattle.flow_syntax.specs.declared.written.Statement.{Statement}
 use Rattle.flow_syntax.specs.declared.written.Jump.{Jump}
 use Rattle.flow_syntax.specs.declared.written.Block.{Block}
+use Rattle.flow_syntax.specs.declared.written.Equation.{Equation}
+use Rattle.flow_syntax.specs.declared.written.Match.{Match}
 use Rattle.flow_syntax.specs.declared.written.Item.{Item}
 use Rattle.flow_syntax.specs.declared.value.Value.{Value}
 use Rattle.flow_syntax.specs.declared.value.Value.TheVariants as value
-use Rattle.flow_syntax.specs.Syntax.{abort}
-use Rattle.flow_syntax.specs.Actions.{is_no_call, no_token, token_in, tokens_in, expr_in, exprs_in, operators_in, operands_in, cond_in, statements_in, jump_in, blocks_in, items_in}
-use Rattle.flow_syntax.specs.SyntaxViews.{tokens_syntax, expr_syntax, exprs_syntax, cond_syntax, statements_syntax, jump_syntax, blocks_syntax, items_syntax, value_syntax}
+use Rattle.flow_syntax.specs.Syntax.{abort, same_names}
+use Rattle.flow_syntax.specs.Actions.{is_no_call, no_token, token_in, tokens_in, expr_in, exprs_in, operators_in, operands_in, cond_in, statements_in, jump_in, blocks_in, equations_in, match_in, items_in}
+use Rattle.flow_syntax.specs.SyntaxViews.{tokens_syntax, expr_syntax, exprs_syntax, cond_syntax, statements_syntax, jump_syntax, blocks_syntax, equations_syntax, match_syntax, items_syntax, value_syntax}
 
 pub token_held : (v : Value) (t : Token) → v ≡ value.Token t → parts_of_token t ≡ token_in (value_syntax v)
 unfolding value_syntax
@@ -69,6 +71,24 @@ pub no_blocks_held : (v : Value) → ((x : Vec Block Global) → v ≡ value.Blo
 unfolding value_syntax
 no_blocks_held (value.Blocks x) h = absurd (h x refl)
 no_blocks_held v h = refl
+
+pub equations_held : (v : Value) (x : Vec Equation Global) → v ≡ value.Equations x → equations_syntax x.items ≡ equations_in (value_syntax v)
+unfolding value_syntax
+equations_held v x e = ap (λ u. equations_in (value_syntax u)) (sym e)
+
+pub no_equations_held : (v : Value) → ((x : Vec Equation Global) → v ≡ value.Equations x → ⊥) → [] ≡ equations_in (value_syntax v)
+unfolding value_syntax
+no_equations_held (value.Equations x) h = absurd (h x refl)
+no_equations_held v h = refl
+
+pub match_held : (v : Value) (m : Match) → v ≡ value.Match m → match_syntax m ≡ match_in (value_syntax v)
+unfolding value_syntax
+match_held v m e = ap (λ u. match_in (value_syntax u)) (sym e)
+
+pub no_match_held : (v : Value) → ((m : Match) → v ≡ value.Match m → ⊥) → same_names ≡ match_in (value_syntax v)
+unfolding value_syntax
+no_match_held (value.Match m) h = absurd (h m refl)
+no_match_held v h = refl
 
 pub items_held : (v : Value) (x : Vec Item Global) → v ≡ value.Items x → items_syntax x.items ≡ items_in (value_syntax v)
 unfolding value_syntax

@@ -2,7 +2,7 @@
 -- block.
 use Rattle.std.proofs.Common.{◌≡◌, ◌<◌, ℕ, zero, suc, ◌+◌, List, [], ◌∷◌, ◌++◌, length, subst, arith}
 use Rattle.text_parser.specs.TokenParts.{TokenParts}
-use Rattle.flow_syntax.specs.Syntax.{NodeSyntax, numeral, named, called, converted, operation, ExprSyntax, CondNodeSyntax, always, never, compared, compared_signed, negation, both, either, CondSyntax, StatementSyntax, assign, claim, JumpSyntax, goto, branch, return, abort, BlockSyntax, a_block, ItemSyntax, sorts, function, variables, graph, rounds, split, equal}
+use Rattle.flow_syntax.specs.Syntax.{NodeSyntax, numeral, named, called, converted, operation, ExprSyntax, CondNodeSyntax, always, never, compared, compared_signed, negation, both, either, CondSyntax, StatementSyntax, assign, claim, JumpSyntax, goto, branch, return, abort, BlockSyntax, a_block, EquationSyntax, equation, MatchSyntax, same_names, two_blocks, ItemSyntax, sorts, function, variables, graph, rounds, split, equal, matching}
 use Rattle.flow_syntax.specs.Actions.{ValueSyntax, no_call, exprs_in, joined, all_nodes, call_of, linked}
 
 abbrev pub operand_count : NodeSyntax → ℕ
@@ -69,6 +69,14 @@ abbrev pub AreWholeBlocks : List BlockSyntax → Type 0
 AreWholeBlocks [] = Unit {0}
 AreWholeBlocks (a_block is_cut name statements jump ∷ bs) = AreWholeStatements statements × IsWholeJump jump × AreWholeBlocks bs
 
+abbrev pub AreWholeEquations : List EquationSyntax → Type 0
+AreWholeEquations [] = Unit {0}
+AreWholeEquations (equation y e ∷ qs) = ArePolish 1 e × AreWholeEquations qs
+
+abbrev pub IsWholeMatch : MatchSyntax → Type 0
+IsWholeMatch same_names = Unit {0}
+IsWholeMatch (two_blocks m) = AreWholeEquations m.forth × AreWholeEquations m.back × AreWholeEquations m.keeping × IsWholeOrNone m.condition
+
 abbrev pub IsWholeItem : ItemSyntax → Type 0
 IsWholeItem (sorts word names) = Unit {0}
 IsWholeItem (function word result name parameters) = Unit {0}
@@ -77,6 +85,7 @@ IsWholeItem (graph word name bs) = (0 < length bs) × AreWholeBlocks bs
 IsWholeItem (rounds word number) = Unit {0}
 IsWholeItem (split word) = Unit {0}
 IsWholeItem (equal word before after) = Unit {0}
+IsWholeItem (matching word m) = IsWholeMatch m
 
 abbrev pub AreWholeItems : List ItemSyntax → Type 0
 AreWholeItems [] = Unit {0}
@@ -141,7 +150,7 @@ linked_whole n b (x ∷ xs) w two h k =
     let both_of : 1 + 1 ≡ condition_count n + 0 = omega (arith, two) in
     (w, subst (λ i. AreWholeConds i (b ++ (x ∷ xs))) both_of (conds-append 1 1 b (x ∷ xs) h k))
 
-whole_or_none : (b : CondSyntax) → IsWholeCond b → IsWholeOrNone b
+pub whole_or_none : (b : CondSyntax) → IsWholeCond b → IsWholeOrNone b
 whole_or_none [] h = tt
 whole_or_none (n ∷ ns) h = h
 

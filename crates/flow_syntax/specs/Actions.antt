@@ -1,9 +1,9 @@
 -- What each production makes of the values of its parts, the first part first.
-use Rattle.std.specs.Prelude.{Bool, true, false, ℕ, List, [], ◌∷◌, ◌++◌, length}
+use Rattle.std.specs.Prelude.{Bool, true, false, ℕ, List, [], ◌∷◌, ◌++◌, length, Option, Some, None}
 use Rattle.text_parser.specs.declared.token.Kind.TheVariants as kind
 use Rattle.text_parser.specs.TokenParts.{TokenParts, token_parts}
 use Rattle.flow_syntax.specs.declared.action.Action.{Action}
-use Rattle.flow_syntax.specs.declared.action.Action.TheVariants.{Names, Exprs, Conds, Bodies, Items}
+use Rattle.flow_syntax.specs.declared.action.Action.TheVariants.{Names, Exprs, Conds, Bodies, Matches, Items}
 use Rattle.flow_syntax.specs.declared.action.NameAction.{NameAction}
 use Rattle.flow_syntax.specs.declared.action.NameAction.TheVariants.{Keep, NoTokens, OneToken, NextToken, NoParameters, SomeParameters}
 use Rattle.flow_syntax.specs.declared.action.ExprAction.{ExprAction}
@@ -12,9 +12,11 @@ use Rattle.flow_syntax.specs.declared.action.CondAction.{CondAction}
 use Rattle.flow_syntax.specs.declared.action.CondAction.TheVariants.{NoConds, NextAny, NextAll, Any, All, TrueCond, FalseCond, Negate, EnclosedCond, Compare, CompareSigned}
 use Rattle.flow_syntax.specs.declared.action.BodyAction.{BodyAction}
 use Rattle.flow_syntax.specs.declared.action.BodyAction.TheVariants.{Assigning, Asserting, Going, Branching, Returning, Aborting, CutBlock, PlainBlock, NoBlocks, NextCutBlock, NextPlainBlock}
+use Rattle.flow_syntax.specs.declared.action.MatchAction.{MatchAction}
+use Rattle.flow_syntax.specs.declared.action.MatchAction.TheVariants.{NoEquations, NextEquation, FirstEquation, GivenEquations, GivenCondition, GivenNumber, GivenWord, MatchNames, MatchBlocks}
 use Rattle.flow_syntax.specs.declared.action.ItemAction.{ItemAction}
-use Rattle.flow_syntax.specs.declared.action.ItemAction.TheVariants.{NoItems, SortsItem, FunctionItem, VariablesItem, GraphItem, RoundsItem, SplitItem, EqualItem}
-use Rattle.flow_syntax.specs.Syntax.{FirstSyntax, no_name, a_name, a_conversion, NodeSyntax, numeral, named, called, converted, operation, ExprSyntax, CondNodeSyntax, always, never, compared, compared_signed, negation, both, either, CondSyntax, StatementSyntax, assign, claim, JumpSyntax, goto, branch, return, abort, BlockSyntax, a_block, ItemSyntax, sorts, function, variables, graph, rounds, split, equal}
+use Rattle.flow_syntax.specs.declared.action.ItemAction.TheVariants.{NoItems, SortsItem, FunctionItem, VariablesItem, GraphItem, RoundsItem, SplitItem, EqualItem, MatchItem}
+use Rattle.flow_syntax.specs.Syntax.{FirstSyntax, no_name, a_name, a_conversion, NodeSyntax, numeral, named, called, converted, operation, ExprSyntax, CondNodeSyntax, always, never, compared, compared_signed, negation, both, either, CondSyntax, StatementSyntax, assign, claim, JumpSyntax, goto, branch, return, abort, BlockSyntax, a_block, EquationSyntax, equation, MatchSyntax, same_names, two_blocks, ItemSyntax, sorts, function, variables, graph, rounds, split, equal, matching}
 
 -- The value of a part. `operations` are operators and their second operands, joined, that follow a first operand. An
 -- empty condition is the end of a list of them.
@@ -28,6 +30,8 @@ pub data ValueSyntax : Type 0 where
   cond : (b : CondSyntax) → ValueSyntax
   body : (statements : List StatementSyntax) → (jump : JumpSyntax) → ValueSyntax
   blocks : (bs : List BlockSyntax) → ValueSyntax
+  equations : (qs : List EquationSyntax) → ValueSyntax
+  a_match : (m : MatchSyntax) → ValueSyntax
   items : (is : List ItemSyntax) → ValueSyntax
 
 -- ---- the values of the parts, which are at the front of the stack
@@ -58,6 +62,12 @@ sixth vs = first (rest (rest (rest (rest (rest vs)))))
 abbrev pub seventh : List ValueSyntax → ValueSyntax
 seventh vs = first (rest (rest (rest (rest (rest (rest vs))))))
 
+abbrev pub eighth : List ValueSyntax → ValueSyntax
+eighth vs = first (rest (rest (rest (rest (rest (rest (rest vs)))))))
+
+abbrev pub ninth : List ValueSyntax → ValueSyntax
+ninth vs = first (rest (rest (rest (rest (rest (rest (rest (rest vs))))))))
+
 abbrev pub past_two : List ValueSyntax → List ValueSyntax
 past_two vs = rest (rest vs)
 
@@ -75,6 +85,9 @@ past_six vs = rest (rest (rest (rest (rest (rest vs)))))
 
 abbrev pub past_seven : List ValueSyntax → List ValueSyntax
 past_seven vs = rest (rest (rest (rest (rest (rest (rest vs))))))
+
+abbrev pub past_ten : List ValueSyntax → List ValueSyntax
+past_ten vs = rest (rest (rest (rest (rest (rest (rest (rest (rest (rest vs)))))))))
 
 -- ---- what a value holds; the parts of a production always have the values that its action takes
 
@@ -120,6 +133,14 @@ jump_in other = abort
 abbrev pub blocks_in : ValueSyntax → List BlockSyntax
 blocks_in (blocks bs) = bs
 blocks_in other = []
+
+abbrev pub equations_in : ValueSyntax → List EquationSyntax
+equations_in (equations qs) = qs
+equations_in other = []
+
+abbrev pub match_in : ValueSyntax → MatchSyntax
+match_in (a_match m) = m
+match_in other = same_names
 
 abbrev pub items_in : ValueSyntax → List ItemSyntax
 items_in (items is) = is
@@ -171,6 +192,15 @@ first_name (n ∷ ns) = first_of (name_of n) (first_name ns)
 abbrev pub linked : CondNodeSyntax → CondSyntax → CondSyntax → CondSyntax
 linked node b [] = b
 linked node b (n ∷ ns) = node ∷ b ++ (n ∷ ns)
+
+-- the first token of a list, if there is one
+abbrev pub given_token : List TokenParts → Option TokenParts
+given_token [] = None
+given_token (t ∷ ts) = Some t
+
+abbrev pub is_given : Option TokenParts → Bool
+is_given None = false
+is_given (Some t) = true
 
 -- ---- what an action makes of the stack
 
@@ -227,6 +257,19 @@ bodies_done NextCutBlock vs =
 bodies_done NextPlainBlock vs =
     blocks (a_block false (token_in (second vs)) (statements_in (fourth vs)) (jump_in (fourth vs)) ∷ blocks_in (sixth vs)) ∷ past_six vs
 
+abbrev pub matches_done : MatchAction → List ValueSyntax → List ValueSyntax
+matches_done NoEquations vs = equations [] ∷ vs
+matches_done NextEquation vs = equations (equation (token_in (second vs)) (expr_in (fourth vs)) ∷ equations_in (fifth vs)) ∷ past_five vs
+matches_done FirstEquation vs = equations (equation (token_in (first vs)) (expr_in (third vs)) ∷ equations_in (fourth vs)) ∷ past_four vs
+matches_done GivenEquations vs = equations (equations_in (second vs)) ∷ past_two vs
+matches_done GivenCondition vs = cond (cond_in (second vs)) ∷ past_two vs
+matches_done GivenNumber vs = tokens (token_in (second vs) ∷ []) ∷ past_two vs
+matches_done GivenWord vs = tokens (token_in (first vs) ∷ []) ∷ rest vs
+matches_done MatchNames vs = a_match same_names ∷ past_two vs
+matches_done MatchBlocks vs =
+    a_match (two_blocks (record { before = token_in (first vs); after = token_in (third vs); forth = equations_in (fourth vs); back = equations_in (fifth vs); keeping = equations_in (sixth vs); condition = cond_in (seventh vs); rounds = given_token (tokens_in (eighth vs)); splits = is_given (given_token (tokens_in (ninth vs))) }))
+    ∷ past_ten vs
+
 abbrev pub items_done : ItemAction → List ValueSyntax → List ValueSyntax
 items_done NoItems vs = items [] ∷ vs
 items_done SortsItem vs = items (sorts (token_in (first vs)) (tokens_in (second vs)) ∷ items_in (fourth vs)) ∷ past_four vs
@@ -238,10 +281,12 @@ items_done GraphItem vs =
 items_done RoundsItem vs = items (rounds (token_in (first vs)) (token_in (second vs)) ∷ items_in (fourth vs)) ∷ past_four vs
 items_done SplitItem vs = items (split (token_in (first vs)) ∷ items_in (third vs)) ∷ past_three vs
 items_done EqualItem vs = items (equal (token_in (first vs)) (token_in (second vs)) (token_in (fourth vs)) ∷ items_in (sixth vs)) ∷ past_six vs
+items_done MatchItem vs = items (matching (token_in (first vs)) (match_in (second vs)) ∷ items_in (third vs)) ∷ past_three vs
 
 abbrev pub done : Action → List ValueSyntax → List ValueSyntax
 done (Names a) vs = names_done a vs
 done (Exprs a) vs = exprs_done a vs
 done (Conds a) vs = conds_done a vs
 done (Bodies a) vs = bodies_done a vs
+done (Matches a) vs = matches_done a vs
 done (Items a) vs = items_done a vs

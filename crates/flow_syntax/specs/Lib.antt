@@ -5,6 +5,7 @@ pub mod Weights
 pub mod Values
 pub mod Working
 pub mod Terminals
+pub mod Marks
 pub mod Syntax
 pub mod Actions
 pub mod SyntaxViews

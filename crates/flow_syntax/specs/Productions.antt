@@ -5,15 +5,16 @@ use Rattle.flow_syntax.specs.declared.rule.Part.TheVariants.{Token, Opening, Clo
 use Rattle.flow_syntax.specs.declared.rule.Start.TheVariants.{Take, Open, Group, Otherwise}
 use Rattle.flow_syntax.specs.Rules.{RuleParts, rule_parts}
 use Rattle.flow_syntax.specs.Values.{Actions}
-use Rattle.flow_syntax.specs.declared.phrase.TheConstants.{FILE, NAMES, MORE_NAMES, SORT_NAME, PARAMETERS, MORE_SORTS, FIRST_BLOCK, MORE_BLOCKS, BODY, RESULTS, CONDITION, MORE_CONJUNCTIONS, CONJUNCTION, MORE_LITERALS, LITERAL, RELATION, CONTINUES, EXPRESSION, MORE_SUMMANDS, PRODUCT, MORE_FACTORS, FACTOR, CALL, ARGUMENTS, MORE_EXPRESSIONS}
-use Rattle.flow_syntax.specs.declared.terminal.TheConstants.{ABORT, AND, ASSERT, BANG, BECOMES, BLOCK, COMMA, CURLY_CLOSE, CURLY_OPEN, CUT, ELSE, EQ, EQUAL, FALSE, FUN, GE, GOTO, GRAPH, GT, IF, LE, LT, MINUS, NAME, NE, OR, PLUS, RETURN, ROUNDS, S16, S32, S64, S8, SEMICOLON, SGE, SGT, SLE, SLT, SORT, SPLIT, STAR, TRUE, U16, U32, U64, U8, VAR}
+use Rattle.flow_syntax.specs.declared.phrase.TheConstants.{FILE, NAMES, MORE_NAMES, SORT_NAME, PARAMETERS, MORE_SORTS, FIRST_BLOCK, MORE_BLOCKS, BODY, RESULTS, CONDITION, MORE_CONJUNCTIONS, CONJUNCTION, MORE_LITERALS, LITERAL, RELATION, CONTINUES, EXPRESSION, MORE_SUMMANDS, PRODUCT, MORE_FACTORS, FACTOR, CALL, ARGUMENTS, MORE_EXPRESSIONS, MATCHED, WHERE_EQUATIONS, BACK_EQUATIONS, KEEPING_EQUATIONS, EQUATIONS, MORE_EQUATIONS, MATCH_CONDITION, MATCH_ROUNDS, MATCH_SPLIT}
+use Rattle.flow_syntax.specs.declared.terminal.TheConstants.{ABORT, ALL_NAMES, AND, ASSERT, BACK, BANG, BECOMES, BLOCK, COMMA, CURLY_CLOSE, CURLY_OPEN, CUT, ELSE, EQ, EQUAL, FALSE, FUN, GE, GOTO, GRAPH, GT, IF, KEEPING, LE, LT, MATCH, MINUS, NAME, NE, OR, PLUS, RETURN, ROUNDS, S16, S32, S64, S8, SEMICOLON, SGE, SGT, SLE, SLT, SORT, SPLIT, STAR, TRUE, U16, U32, U64, U8, VAR, WHERE}
 use Rattle.flow_syntax.specs.declared.action.Action.{Action}
-use Rattle.flow_syntax.specs.declared.action.Action.TheVariants.{Names, Exprs, Conds, Bodies, Items}
+use Rattle.flow_syntax.specs.declared.action.Action.TheVariants.{Names, Exprs, Conds, Bodies, Matches, Items}
 use Rattle.flow_syntax.specs.declared.action.NameAction.TheVariants.{Keep, NoTokens, OneToken, NextToken, NoParameters, SomeParameters}
 use Rattle.flow_syntax.specs.declared.action.ExprAction.TheVariants.{NoExprs, NextExpr, EndedAtOnce, EndedList, NoOperations, NextOperation, Join, Numeral, NameOrCall, CallNothing, CallList, Convert, EnclosedExpr}
 use Rattle.flow_syntax.specs.declared.action.CondAction.TheVariants.{NoConds, NextAny, NextAll, Any, All, TrueCond, FalseCond, Negate, EnclosedCond, Compare, CompareSigned}
 use Rattle.flow_syntax.specs.declared.action.BodyAction.TheVariants.{Assigning, Asserting, Going, Branching, Returning, Aborting, CutBlock, PlainBlock, NoBlocks, NextCutBlock, NextPlainBlock}
-use Rattle.flow_syntax.specs.declared.action.ItemAction.TheVariants.{NoItems, SortsItem, FunctionItem, VariablesItem, GraphItem, RoundsItem, SplitItem, EqualItem}
+use Rattle.flow_syntax.specs.declared.action.MatchAction.TheVariants.{NoEquations, NextEquation, FirstEquation, GivenEquations, GivenCondition, GivenNumber, GivenWord, MatchNames, MatchBlocks}
+use Rattle.flow_syntax.specs.declared.action.ItemAction.TheVariants.{NoItems, SortsItem, FunctionItem, VariablesItem, GraphItem, RoundsItem, SplitItem, EqualItem, MatchItem}
 use Rattle.flow_syntax.specs.Actions.{ValueSyntax, token, done}
 
 -- a production: its rule and its action
@@ -29,6 +30,7 @@ file_rules =
     (rule_parts FILE (Take ROUNDS) (Token NUMBER ∷ Token SEMICOLON ∷ Phrase FILE ∷ []), Items RoundsItem) ∷
     (rule_parts FILE (Take SPLIT) (Token SEMICOLON ∷ Phrase FILE ∷ []), Items SplitItem) ∷
     (rule_parts FILE (Take EQUAL) (Token NAME ∷ Token COMMA ∷ Token NAME ∷ Token SEMICOLON ∷ Phrase FILE ∷ []), Items EqualItem) ∷
+    (rule_parts FILE (Take MATCH) (Phrase MATCHED ∷ Phrase FILE ∷ []), Items MatchItem) ∷
     (rule_parts FILE Otherwise ([]), Items NoItems) ∷ []
 
 abbrev pub names_rules : List Production
@@ -188,6 +190,41 @@ more_expressions_rules =
     (rule_parts MORE_EXPRESSIONS (Take COMMA) (Phrase EXPRESSION ∷ Phrase MORE_EXPRESSIONS ∷ []), Exprs NextExpr) ∷
     (rule_parts MORE_EXPRESSIONS Otherwise ([]), Exprs NoExprs) ∷ []
 
+abbrev pub matched_rules : List Production
+matched_rules =
+    (rule_parts MATCHED (Take ALL_NAMES) (Token SEMICOLON ∷ []), Matches MatchNames) ∷
+    (rule_parts MATCHED (Take NAME) (Token COMMA ∷ Token NAME ∷ Phrase WHERE_EQUATIONS ∷ Phrase BACK_EQUATIONS ∷ Phrase KEEPING_EQUATIONS ∷ Phrase MATCH_CONDITION ∷ Phrase MATCH_ROUNDS ∷ Phrase MATCH_SPLIT ∷ Token SEMICOLON ∷ []), Matches MatchBlocks) ∷ []
+
+-- the equations after a word, or none
+abbrev pub given_equations_rules : ℕ → ℕ → List Production
+given_equations_rules phrase word =
+    (rule_parts phrase (Take word) (Phrase EQUATIONS ∷ []), Matches GivenEquations) ∷
+    (rule_parts phrase Otherwise ([]), Matches NoEquations) ∷ []
+
+abbrev pub equations_rules : List Production
+equations_rules =
+    (rule_parts EQUATIONS (Take NAME) (Token BECOMES ∷ Phrase EXPRESSION ∷ Phrase MORE_EQUATIONS ∷ []), Matches FirstEquation) ∷ []
+
+abbrev pub more_equations_rules : List Production
+more_equations_rules =
+    (rule_parts MORE_EQUATIONS (Take COMMA) (Token NAME ∷ Token BECOMES ∷ Phrase EXPRESSION ∷ Phrase MORE_EQUATIONS ∷ []), Matches NextEquation) ∷
+    (rule_parts MORE_EQUATIONS Otherwise ([]), Matches NoEquations) ∷ []
+
+abbrev pub match_condition_rules : List Production
+match_condition_rules =
+    (rule_parts MATCH_CONDITION (Take IF) (Phrase CONDITION ∷ []), Matches GivenCondition) ∷
+    (rule_parts MATCH_CONDITION Otherwise ([]), Conds NoConds) ∷ []
+
+abbrev pub match_rounds_rules : List Production
+match_rounds_rules =
+    (rule_parts MATCH_ROUNDS (Take ROUNDS) (Token NUMBER ∷ []), Matches GivenNumber) ∷
+    (rule_parts MATCH_ROUNDS Otherwise ([]), Names NoTokens) ∷ []
+
+abbrev pub match_split_rules : List Production
+match_split_rules =
+    (rule_parts MATCH_SPLIT (Take SPLIT) ([]), Matches GivenWord) ∷
+    (rule_parts MATCH_SPLIT Otherwise ([]), Names NoTokens) ∷ []
+
 unfoldable pub productions : List Production
 productions =
     file_rules
@@ -215,6 +252,15 @@ productions =
     ++ call_rules
     ++ arguments_rules
     ++ more_expressions_rules
+    ++ matched_rules
+    ++ given_equations_rules WHERE_EQUATIONS WHERE
+    ++ given_equations_rules BACK_EQUATIONS BACK
+    ++ given_equations_rules KEEPING_EQUATIONS KEEPING
+    ++ equations_rules
+    ++ more_equations_rules
+    ++ match_condition_rules
+    ++ match_rounds_rules
+    ++ match_split_rules
 
 abbrev pub rules_of : List Production → List RuleParts
 rules_of ps = map (λ p. p.0) ps
@@ -247,10 +293,19 @@ rules =
     ++ rules_of call_rules
     ++ rules_of arguments_rules
     ++ rules_of more_expressions_rules
+    ++ rules_of matched_rules
+    ++ rules_of (given_equations_rules WHERE_EQUATIONS WHERE)
+    ++ rules_of (given_equations_rules BACK_EQUATIONS BACK)
+    ++ rules_of (given_equations_rules KEEPING_EQUATIONS KEEPING)
+    ++ rules_of equations_rules
+    ++ rules_of more_equations_rules
+    ++ rules_of match_condition_rules
+    ++ rules_of match_rounds_rules
+    ++ rules_of match_split_rules
 
 -- weights of the phrases, phrase 0 first, by which each reading ends
 unfoldable pub weights : List ℕ
-weights = 1 ∷ 1 ∷ 1 ∷ 1 ∷ 4 ∷ 1 ∷ 1 ∷ 1 ∷ 1 ∷ 8 ∷ 16 ∷ 1 ∷ 14 ∷ 1 ∷ 12 ∷ 1 ∷ 1 ∷ 5 ∷ 1 ∷ 3 ∷ 1 ∷ 1 ∷ 1 ∷ 8 ∷ 1 ∷ []
+weights = 1 ∷ 1 ∷ 1 ∷ 1 ∷ 4 ∷ 1 ∷ 1 ∷ 1 ∷ 1 ∷ 8 ∷ 16 ∷ 1 ∷ 14 ∷ 1 ∷ 12 ∷ 1 ∷ 1 ∷ 5 ∷ 1 ∷ 3 ∷ 1 ∷ 1 ∷ 1 ∷ 8 ∷ 1 ∷ 1 ∷ 1 ∷ 1 ∷ 1 ∷ 1 ∷ 1 ∷ 1 ∷ 1 ∷ 1 ∷ []
 
 -- the action of each rule, in order
 unfoldable pub listed_actions : List Action

@@ -1,8 +1,8 @@
 -- Sizes of items. An expression counts its nodes; a condition counts one for each node, and for a comparison both
--- expressions too; an assignment counts its targets and its expressions.
+-- expressions too; an assignment counts its targets and its expressions, and an equation of a match likewise.
 use Rattle.std.specs.Prelude.{ℕ, ◌+◌, List, [], ◌∷◌, length, Bool, true, not, ◌&&◌, nat_lt, if◌then◌else◌, Option, Some, None}
 use Rattle.kat_model.specs.declared.limits.TheConstants.{MAX_EXPR_NODES, MAX_TERM_NODES, MAX_TEXT_NODES}
-use Rattle.flow_syntax.specs.Syntax.{ExprSyntax, CondNodeSyntax, always, never, compared, compared_signed, negation, both, either, StatementSyntax, assign, claim, JumpSyntax, goto, branch, return, abort, BlockSyntax, a_block}
+use Rattle.flow_syntax.specs.Syntax.{ExprSyntax, CondNodeSyntax, always, never, compared, compared_signed, negation, both, either, StatementSyntax, assign, claim, JumpSyntax, goto, branch, return, abort, BlockSyntax, a_block, EquationSyntax, equation, MatchSyntax, same_names, two_blocks}
 
 abbrev pub total : {X : Type 0} → (X → ℕ) → List X → ℕ
 total nodes [] = 0
@@ -63,10 +63,31 @@ jump_short abort = true
 abbrev pub block_short : BlockSyntax → Bool
 block_short (a_block is_cut name statements jump) = all_pass statement_short statements && jump_short jump
 
--- `n` nodes with those of a graph of `m` nodes, in which each expression is short or not; `None` if these are too many
+-- `n` nodes with `m` others, in which each expression is short or not; `None` if the others or all together are too many
 abbrev pub few_nodes : Bool → ℕ → ℕ → Option ℕ
 few_nodes short n m =
     if short then (if nat_lt MAX_TERM_NODES m then None else (if nat_lt MAX_TEXT_NODES (n + m) then None else Some (n + m))) else None
 
 abbrev pub nodes_with : ℕ → List BlockSyntax → Option ℕ
 nodes_with n bs = few_nodes (all_pass block_short bs) n (total block_nodes bs)
+
+-- ---- matches
+
+abbrev pub equation_nodes : EquationSyntax → ℕ
+equation_nodes (equation y e) = 1 + expr_nodes e
+
+abbrev pub equation_short : EquationSyntax → Bool
+equation_short (equation y e) = is_short e
+
+abbrev pub match_nodes : MatchSyntax → ℕ
+match_nodes same_names = 1
+match_nodes (two_blocks m) =
+    1 + (total equation_nodes m.forth + (total equation_nodes m.back + (total equation_nodes m.keeping + total cond_node_nodes m.condition)))
+
+abbrev pub match_short : MatchSyntax → Bool
+match_short same_names = true
+match_short (two_blocks m) =
+    all_pass equation_short m.forth && (all_pass equation_short m.back && (all_pass equation_short m.keeping && all_pass cond_node_short m.condition))
+
+abbrev pub nodes_with_match : ℕ → MatchSyntax → Option ℕ
+nodes_with_match n m = few_nodes (match_short m) n (match_nodes m)

@@ -1,5 +1,5 @@
 -- Flow files as they are spelled, with the tokens by which they name things.
-use Rattle.std.specs.Prelude.{ℕ, Bool, List}
+use Rattle.std.specs.Prelude.{ℕ, Bool, List, Option}
 use Rattle.text_parser.specs.TokenParts.{TokenParts}
 
 -- the first name or conversion in an expression that is in no argument and under no conversion
@@ -47,6 +47,27 @@ pub data JumpSyntax : Type 0 where
 pub data BlockSyntax : Type 0 where
   a_block : (is_cut : Bool) → (name : TokenParts) → (statements : List StatementSyntax) → (jump : JumpSyntax) → BlockSyntax
 
+-- a variable and an expression for its value
+pub data EquationSyntax : Type 0 where
+  equation : (variable : TokenParts) → (e : ExprSyntax) → EquationSyntax
+
+-- a match of two blocks: the equations of `where`, of `back` and of `keeping`, and a condition, which is empty if it is not
+-- given
+pub record BlockMatchSyntax : Type 0 where
+  pub before : TokenParts
+  pub after : TokenParts
+  pub forth : List EquationSyntax
+  pub back : List EquationSyntax
+  pub keeping : List EquationSyntax
+  pub condition : CondSyntax
+  pub rounds : Option TokenParts
+  pub splits : Bool
+
+-- what a `match` matches: each block with the block of the same name, or two blocks
+pub data MatchSyntax : Type 0 where
+  same_names : MatchSyntax
+  two_blocks : (blocks : BlockMatchSyntax) → MatchSyntax
+
 -- an item, with its keyword
 pub data ItemSyntax : Type 0 where
   sorts : (word : TokenParts) → (names : List TokenParts) → ItemSyntax
@@ -56,3 +77,4 @@ pub data ItemSyntax : Type 0 where
   rounds : (word : TokenParts) → (number : TokenParts) → ItemSyntax
   split : (word : TokenParts) → ItemSyntax
   equal : (word : TokenParts) → (before after : TokenParts) → ItemSyntax
+  matching : (word : TokenParts) → (m : MatchSyntax) → ItemSyntax

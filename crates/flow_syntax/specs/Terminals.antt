@@ -8,8 +8,7 @@ use Rattle.text_parser.specs.declared.terminal.Terminal.{Terminal}
 use Rattle.text_parser.specs.declared.terminal.Terminal.TheVariants.{Zero, One, Number, WideNumber}
 use Rattle.text_parser.specs.Terminals as grammar
 use Rattle.flow_syntax.specs.declared.rule.TheConstants.{NUMBER, WIDE_NUMBER, OPEN_ROUND, CLOSE_ROUND}
-use Rattle.flow_syntax.specs.declared.rule.Mark.{Mark}
-use Rattle.flow_syntax.specs.declared.terminal.TheConstants.{NAME, OTHER, SORT, FUN, VAR, GRAPH, BLOCK, CUT, GOTO, IF, ELSE, RETURN, ABORT, ASSERT, EQUAL, ROUNDS, SPLIT, TRUE, FALSE, U8, U16, U32, U64, S8, S16, S32, S64, SLT, SLE, SGT, SGE, COMMA, SEMICOLON, CURLY_OPEN, CURLY_CLOSE, BECOMES, EQ, NE, LT, LE, GT, GE, PLUS, MINUS, STAR, AND, OR, BANG}
+use Rattle.flow_syntax.specs.declared.terminal.TheConstants.{NAME, OTHER, SORT, FUN, VAR, GRAPH, BLOCK, CUT, GOTO, IF, ELSE, RETURN, ABORT, ASSERT, EQUAL, ROUNDS, SPLIT, TRUE, FALSE, U8, U16, U32, U64, S8, S16, S32, S64, SLT, SLE, SGT, SGE, COMMA, SEMICOLON, CURLY_OPEN, CURLY_CLOSE, BECOMES, EQ, NE, LT, LE, GT, GE, PLUS, MINUS, STAR, AND, OR, BANG, WHERE, BACK, KEEPING, ALL_NAMES}
 
 -- the terminal of a keyword or a name
 abbrev pub word_terminal : List ℕ → ℕ
@@ -45,6 +44,15 @@ word_terminal text =
     else if bytes_eq text (codes "sge") then SGE
     else NAME
 
+-- the terminal of a keyword or a name in a `match`, where four more words are keywords
+abbrev pub match_word_terminal : List ℕ → ℕ
+match_word_terminal text =
+    if bytes_eq text (codes "where") then WHERE
+    else if bytes_eq text (codes "back") then BACK
+    else if bytes_eq text (codes "keeping") then KEEPING
+    else if bytes_eq text (codes "names") then ALL_NAMES
+    else word_terminal text
+
 abbrev pub symbol_terminal : List ℕ → ℕ
 symbol_terminal text =
     if bytes_eq text (codes "(") then OPEN_ROUND
@@ -76,11 +84,17 @@ number_terminal (Number n) = NUMBER
 number_terminal WideNumber = WIDE_NUMBER
 number_terminal _ = OTHER
 
--- the terminal of a token, by its kind and text
+-- the terminal of a token that is not in a `match`, by its kind and text
 abbrev pub terminal_of : Kind → List ℕ → ℕ
 terminal_of kind.Name text = word_terminal text
 terminal_of kind.Number text = number_terminal (grammar.terminal_of kind.Number text)
 terminal_of kind.Symbol text = symbol_terminal text
+
+-- likewise for a token in a `match`
+abbrev pub terminal_in_match : Kind → List ℕ → ℕ
+terminal_in_match kind.Name text = match_word_terminal text
+terminal_in_match kind.Number text = terminal_of kind.Number text
+terminal_in_match kind.Symbol text = terminal_of kind.Symbol text
 
 -- the number that a terminal of problem files is
 abbrev pub number_value : Terminal → Option ℕ
@@ -92,7 +106,3 @@ number_value _ = None
 -- the number that a token spells, if it spells one below 2^64
 abbrev pub spelled_number : TokenParts → Option ℕ
 spelled_number (token_parts kind at text) = number_value (grammar.terminal_of kind text)
-
--- a token as the reader sees it
-abbrev pub mark_of : TokenParts → Mark
-mark_of (token_parts kind at text) = record { terminal = terminal_of kind text; at = at }

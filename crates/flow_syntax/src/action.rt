@@ -62,6 +62,20 @@ pub(crate) enum BodyAction {
     NextPlainBlock,
 }
 
+/// Makes the parts of a `match`.
+#[derive(Clone, Copy)]
+pub(crate) enum MatchAction {
+    NoEquations,
+    NextEquation,
+    FirstEquation,
+    GivenEquations,
+    GivenCondition,
+    GivenNumber,
+    GivenWord,
+    MatchNames,
+    MatchBlocks,
+}
+
 /// Makes items.
 #[derive(Clone, Copy)]
 pub(crate) enum ItemAction {
@@ -73,6 +87,7 @@ pub(crate) enum ItemAction {
     RoundsItem,
     SplitItem,
     EqualItem,
+    MatchItem,
 }
 
 /// What a production makes of the values of its parts.
@@ -82,5 +97,6 @@ pub(crate) enum Action {
     Exprs(ExprAction),
     Conds(CondAction),
     Bodies(BodyAction),
+    Matches(MatchAction),
     Items(ItemAction),
 }

@@ -48,6 +48,7 @@ const ROWS: &[RuleRow] = &[
     RuleRow(FILE, Take(SPLIT), &[Token(SEMICOLON), Phrase(FILE)]),
     RuleRow(FILE, Take(EQUAL),
         &[Token(NAME), Token(COMMA), Token(NAME), Token(SEMICOLON), Phrase(FILE)]),
+    RuleRow(FILE, Take(MATCH), &[Phrase(MATCHED), Phrase(FILE)]),
     RuleRow(FILE, Otherwise, &[]),
     RuleRow(NAMES, Take(NAME), &[Phrase(MORE_NAMES)]),
     RuleRow(MORE_NAMES, Take(COMMA), &[Token(NAME), Phrase(MORE_NAMES)]),
@@ -139,6 +140,27 @@ const ROWS: &[RuleRow] = &[
         &[Phrase(EXPRESSION), Phrase(MORE_EXPRESSIONS), Token(CLOSE_ROUND)]),
     RuleRow(MORE_EXPRESSIONS, Take(COMMA), &[Phrase(EXPRESSION), Phrase(MORE_EXPRESSIONS)]),
     RuleRow(MORE_EXPRESSIONS, Otherwise, &[]),
+    RuleRow(MATCHED, Take(ALL_NAMES), &[Token(SEMICOLON)]),
+    RuleRow(MATCHED, Take(NAME),
+        &[Token(COMMA), Token(NAME), Phrase(WHERE_EQUATIONS), Phrase(BACK_EQUATIONS),
+            Phrase(KEEPING_EQUATIONS), Phrase(MATCH_CONDITION), Phrase(MATCH_ROUNDS),
+            Phrase(MATCH_SPLIT), Token(SEMICOLON)]),
+    RuleRow(WHERE_EQUATIONS, Take(WHERE), &[Phrase(EQUATIONS)]),
+    RuleRow(WHERE_EQUATIONS, Otherwise, &[]),
+    RuleRow(BACK_EQUATIONS, Take(BACK), &[Phrase(EQUATIONS)]),
+    RuleRow(BACK_EQUATIONS, Otherwise, &[]),
+    RuleRow(KEEPING_EQUATIONS, Take(KEEPING), &[Phrase(EQUATIONS)]),
+    RuleRow(KEEPING_EQUATIONS, Otherwise, &[]),
+    RuleRow(EQUATIONS, Take(NAME), &[Token(BECOMES), Phrase(EXPRESSION), Phrase(MORE_EQUATIONS)]),
+    RuleRow(MORE_EQUATIONS, Take(COMMA),
+        &[Token(NAME), Token(BECOMES), Phrase(EXPRESSION), Phrase(MORE_EQUATIONS)]),
+    RuleRow(MORE_EQUATIONS, Otherwise, &[]),
+    RuleRow(MATCH_CONDITION, Take(IF), &[Phrase(CONDITION)]),
+    RuleRow(MATCH_CONDITION, Otherwise, &[]),
+    RuleRow(MATCH_ROUNDS, Take(ROUNDS), &[Token(NUMBER)]),
+    RuleRow(MATCH_ROUNDS, Otherwise, &[]),
+    RuleRow(MATCH_SPLIT, Take(SPLIT), &[]),
+    RuleRow(MATCH_SPLIT, Otherwise, &[]),
 ];
 
 fn rules_of_rows(alloc: Global, rows: &[RuleRow]) -> Result<Vec<Rule>, NoMemory>
@@ -167,7 +189,8 @@ pub(crate) fn grammar(alloc: Global) -> Result<Grammar, NoMemory>
     let rules = grammar_rules(alloc)?;
     let mut weights = Vec::new(alloc);
     weights.extend_from_slice(&[
-        1, 1, 1, 1, 4, 1, 1, 1, 1, 8, 16, 1, 14, 1, 12, 1, 1, 5, 1, 3, 1, 1, 1, 8, 1,
+        1, 1, 1, 1, 4, 1, 1, 1, 1, 8, 16, 1, 14, 1, 12, 1, 1, 5, 1, 3, 1, 1, 1, 8, 1, 1, 1, 1, 1,
+        1, 1, 1, 1, 1,
     ])?;
     Ok(Grammar { rules, weights })
 }

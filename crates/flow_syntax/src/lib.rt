@@ -19,6 +19,7 @@ mod making_bodies;
 mod making_conds;
 mod making_exprs;
 mod making_items;
+mod making_matches;
 mod making_names;
 mod marks;
 mod node_counts;
@@ -34,7 +35,7 @@ mod written;
 pub use building::{Building, build};
 pub use laws::{derivations_are_leftmost, one_derivation};
 pub use making_exprs::{first_name, first_of};
-pub use node_counts::nodes_with;
+pub use node_counts::{nodes_with, nodes_with_match};
 pub use parsing::items;
 pub use reading::read;
 pub use rule::{
@@ -42,4 +43,6 @@ pub use rule::{
     WIDE_NUMBER, push_rule,
 };
 pub use terminal::spelled_number;
-pub use written::{Block, CondNode, FirstName, Item, Jump, Node, Statement};
+pub use written::{
+    Block, BlockMatch, CondNode, Equation, FirstName, Item, Jump, Match, Node, Statement,
+};

@@ -1,9 +1,11 @@
 //! The actions of the productions.
 
-use crate::action::{Action, BodyAction, CondAction, ExprAction, ItemAction, NameAction};
+use crate::action::{
+    Action, BodyAction, CondAction, ExprAction, ItemAction, MatchAction, NameAction,
+};
 
 /// The action of each rule, in order.
-pub(crate) const ACTIONS: [Action; 87] = [
+pub(crate) const ACTIONS: [Action; 105] = [
     Action::Items(ItemAction::SortsItem),
     Action::Items(ItemAction::FunctionItem),
     Action::Items(ItemAction::VariablesItem),
@@ -11,6 +13,7 @@ pub(crate) const ACTIONS: [Action; 87] = [
     Action::Items(ItemAction::RoundsItem),
     Action::Items(ItemAction::SplitItem),
     Action::Items(ItemAction::EqualItem),
+    Action::Items(ItemAction::MatchItem),
     Action::Items(ItemAction::NoItems),
     Action::Names(NameAction::OneToken),
     Action::Names(NameAction::NextToken),
@@ -91,4 +94,21 @@ pub(crate) const ACTIONS: [Action; 87] = [
     Action::Exprs(ExprAction::EndedList),
     Action::Exprs(ExprAction::NextExpr),
     Action::Exprs(ExprAction::NoExprs),
+    Action::Matches(MatchAction::MatchNames),
+    Action::Matches(MatchAction::MatchBlocks),
+    Action::Matches(MatchAction::GivenEquations),
+    Action::Matches(MatchAction::NoEquations),
+    Action::Matches(MatchAction::GivenEquations),
+    Action::Matches(MatchAction::NoEquations),
+    Action::Matches(MatchAction::GivenEquations),
+    Action::Matches(MatchAction::NoEquations),
+    Action::Matches(MatchAction::FirstEquation),
+    Action::Matches(MatchAction::NextEquation),
+    Action::Matches(MatchAction::NoEquations),
+    Action::Matches(MatchAction::GivenCondition),
+    Action::Conds(CondAction::NoConds),
+    Action::Matches(MatchAction::GivenNumber),
+    Action::Names(NameAction::NoTokens),
+    Action::Matches(MatchAction::GivenWord),
+    Action::Names(NameAction::NoTokens),
 ];

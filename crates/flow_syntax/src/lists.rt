@@ -1,9 +1,9 @@
 //! Appends to lists, which are from the last member to the first.
 ghost use Rattle.std.specs.Prelude.{◌≡◌, ◌∷◌, OnOk};
 ghost use Rattle.text_parser.specs.TokenParts.{parts_of_token};
-ghost use Rattle.flow_syntax.specs.SyntaxViews.{tokens_syntax, node_syntax, expr_syntax, exprs_syntax, cond_node_syntax, cond_syntax, block_syntax, blocks_syntax};
+ghost use Rattle.flow_syntax.specs.SyntaxViews.{tokens_syntax, node_syntax, expr_syntax, exprs_syntax, cond_node_syntax, cond_syntax, block_syntax, blocks_syntax, equation_syntax, equations_syntax};
 
-use crate::written::{Block, CondNode, Node};
+use crate::written::{Block, CondNode, Equation, Node};
 use kat_model::{NoMemory, append};
 use text_parser::Token;
 
@@ -52,4 +52,14 @@ pub(crate) fn append_block<'a>(
     ensures { OnOk result (blocks_syntax blocks.new.items ≡ block_syntax block.entry ∷ blocks_syntax blocks.old.items) }
 {
     append(blocks, block)
+}
+
+#[tactic(auto, using(crate::proofs::Stacked::pushes))]
+pub(crate) fn append_equation<'a>(
+    equations: &mut Vec<Equation<'a>>,
+    equation: Equation<'a>,
+) -> Result<(), NoMemory>
+    ensures { OnOk result (equations_syntax equations.new.items ≡ equation_syntax equation.entry ∷ equations_syntax equations.old.items) }
+{
+    append(equations, equation)
 }

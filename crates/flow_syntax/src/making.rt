@@ -11,6 +11,7 @@ use crate::making_bodies::make_bodies;
 use crate::making_conds::make_conds;
 use crate::making_exprs::make_exprs;
 use crate::making_items::make_items;
+use crate::making_matches::make_matches;
 use crate::making_names::make_names;
 use crate::stack::push;
 use crate::value::Value;
@@ -26,6 +27,7 @@ fn make(alloc: Global, action: Action, stack: &mut Vec<Value>) -> Result<(), NoM
         Action::Exprs(exprs) => make_exprs(alloc, exprs, stack),
         Action::Conds(conds) => make_conds(alloc, conds, stack),
         Action::Bodies(bodies) => make_bodies(alloc, bodies, stack),
+        Action::Matches(matches) => make_matches(alloc, matches, stack),
         Action::Items(items) => make_items(alloc, items, stack),
     }
 }

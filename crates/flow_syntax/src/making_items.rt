@@ -4,7 +4,7 @@ ghost use Rattle.flow_syntax.specs.Actions.{items, first, rest, items_in, items_
 ghost use Rattle.flow_syntax.specs.SyntaxViews.{stack_syntax, item_syntax};
 
 use crate::action::ItemAction;
-use crate::stack::{push, skip, take_blocks, take_items, take_token, take_tokens};
+use crate::stack::{push, skip, take_blocks, take_items, take_match, take_token, take_tokens};
 use crate::value::Value;
 use crate::written::Item;
 use kat_model::{NoMemory, append};
@@ -103,6 +103,15 @@ fn equal_item(alloc: Global, stack: &mut Vec<Value>) -> Result<(), NoMemory>
     add_item(alloc, stack, Item::Equal(word, before, after))
 }
 
+#[tactic(auto, using(crate::proofs::Stacked::pushes))]
+fn match_item(alloc: Global, stack: &mut Vec<Value>) -> Result<(), NoMemory>
+    ensures { OnOk result (stack_syntax stack.new.items ≡ items_done ItemAction.MatchItem (stack_syntax stack.old.items)) }
+{
+    let word = take_token(stack);
+    let matched = take_match(stack);
+    add_item(alloc, stack, Item::Match(word, matched))
+}
+
 /// Replaces the values of the parts by that of the phrase. Fails only when out of memory.
 #[tactic(auto, using(crate::proofs::Stacked::pushes))]
 pub(crate) fn make_items(
@@ -121,5 +130,6 @@ pub(crate) fn make_items(
         ItemAction::RoundsItem => rounds_item(alloc, stack),
         ItemAction::SplitItem => split_item(alloc, stack),
         ItemAction::EqualItem => equal_item(alloc, stack),
+        ItemAction::MatchItem => match_item(alloc, stack),
     }
 }

@@ -1,9 +1,9 @@
-//! Sizes of graphs.
+//! Sizes of graphs and of matches.
 ghost use Rattle.std.specs.Prelude.{◌≡◌, ◌+◌, length, min};
-ghost use Rattle.flow_syntax.specs.Sizes.{total, expr_nodes, cond_node_nodes, statement_nodes, jump_nodes, block_nodes, is_short, all_pass, cond_node_short, statement_short, jump_short, block_short, nodes_with};
-ghost use Rattle.flow_syntax.specs.SyntaxViews.{tokens_syntax, expr_syntax, exprs_syntax, cond_node_syntax, cond_syntax, statement_syntax, statements_syntax, jump_syntax, block_syntax, blocks_syntax};
+ghost use Rattle.flow_syntax.specs.Sizes.{total, expr_nodes, cond_node_nodes, statement_nodes, jump_nodes, block_nodes, is_short, all_pass, cond_node_short, statement_short, jump_short, block_short, few_nodes, nodes_with, equation_nodes, equation_short, match_nodes, match_short, nodes_with_match};
+ghost use Rattle.flow_syntax.specs.SyntaxViews.{tokens_syntax, expr_syntax, exprs_syntax, cond_node_syntax, cond_syntax, statement_syntax, statements_syntax, jump_syntax, block_syntax, blocks_syntax, equations_syntax, match_syntax};
 
-use crate::written::{Block, CondNode, Jump, Node, Statement};
+use crate::written::{Block, CondNode, Equation, Jump, Match, Node, Statement};
 use kat_model::{MAX_EXPR_NODES, MAX_TERM_NODES, MAX_TEXT_NODES};
 use text_parser::Token;
 
@@ -205,13 +205,12 @@ fn total_nodes(blocks: &[Block]) -> u64
     nodes
 }
 
-/// Returns the number of nodes so far with those of another graph, or `None` if the graph or all graphs together are too
-/// large.
-pub fn nodes_with(so_far: u64, blocks: &[Block]) -> Option<u64>
-    ensures { result ≡ nodes_with so_far (blocks_syntax blocks.now) }
+// Returns the number of nodes so far with others, in which each expression is short or not, or `None` if the others or all
+// together are too many.
+fn few_nodes(short: bool, so_far: u64, nodes: u64) -> Option<u64>
+    ensures { result ≡ few_nodes short so_far nodes }
 {
-    let nodes = total_nodes(blocks);
-    if !are_short(blocks) {
+    if !short {
         return None;
     }
     if MAX_TERM_NODES < nodes {
@@ -222,4 +221,69 @@ pub fn nodes_with(so_far: u64, blocks: &[Block]) -> Option<u64>
         return None;
     }
     Some(all)
+}
+
+/// Returns the number of nodes so far with those of another graph, or `None` if the graph or all together are too large.
+#[tactic(auto, using(crate::proofs::CappedNodes::few_capped))]
+pub fn nodes_with(so_far: u64, blocks: &[Block]) -> Option<u64>
+    ensures { result ≡ nodes_with so_far (blocks_syntax blocks.now) }
+{
+    few_nodes(are_short(blocks), so_far, total_nodes(blocks))
+}
+
+#[tactic(auto, using(crate::proofs::Stacked::pushes, crate::proofs::LastMembers::more))]
+fn equations_nodes(equations: &[Equation]) -> u64
+    ensures { result ≡ min (total equation_nodes (equations_syntax equations.now)) MOST }
+{
+    let mut nodes: u64 = 0;
+    for equation in equations {
+        nodes = (1 + expr_nodes(&equation.value) + nodes).min(MOST);
+    }
+    nodes
+}
+
+#[tactic(auto, using(crate::proofs::Stacked::pushes, crate::proofs::LastMembers::more))]
+fn are_equations_short(equations: &[Equation]) -> bool
+    ensures { result ≡ all_pass equation_short (equations_syntax equations.now) }
+{
+    let mut short = true;
+    for equation in equations {
+        short = is_short(&equation.value) && short;
+    }
+    short
+}
+
+fn match_nodes(matched: &Match) -> u64
+    ensures { result ≡ min (match_nodes (match_syntax matched.now)) MOST }
+{
+    match matched {
+        Match::SameNames => 1,
+        Match::TwoBlocks(blocks) => (1
+            + equations_nodes(&blocks.forth)
+            + equations_nodes(&blocks.back)
+            + equations_nodes(&blocks.keeping)
+            + cond_nodes(&blocks.condition)).min(MOST),
+    }
+}
+
+fn is_match_short(matched: &Match) -> bool
+    ensures { result ≡ match_short (match_syntax matched.now) }
+{
+    match matched {
+        Match::SameNames => true,
+        Match::TwoBlocks(blocks) => {
+            are_equations_short(&blocks.forth)
+                && are_equations_short(&blocks.back)
+                && are_equations_short(&blocks.keeping)
+                && is_cond_short(&blocks.condition)
+        }
+    }
+}
+
+/// Returns the number of nodes so far with those of a match, or `None` if the match or all together are too large.
+#[tactic(auto, using(crate::proofs::CappedNodes::few_capped))]
+pub fn nodes_with_match(so_far: u64, matched: &Match) -> Option<u64>
+    ensures { result ≡ nodes_with_match so_far (match_syntax matched.now) }
+{
+    few_nodes(is_match_short(matched), so_far, match_nodes(matched))
 }

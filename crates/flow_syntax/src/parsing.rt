@@ -1,9 +1,9 @@
 //! Reads the items of a text.
-ghost use Rattle.std.specs.Prelude.{◌≡◌, length, map, IfOk, IfErr};
+ghost use Rattle.std.specs.Prelude.{◌≡◌, length, IfOk, IfErr};
 ghost use Rattle.text_parser.specs.TokenParts.{parts_of_tokens};
 ghost use Rattle.flow_syntax.specs.Derivations.{IsReaderFault};
 ghost use Rattle.flow_syntax.specs.declared.phrase.TheConstants.{FILE};
-ghost use Rattle.flow_syntax.specs.Terminals.{mark_of};
+ghost use Rattle.flow_syntax.specs.Marks.{marks_of};
 ghost use Rattle.flow_syntax.specs.Values.{count_taken, values};
 ghost use Rattle.flow_syntax.specs.Actions.{first, items_in};
 ghost use Rattle.flow_syntax.specs.Productions.{rules, actions};
@@ -43,7 +43,7 @@ fn items_of<'a>(
 #[tactic(auto, using(crate::proofs::TokensTaken::all_taken, crate::proofs::TokensTaken::are_spelled))]
 pub fn items<'a>(alloc: Global, toks: &[Token<'a>], end: usize) -> Result<Vec<Item<'a>>, TextFault>
     ensures read { IfOk result (λ list. AreSpelled (parts_of_tokens toks.now) end (items_syntax list.items)) }
-    ensures refused { IfErr result (λ fault. IsReaderFault rules FILE (map mark_of (parts_of_tokens toks.now)) end fault) }
+    ensures refused { IfErr result (λ fault. IsReaderFault rules FILE (marks_of (parts_of_tokens toks.now)) end fault) }
 {
     let steps = derivation(alloc, toks, end)?;
     Ok(items_of(alloc, toks, &steps)?)

@@ -50,3 +50,21 @@ pub const CALL: usize = 22;
 pub const ARGUMENTS: usize = 23;
 /// The expressions after a first one.
 pub const MORE_EXPRESSIONS: usize = 24;
+/// What follows `match`.
+pub const MATCHED: usize = 25;
+/// The equations of `where`, if there are any.
+pub const WHERE_EQUATIONS: usize = 26;
+/// The equations of `back`, if there are any.
+pub const BACK_EQUATIONS: usize = 27;
+/// The equations of `keeping`, if there are any.
+pub const KEEPING_EQUATIONS: usize = 28;
+/// Equations.
+pub const EQUATIONS: usize = 29;
+/// The equations after a first one.
+pub const MORE_EQUATIONS: usize = 30;
+/// The condition of a match, if there is one.
+pub const MATCH_CONDITION: usize = 31;
+/// The rounds of a match, if they are given.
+pub const MATCH_ROUNDS: usize = 32;
+/// `split` in a match, if it is given.
+pub const MATCH_SPLIT: usize = 33;

@@ -1,13 +1,14 @@
 //! The stack of values, whose last is the value of the first part. Each function takes a value off it, or one that is
 //! empty if the last value is of another kind.
 ghost use Rattle.std.specs.Prelude.{◌≡◌, ◌∷◌, IfOk, OnOk};
+ghost use Rattle.std.specs.Option.{option_map};
 ghost use Rattle.text_parser.specs.TokenParts.{parts_of_token};
-ghost use Rattle.flow_syntax.specs.Actions.{first, second, rest, past_two, is_no_call, token_in, tokens_in, expr_in, exprs_in, operators_in, operands_in, cond_in, statements_in, jump_in, blocks_in, items_in};
-ghost use Rattle.flow_syntax.specs.SyntaxViews.{tokens_syntax, expr_syntax, exprs_syntax, cond_syntax, statements_syntax, jump_syntax, blocks_syntax, items_syntax, value_syntax, stack_syntax};
+ghost use Rattle.flow_syntax.specs.Actions.{first, second, rest, past_two, is_no_call, given_token, is_given, token_in, tokens_in, expr_in, exprs_in, operators_in, operands_in, cond_in, statements_in, jump_in, blocks_in, equations_in, match_in, items_in};
+ghost use Rattle.flow_syntax.specs.SyntaxViews.{tokens_syntax, expr_syntax, exprs_syntax, cond_syntax, statements_syntax, jump_syntax, blocks_syntax, equations_syntax, match_syntax, items_syntax, value_syntax, stack_syntax};
 
 use crate::lists::{append_expr, append_token};
 use crate::value::Value;
-use crate::written::{Block, CondNode, Item, Jump, Node, Statement};
+use crate::written::{Block, CondNode, Equation, Item, Jump, Match, Node, Statement};
 use kat_model::{NoMemory, append};
 use std::alloc::Global;
 use text_parser::Token;
@@ -124,6 +125,50 @@ pub(crate) fn take_blocks<'a>(alloc: Global, stack: &mut Vec<Value<'a>>) -> Vec<
 {
     let value = pop(stack);
     value.into_blocks(alloc)
+}
+
+pub(crate) fn take_equations<'a>(alloc: Global, stack: &mut Vec<Value<'a>>) -> Vec<Equation<'a>>
+    ensures value { equations_syntax result.items ≡ equations_in (first (stack_syntax stack.old.items)) }
+    ensures rest { stack_syntax stack.new.items ≡ rest (stack_syntax stack.old.items) }
+{
+    let value = pop(stack);
+    value.into_equations(alloc)
+}
+
+pub(crate) fn take_match<'a>(stack: &mut Vec<Value<'a>>) -> Match<'a>
+    ensures value { match_syntax result ≡ match_in (first (stack_syntax stack.old.items)) }
+    ensures rest { stack_syntax stack.new.items ≡ rest (stack_syntax stack.old.items) }
+{
+    let value = pop(stack);
+    value.into_match()
+}
+
+// Returns the first of tokens.
+#[tactic(auto, using(crate::proofs::Stacked::pushes))]
+fn first_token<'a>(mut tokens: Vec<Token<'a>>) -> Option<Token<'a>>
+    ensures { option_map parts_of_token result ≡ given_token (tokens_syntax tokens.entry.items) }
+{
+    tokens.pop()
+}
+
+/// Takes tokens off the stack and returns the first of them.
+pub(crate) fn take_given<'a>(alloc: Global, stack: &mut Vec<Value<'a>>) -> Option<Token<'a>>
+    ensures value { option_map parts_of_token result ≡ given_token (tokens_in (first (stack_syntax stack.old.items))) }
+    ensures rest { stack_syntax stack.new.items ≡ rest (stack_syntax stack.old.items) }
+{
+    let tokens = take_tokens(alloc, stack);
+    first_token(tokens)
+}
+
+/// Takes tokens off the stack and returns whether there are any.
+pub(crate) fn take_flag(alloc: Global, stack: &mut Vec<Value>) -> bool
+    ensures value { result ≡ is_given (given_token (tokens_in (first (stack_syntax stack.old.items)))) }
+    ensures rest { stack_syntax stack.new.items ≡ rest (stack_syntax stack.old.items) }
+{
+    match take_given(alloc, stack) {
+        Some(_) => true,
+        None => false,
+    }
 }
 
 pub(crate) fn take_items<'a>(alloc: Global, stack: &mut Vec<Value<'a>>) -> Vec<Item<'a>>

@@ -1,7 +1,8 @@
 //! The terminals of the format, numbered after those that the reader knows.
-ghost use Rattle.std.specs.Prelude.{◌≡◌};
+ghost use Rattle.std.specs.Prelude.{◌≡◌, codes};
+ghost use Rattle.std.specs.Str.{bytes_eq};
 ghost use Rattle.text_parser.specs.TokenParts.{parts_of_token};
-ghost use Rattle.flow_syntax.specs.Terminals.{word_terminal, symbol_terminal, number_terminal, terminal_of, spelled_number};
+ghost use Rattle.flow_syntax.specs.Terminals.{word_terminal, match_word_terminal, symbol_terminal, number_terminal, terminal_of, terminal_in_match, spelled_number};
 ghost use Rattle.flow_syntax.specs.Working.Words.{listed_terminal};
 
 use crate::rule::{CLOSE_ROUND, NUMBER, OPEN_ROUND, WIDE_NUMBER};
@@ -106,6 +107,17 @@ pub const OR: usize = 51;
 /// `!`
 pub const BANG: usize = 52;
 
+/// `match`
+pub const MATCH: usize = 53;
+/// `where`, in a `match`
+pub const WHERE: usize = 54;
+/// `back`, in a `match`
+pub const BACK: usize = 55;
+/// `keeping`, in a `match`
+pub const KEEPING: usize = 56;
+/// `names`, in a `match`
+pub const ALL_NAMES: usize = 57;
+
 /// The keywords and their terminals.
 const WORDS: &[(&str, usize)] = &[
     ("sort", SORT),
@@ -137,6 +149,14 @@ const WORDS: &[(&str, usize)] = &[
     ("sle", SLE),
     ("sgt", SGT),
     ("sge", SGE),
+];
+
+/// The words that are keywords in a `match` only.
+const MATCH_WORDS: &[(&str, usize)] = &[
+    ("where", WHERE),
+    ("back", BACK),
+    ("keeping", KEEPING),
+    ("names", ALL_NAMES),
 ];
 
 /// The symbols and their terminals.
@@ -180,6 +200,12 @@ fn word_terminal(text: &str) -> usize
     listed_terminal(WORDS, NAME, text)
 }
 
+fn match_word_terminal(text: &str) -> usize
+    ensures { result ≡ match_word_terminal text.now }
+{
+    listed_terminal(MATCH_WORDS, word_terminal(text), text)
+}
+
 fn symbol_terminal(text: &str) -> usize
     ensures { result ≡ symbol_terminal text.now }
 {
@@ -196,7 +222,7 @@ fn number_terminal(terminal: Terminal) -> usize
     }
 }
 
-/// Returns the terminal of a token.
+/// Returns the terminal of a token that is not in a `match`.
 pub(crate) fn terminal_of(token: &Token) -> usize
     ensures { result ≡ terminal_of token.now.kind token.now.text.now }
 {
@@ -204,6 +230,24 @@ pub(crate) fn terminal_of(token: &Token) -> usize
         Kind::Name => word_terminal(token.text),
         Kind::Number => number_terminal(text_parser::terminal_of(token)),
         Kind::Symbol => symbol_terminal(token.text),
+    }
+}
+
+/// Whether the token is the word `match`.
+pub(crate) fn is_match(token: &Token) -> bool
+    ensures { result ≡ bytes_eq token.now.text.now (codes "match") }
+{
+    token.text == "match"
+}
+
+/// Returns the terminal of a token in a `match`.
+pub(crate) fn terminal_in_match(token: &Token) -> usize
+    ensures { result ≡ terminal_in_match token.now.kind token.now.text.now }
+{
+    match token.kind {
+        Kind::Name => match_word_terminal(token.text),
+        Kind::Number => terminal_of(token),
+        Kind::Symbol => terminal_of(token),
     }
 }
 

@@ -1,10 +1,10 @@
 //! Values of the parts of productions.
 ghost use Rattle.std.specs.Prelude.{◌≡◌};
 ghost use Rattle.text_parser.specs.TokenParts.{parts_of_token};
-ghost use Rattle.flow_syntax.specs.Actions.{token_in, tokens_in, expr_in, exprs_in, operators_in, operands_in, cond_in, statements_in, jump_in, blocks_in, items_in};
-ghost use Rattle.flow_syntax.specs.SyntaxViews.{tokens_syntax, expr_syntax, exprs_syntax, cond_syntax, statements_syntax, jump_syntax, blocks_syntax, items_syntax, value_syntax};
+ghost use Rattle.flow_syntax.specs.Actions.{token_in, tokens_in, expr_in, exprs_in, operators_in, operands_in, cond_in, statements_in, jump_in, blocks_in, equations_in, match_in, items_in};
+ghost use Rattle.flow_syntax.specs.SyntaxViews.{tokens_syntax, expr_syntax, exprs_syntax, cond_syntax, statements_syntax, jump_syntax, blocks_syntax, equations_syntax, match_syntax, items_syntax, value_syntax};
 
-use crate::written::{Block, CondNode, Item, Jump, Node, Statement};
+use crate::written::{Block, CondNode, Equation, Item, Jump, Match, Node, Statement};
 use std::alloc::Global;
 use text_parser::{Kind, Token};
 
@@ -21,6 +21,8 @@ pub(crate) enum Value<'a> {
     Cond(Vec<CondNode<'a>>),
     Body(Vec<Statement<'a>>, Jump<'a>),
     Blocks(Vec<Block<'a>>),
+    Equations(Vec<Equation<'a>>),
+    Match(Match<'a>),
     Items(Vec<Item<'a>>),
 }
 
@@ -37,6 +39,8 @@ impl Drop for Value<'_> {
             Value::Cond(_cond) => {}
             Value::Body(_statements, _jump) => {}
             Value::Blocks(_blocks) => {}
+            Value::Equations(_equations) => {}
+            Value::Match(_matched) => {}
             Value::Items(_items) => {}
         }
     }
@@ -100,6 +104,24 @@ impl<'a> Value<'a> {
             return blocks;
         }
         Vec::new(alloc)
+    }
+
+    pub(crate) fn into_equations(self, alloc: Global) -> Vec<Equation<'a>>
+        ensures { equations_syntax result.items ≡ equations_in (value_syntax self.entry) }
+    {
+        if let Value::Equations(equations) = self {
+            return equations;
+        }
+        Vec::new(alloc)
+    }
+
+    pub(crate) fn into_match(self) -> Match<'a>
+        ensures { match_syntax result ≡ match_in (value_syntax self.entry) }
+    {
+        if let Value::Match(matched) = self {
+            return matched;
+        }
+        Match::SameNames
     }
 
     pub(crate) fn into_items(self, alloc: Global) -> Vec<Item<'a>>

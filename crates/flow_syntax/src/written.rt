@@ -92,6 +92,65 @@ pub struct Block<'a> {
     pub jump: Jump<'a>,
 }
 
+/// A variable and an expression for its value.
+pub struct Equation<'a> {
+    pub variable: Token<'a>,
+    pub value: Vec<Node<'a>>,
+}
+
+impl Drop for Equation<'_> {
+    fn drop(self) {
+        let Equation {
+            variable: _,
+            value: _value,
+        } = self;
+    }
+}
+
+/// A match of two blocks: the equations of `where`, of `back` and of `keeping`, and a condition, which is empty if it is
+/// not given.
+pub struct BlockMatch<'a> {
+    pub before: Token<'a>,
+    pub after: Token<'a>,
+    pub forth: Vec<Equation<'a>>,
+    pub back: Vec<Equation<'a>>,
+    pub keeping: Vec<Equation<'a>>,
+    pub condition: Vec<CondNode<'a>>,
+    pub rounds: Option<Token<'a>>,
+    pub splits: bool,
+}
+
+impl Drop for BlockMatch<'_> {
+    fn drop(self) {
+        let BlockMatch {
+            before: _,
+            after: _,
+            forth: _forth,
+            back: _back,
+            keeping: _keeping,
+            condition: _condition,
+            rounds: _,
+            splits: _,
+        } = self;
+    }
+}
+
+/// What a `match` matches.
+pub enum Match<'a> {
+    /// Each block with the block of the same name.
+    SameNames,
+    TwoBlocks(BlockMatch<'a>),
+}
+
+impl Drop for Match<'_> {
+    fn drop(self) {
+        match self {
+            Match::SameNames => {}
+            Match::TwoBlocks(_blocks) => {}
+        }
+    }
+}
+
 /// An item, with its keyword.
 #[derive(Drop)]
 pub enum Item<'a> {
@@ -103,4 +162,5 @@ pub enum Item<'a> {
     Rounds(Token<'a>, Token<'a>),
     Split(Token<'a>),
     Equal(Token<'a>, Token<'a>, Token<'a>),
+    Match(Token<'a>, Match<'a>),
 }

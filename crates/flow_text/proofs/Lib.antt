@@ -14,5 +14,6 @@ pub mod KnownSteps
 pub mod ResultSteps
 pub mod NameSteps
 pub mod FileSteps
+pub mod MatchSteps
 pub mod NamedItems
 pub mod OneAnswer

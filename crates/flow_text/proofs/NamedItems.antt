@@ -1,13 +1,12 @@
 -- No item has the fault `NoMemory`.
-use Rattle.std.proofs.Common.{ℕ, ◌+◌, List, [], ◌∷◌, ◌++◌, length, Bool, Option, Some, None, not, nat_eq, nat_lt}
-use Rattle.std.specs.Prelude.{◌&&◌}
+use Rattle.std.proofs.Common.{ℕ, ◌+◌, List, [], ◌∷◌, ◌++◌, length, Bool, Option, Some, None, not, ◌&&◌, nat_eq, nat_lt, slice_get}
 use Rattle.kat_model.specs.Stores.{modulus}
 use Rattle.kat_model.specs.declared.expression.Rel.{Rel}
 use Rattle.kat_model.specs.declared.expression.Rel.TheVariants.{Eq, Ne}
 use Rattle.kat_model.specs.declared.expression.Width.{Width}
 use Rattle.kat_model.specs.declared.limits.TheConstants.{MAX_ROUNDS}
 use Rattle.text_parser.specs.declared.fault.TextFault.{TextFault}
-use Rattle.text_parser.specs.TokenParts.{TokenParts, bytes_of}
+use Rattle.text_parser.specs.TokenParts.{TokenParts, place_of, bytes_of}
 use Rattle.text_parser.proofs.NamedFaults.{IsNamedFault, IsNamed, then_named}
 use Rattle.flow_model.specs.declared.sort.Sort.{Sort}
 use Rattle.flow_model.specs.declared.sort.Sort.TheVariants.{Number, Opaque}
@@ -16,16 +15,17 @@ use Rattle.flow_model.specs.declared.graph.ExprNode.TheVariants as node
 use Rattle.flow_model.specs.Expressions.{ExprTree}
 use Rattle.flow_model.specs.Polish.{CondPart}
 use Rattle.flow_model.specs.Graphs.{StatementTree, Graph}
-use Rattle.flow_text.specs.declared.limits.TheConstants.{MAX_BLOCKS, MAX_PARAMETERS}
+use Rattle.flow_text.specs.declared.limits.TheConstants.{MAX_BLOCKS, MAX_MATCHES, MAX_PARAMETERS}
 use Rattle.flow_text.specs.declared.meaning.Meaning.{Meaning}
 use Rattle.flow_text.specs.declared.meaning.Meaning.TheVariants.{SortName, Function, Variable, GraphName}
 use Rattle.flow_syntax.specs.Terminals.{spelled_number}
 use Rattle.flow_syntax.proofs.NamedSyntax.{if_named}
-use Rattle.flow_syntax.specs.Syntax.{NodeSyntax, numeral, named, called, converted, operation, ExprSyntax, CondNodeSyntax, always, never, compared, compared_signed, negation, both, either, CondSyntax, StatementSyntax, assign, claim, JumpSyntax, goto, branch, return, abort, BlockSyntax, a_block, ItemSyntax, sorts, function, variables, graph, rounds, split, equal}
+use Rattle.flow_syntax.specs.Syntax.{NodeSyntax, numeral, named, called, converted, operation, ExprSyntax, CondNodeSyntax, always, never, compared, compared_signed, negation, both, either, CondSyntax, StatementSyntax, assign, claim, JumpSyntax, goto, branch, return, abort, BlockSyntax, a_block, EquationSyntax, equation, BlockMatchSyntax, MatchSyntax, same_names, two_blocks, ItemSyntax, sorts, function, variables, graph, rounds, split, equal, matching}
 use Rattle.flow_text.specs.Scopes.{FunctionParts, function_parts, ScopeParts, meaning, meaning_in, may_declare, with_sort, with_variable, sorts_declared, variables_declared, sort_meant, sort_or_width, sort_named, width_named, few_parameters, next_parameter, parameters_after, same_sort, may_have_function, may_have_graph, scope_before}
 use Rattle.flow_text.specs.Resolving.{Expected, operand, second_operand, number_of_width, number_in, with_expected_sort, variable_in, application_of, function_in, conversion_in, sort_or_u64, sort_of_first, sort_of_sides, node_in, sort_expected, next_node, nodes_after, expression_of, relation_on, rel_named, width_of_sort, comparison_of, signed_comparison_of, part_of, parts_after, condition_of}
-use Rattle.flow_syntax.specs.Sizes.{nodes_with}
-use Rattle.flow_text.specs.Checking.{is_set, target_of, target_meant, next_target, targets_after, expressions_after, expressions_of, seconds, assigned, statement_of, statements_after, block_or_fault, found, block_names, block_name, returned, jump_of, may_have_block, block_of, next_block, blocks_after, graph_of, GraphSyntax, a_graph, Known, nothing_known, graph_meant, at_most_once, with_nodes, few_rounds, item_known, items_known, sorts_returned, shared_sorts, whole_graph, next_graph, graphs_after, with_goal, file_of}
+use Rattle.flow_syntax.specs.Sizes.{nodes_with, nodes_with_match}
+use Rattle.flow_text.specs.Matches.{Equation, FileMatch}
+use Rattle.flow_text.specs.Checking.{is_set, target_of, target_meant, next_target, targets_after, expressions_after, expressions_of, seconds, assigned, statement_of, statements_after, block_or_fault, found, block_names, block_name, returned, jump_of, may_have_block, block_of, next_block, blocks_after, graph_of, GraphSyntax, a_graph, GivenMatch, given_match, Known, nothing_known, graph_meant, at_most_once, with_nodes, with_match, few_rounds, is_given_by, equation_for, next_equation, equations_after, condition_or_always, rounds_given, is_matched, may_match, blocks_matched, resolved_match, with_name, with_names, with_blocks, next_matches, matches_after, blocks_or_none, matches_of, item_known, items_known, sorts_returned, shared_sorts, whole_graph, next_graph, graphs_after, with_goal, file_of}
 
 -- ---- names
 
@@ -193,11 +193,11 @@ statements_named s made (x ∷ xs) = then_named (statement_of s x) _ (statement_
 
 -- ---- blocks
 
-module _ (s : ScopeParts) (results : Option (List Sort)) (find : List ℕ → Option ℕ) where
-  block_or_fault_named : (t : TokenParts) (k : Option ℕ) → IsNamed (block_or_fault t k)
-  block_or_fault_named t None = tt
-  block_or_fault_named t (Some k) = tt
+block_or_fault_named : (t : TokenParts) (k : Option ℕ) → IsNamed (block_or_fault t k)
+block_or_fault_named t None = tt
+block_or_fault_named t (Some k) = tt
 
+module _ (s : ScopeParts) (results : Option (List Sort)) (find : List ℕ → Option ℕ) where
   returned_named : (expected : Option (List Sort)) (word : TokenParts) (es : List ExprSyntax) → IsNamed (returned s expected word es)
   returned_named None word es = tt
   returned_named (Some expected) word es = if_named (nat_eq (length expected) (length es)) _ _ (then_named (expressions_of s expected es) _ (expressions_named s [] expected es) (λ vs. tt)) tt
@@ -248,6 +248,10 @@ few_rounds_named : (t : TokenParts) (n : Option ℕ) → IsNamed (few_rounds t n
 few_rounds_named t None = tt
 few_rounds_named t (Some n) = if_named (nat_lt n (MAX_ROUNDS + 1)) _ _ tt tt
 
+match_nodes_named : (k : Known) (word : TokenParts) (m : MatchSyntax) (n : Option ℕ) → IsNamed (with_match k word m n)
+match_nodes_named k word m None = tt
+match_nodes_named k word m (Some n) = tt
+
 item_named : (k : Known) (x : ItemSyntax) → IsNamed (item_known k x)
 item_named k (sorts word names) = then_named (sorts_declared k.scope names) _ (sorts_declared_named k.scope names) (λ s. tt)
 item_named k (function word result name parameters) =
@@ -266,10 +270,76 @@ item_named k (equal word before after) =
     then_named (at_most_once k.goal _) _ (once_named k.goal _ tt) (λ u.
     then_named (graph_meant before (meaning k.scope before)) _ (graph_meant_named before (meaning k.scope before)) (λ i.
     then_named (graph_meant after (meaning k.scope after)) _ (graph_meant_named after (meaning k.scope after)) (λ j. tt)))
+item_named k (matching word m) = match_nodes_named k word m (nodes_with_match k.nodes m)
 
 items_named : (k : Known) (xs : List ItemSyntax) → IsNamed (items_known k xs)
 items_named k [] = tt
 items_named k (x ∷ xs) = then_named (item_known k x) _ (item_named k x) (λ l. items_named l xs)
+
+-- ---- matches
+
+equation_for_named : (s : ScopeParts) (made : List Equation) (y : TokenParts) (e : ExprSyntax) (x : ℕ × Sort) → IsNamed (equation_for s made y e x)
+equation_for_named s made y e x = if_named (is_given_by made x.0) _ _ tt (then_named (expression_of s x.1 e) _ (expression_named s x.1 e) (λ v. tt))
+
+equations_named : (s : ScopeParts) (made : List Equation) (qs : List EquationSyntax) → IsNamed (equations_after s made qs)
+equations_named s made [] = tt
+equations_named s made (equation y e ∷ qs) =
+    then_named (next_equation s made (equation y e)) _ (then_named (next_target s [] y) _ (target_meant_named s [] y (meaning_in s y)) (λ x. equation_for_named s made y e x)) (λ q. equations_named s (made ++ q ∷ []) qs)
+
+condition_or_always_named : (s : ScopeParts) (b : CondSyntax) → IsNamed (condition_or_always s b)
+condition_or_always_named s [] = tt
+condition_or_always_named s (n ∷ ns) = condition_named s (n ∷ ns)
+
+rounds_given_named : (t : Option TokenParts) → IsNamed (rounds_given t)
+rounds_given_named None = tt
+rounds_given_named (Some t) = then_named (few_rounds t (spelled_number t)) _ (few_rounds_named t (spelled_number t)) (λ n. tt)
+
+may_match_named : (ms : List FileMatch) (k l : ℕ) (t : TokenParts) → IsNamed (may_match ms k l t)
+may_match_named ms k l t = if_named (is_matched ms k l) _ _ tt (if_named (nat_lt (length ms + 1) MAX_MATCHES) _ _ tt tt)
+
+blocks_matched_named : (ms : List FileMatch) (t u : TokenParts) (i j : Option ℕ) → IsNamed (blocks_matched ms t u i j)
+blocks_matched_named ms t u i j =
+    then_named (block_or_fault t i) _ (block_or_fault_named t i) (λ k.
+    then_named (block_or_fault u j) _ (block_or_fault_named u j) (λ l.
+    then_named (may_match ms k l t) _ (may_match_named ms k l t) (λ v. tt)))
+
+resolved_match_named : (s : ScopeParts) (blocks : ℕ × ℕ) (at : ℕ) (m : BlockMatchSyntax) → IsNamed (resolved_match s blocks at m)
+resolved_match_named s blocks at m =
+    then_named (equations_after s [] m.forth) _ (equations_named s [] m.forth) (λ f.
+    then_named (equations_after s [] m.back) _ (equations_named s [] m.back) (λ g.
+    then_named (equations_after s [] m.keeping) _ (equations_named s [] m.keeping) (λ q.
+    then_named (condition_or_always s m.condition) _ (condition_or_always_named s m.condition) (λ c.
+    then_named (rounds_given m.rounds) _ (rounds_given_named m.rounds) (λ n. tt)))))
+
+with_name_named : (made : List FileMatch) (word : TokenParts) (k : ℕ) (l : Option ℕ) → IsNamed (with_name made word k l)
+with_name_named made word k None = tt
+with_name_named made word k (Some l) = if_named (nat_eq k 0 && nat_eq l 0) _ _ tt (then_named (may_match made k l word) _ (may_match_named made k l word) (λ u. tt))
+
+with_names_named : (find : List ℕ → Option ℕ) (word : TokenParts) (made : List FileMatch) (names : List (List ℕ × ℕ)) → IsNamed (with_names find word made names)
+with_names_named find word made [] = tt
+with_names_named find word made (x ∷ xs) = then_named (with_name made word x.1 (find x.0)) _ (with_name_named made word x.1 (find x.0)) (λ ms. with_names_named find word ms xs)
+
+module _ (s : ScopeParts) (names : List (List ℕ × ℕ)) (first second : List ℕ → Option ℕ) where
+  with_blocks_named : (t : ScopeParts) (made : List FileMatch) (word : TokenParts) (m : BlockMatchSyntax) → IsNamed (with_blocks t first second made word m)
+  with_blocks_named t made word m =
+      then_named (blocks_matched made m.before m.after (first (bytes_of m.before)) (second (bytes_of m.after))) _ (blocks_matched_named made m.before m.after (first (bytes_of m.before)) (second (bytes_of m.after))) (λ blocks.
+      then_named (resolved_match t blocks (place_of word) m) _ (resolved_match_named t blocks (place_of word) m) (λ x. tt))
+
+  next_matches_named : (made : List FileMatch) (x : GivenMatch) → IsNamed (next_matches s names first second made x)
+  next_matches_named made (given_match n word same_names) = with_names_named second word made names
+  next_matches_named made (given_match n word (two_blocks m)) = with_blocks_named (scope_before s n) made word m
+
+  matches_after_named : (made : List FileMatch) (xs : List GivenMatch) → IsNamed (matches_after s names first second made xs)
+  matches_after_named made [] = tt
+  matches_after_named made (x ∷ xs) = then_named (next_matches s names first second made x) _ (next_matches_named made x) (λ ms. matches_after_named ms xs)
+
+matches_named : (k : Known) (goal : ℕ × ℕ) → IsNamed (matches_of k goal)
+matches_named k goal =
+    let bs = blocks_or_none (slice_get k.graphs goal.0) in
+    let cs = blocks_or_none (slice_get k.graphs goal.1) in
+    matches_after_named k.scope (block_names 0 bs) (found (block_names 0 bs)) (found (block_names 0 cs)) [] k.matches
+
+-- ---- files
 
 whole_named : (s : ScopeParts) (results : List Sort) (g : GraphSyntax) → IsNamed (whole_graph s results g)
 whole_named s results (a_graph before bs) = graph_named (scope_before s before) (Some results) bs
@@ -281,7 +351,9 @@ graphs_named s goal shared made (g ∷ gs) =
 
 goal_named : (vs fs : List (List ℕ)) (k : Known) (goal : Option (ℕ × ℕ)) → IsNamed (with_goal vs fs k goal)
 goal_named vs fs k None = tt
-goal_named vs fs k (Some goal) = then_named (graphs_after k.scope goal (shared_sorts k.scope goal k.graphs) [] k.graphs) _ (graphs_named k.scope goal (shared_sorts k.scope goal k.graphs) [] k.graphs) (λ gs. tt)
+goal_named vs fs k (Some goal) =
+    then_named (matches_of k goal) _ (matches_named k goal) (λ ms.
+    then_named (graphs_after k.scope goal (shared_sorts k.scope goal k.graphs) [] k.graphs) _ (graphs_named k.scope goal (shared_sorts k.scope goal k.graphs) [] k.graphs) (λ gs. tt))
 
 pub file_named : (is : List ItemSyntax) → IsNamed (file_of is)
 file_named is = then_named (items_known nothing_known is) _ (items_named nothing_known is) (λ k. goal_named _ _ k k.goal)

@@ -1,5 +1,5 @@
 -- Bytes are the text of exactly one flow file or have exactly one first fault.
-use Rattle.std.proofs.Common.{◌≡◌, ◌⊎◌, inl, inr, ⊎_elim, ℕ, List, length, map, Result, Ok, Err, IfErr, refl, sym, ap, subst, ◌∙◌}
+use Rattle.std.proofs.Common.{◌≡◌, ◌⊎◌, inl, inr, ⊎_elim, ℕ, List, length, Result, Ok, Err, IfErr, refl, sym, ap, subst, ◌∙◌}
 use Rattle.text_parser.specs.declared.fault.TextFault.{TextFault}
 use Rattle.text_parser.specs.declared.fault.TextFault.TheVariants.{NoMemory, BadToken}
 use Rattle.text_parser.specs.TokenParts.{TokenParts}
@@ -17,7 +17,7 @@ use Rattle.problem_file.specs.Laws.{HaveOneAnswer}
 use Rattle.problem_file.proofs.TextAnswers.{Represents, one_answer}
 use Rattle.flow_syntax.specs.declared.phrase.TheConstants.{FILE}
 use Rattle.flow_text.specs.declared.reading.FlowFile.{FlowFile}
-use Rattle.flow_syntax.specs.Terminals.{mark_of}
+use Rattle.flow_syntax.specs.Marks.{marks_of}
 use Rattle.flow_syntax.specs.Syntax.{ItemSyntax}
 use Rattle.flow_syntax.specs.Actions.{first, items_in}
 use Rattle.flow_syntax.specs.Productions.{rules, weights, actions}
@@ -50,7 +50,7 @@ tokens_or_fault = one_answer passing HaveTokens (λ u. u) (record { given = λ b
 
 spelled_once : (ms : List TokenParts) (end : ℕ) (is js : List ItemSyntax) → AreSpelled ms end is → AreSpelled ms end js → is ≡ js
 spelled_once ms end is js a b =
-    let same : a.steps ≡ b.steps = leading.one_derivation rules FILE (map mark_of ms) end a.steps b.steps a.derived b.derived in
+    let same : a.steps ≡ b.steps = leading.one_derivation rules FILE (marks_of ms) end a.steps b.steps a.derived b.derived in
     sym a.value ∙ ap (λ steps. items_in (first (values actions steps ms))) same ∙ b.value
 
 pub spells_once : (text : List ℕ) (is js : List ItemSyntax) → Spells text is → Spells text js → is ≡ js
@@ -61,12 +61,12 @@ spells_once text is js a b =
 spells_or_fails : (text : List ℕ) (is : List ItemSyntax) (e : TextFault) → Spells text is → HasSyntaxFault text e → ⊥
 spells_or_fails text is e a b =
     let same : b.tokens ≡ a.tokens = one_lexing text b.tokens a.tokens b.lexed a.lexed in
-    leading.not_both rules FILE (map mark_of a.tokens) (length text) (a.spelled).steps e (a.spelled).derived (subst (λ ms. IsFirstFault rules FILE (map mark_of ms) (length text) e) same b.refused)
+    leading.not_both rules FILE (marks_of a.tokens) (length text) (a.spelled).steps e (a.spelled).derived (subst (λ ms. IsFirstFault rules FILE (marks_of ms) (length text) e) same b.refused)
 
 fails_once : (text : List ℕ) (d e : TextFault) → HasSyntaxFault text d → HasSyntaxFault text e → d ≡ e
 fails_once text d e a b =
     let same : a.tokens ≡ b.tokens = one_lexing text a.tokens b.tokens a.lexed b.lexed in
-    leading.one_fault rules FILE (map mark_of b.tokens) (length text) d e (subst (λ ms. IsFirstFault rules FILE (map mark_of ms) (length text) d) same a.refused) b.refused
+    leading.one_fault rules FILE (marks_of b.tokens) (length text) d e (subst (λ ms. IsFirstFault rules FILE (marks_of ms) (length text) d) same a.refused) b.refused
 
 -- ---- values and faults of items
 
@@ -145,15 +145,15 @@ items_end : (bytes : List ℕ) (is : List ItemSyntax) → Spells bytes is → (m
 items_end bytes is s (Ok f) e = inl (f, record { spelled = is; spells = s; file = e })
 items_end bytes is s (Err fault) e = inr (fault, wrong_item (record { spelled = is; spells = s; refused = e }))
 
-spelled_by : (bytes : List ℕ) (ms : List TokenParts) (steps : List Step) → Lexes bytes ms → Derives rules FILE (map mark_of ms) (length bytes) steps → Spells bytes (items_in (first (values actions steps ms)))
+spelled_by : (bytes : List ℕ) (ms : List TokenParts) (steps : List Step) → Lexes bytes ms → Derives rules FILE (marks_of ms) (length bytes) steps → Spells bytes (items_in (first (values actions steps ms)))
 spelled_by bytes ms steps lexes d = record { tokens = ms; lexed = lexes; spelled = record { steps = steps; derived = d; value = refl } }
 
 tokens_end : (bytes : List ℕ) (ms : List TokenParts) → Lexes bytes ms → FileOrFault bytes
 tokens_end bytes ms lexes =
     ⊎_elim
-    (λ (x : (steps : List Step) × Derives rules FILE (map mark_of ms) (length bytes) steps). items_end bytes (items_in (first (values actions x.0 ms))) (spelled_by bytes ms x.0 lexes x.1) (file_of (items_in (first (values actions x.0 ms)))) refl)
-    (λ (x : (e : TextFault) × IsFirstFault rules FILE (map mark_of ms) (length bytes) e). inr (x.0, wrong_syntax (record { tokens = ms; lexed = lexes; refused = x.1 })))
-    (some_end weights rules FILE (map mark_of ms) (length bytes) rules_light)
+    (λ (x : (steps : List Step) × Derives rules FILE (marks_of ms) (length bytes) steps). items_end bytes (items_in (first (values actions x.0 ms))) (spelled_by bytes ms x.0 lexes x.1) (file_of (items_in (first (values actions x.0 ms)))) refl)
+    (λ (x : (e : TextFault) × IsFirstFault rules FILE (marks_of ms) (length bytes) e). inr (x.0, wrong_syntax (record { tokens = ms; lexed = lexes; refused = x.1 })))
+    (some_end weights rules FILE (marks_of ms) (length bytes) rules_light)
 
 early_end : (bytes : List ℕ) (e : TextFault) → base.IsFirstFault passing bytes e → FileOrFault bytes
 unfolding passing
@@ -176,7 +176,7 @@ file_or_fault bytes =
 pub fault_named : (bytes : List ℕ) → FirstFault bytes NoMemory → ⊥
 fault_named bytes (no_text early) = tokens_or_fault.named bytes (base.no_text early)
 fault_named bytes (bad_token at given bad) = tokens_or_fault.named bytes (base.bad_token at given bad)
-fault_named bytes (wrong_syntax refused) = syntax_named rules FILE (map mark_of refused.tokens) (length bytes) refused.refused
+fault_named bytes (wrong_syntax refused) = syntax_named rules FILE (marks_of refused.tokens) (length bytes) refused.refused
 fault_named bytes (wrong_item item) = subst IsNamed item.refused (file_named item.spelled)
 
 pub have_one_answer : HaveOneAnswer IsFlowText FirstFault
@@ -189,7 +189,7 @@ bad_given bytes NoMemory h = inl refl
 bad_given bytes (BadToken at) h = inr (bad_token at refl h)
 bad_given bytes e h = absurd h
 
-pub syntax_given : (bytes : List ℕ) (ms : List TokenParts) (e : TextFault) → Lexes bytes ms → IsReaderFault rules FILE (map mark_of ms) (length bytes) e → (e ≡ NoMemory) ⊎ FirstFault bytes e
+pub syntax_given : (bytes : List ℕ) (ms : List TokenParts) (e : TextFault) → Lexes bytes ms → IsReaderFault rules FILE (marks_of ms) (length bytes) e → (e ≡ NoMemory) ⊎ FirstFault bytes e
 syntax_given bytes ms NoMemory lexes h = inl refl
 syntax_given bytes ms e lexes h = inr (wrong_syntax (record { tokens = ms; lexed = lexes; refused = h }))
 

@@ -1,5 +1,5 @@
 -- A flow file checked item by item: its graphs, or its first fault.
-use Rattle.std.specs.Prelude.{ℕ, ◌+◌, List, [], ◌∷◌, ◌++◌, length, map, Bool, true, false, not, ◌||◌, nat_eq, nat_lt, if◌then◌else◌, Option, Some, None, Result, Ok, Err, slice_get}
+use Rattle.std.specs.Prelude.{ℕ, ◌+◌, List, [], ◌∷◌, ◌++◌, length, map, Bool, true, false, not, ◌&&◌, ◌||◌, nat_eq, nat_lt, if◌then◌else◌, Option, Some, None, Result, Ok, Err, slice_get}
 use Rattle.std.specs.Str.{bytes_eq}
 use Rattle.std.specs.List.{list_any}
 use Rattle.kat_model.specs.declared.limits.TheConstants.{MAX_ROUNDS}
@@ -9,18 +9,20 @@ use Rattle.text_parser.specs.TokenParts.{TokenParts, place_of, bytes_of}
 use Rattle.text_parser.specs.Parsed.{◌>>=◌}
 use Rattle.flow_model.specs.declared.sort.Sort.{Sort}
 use Rattle.flow_model.specs.Expressions.{ExprTree}
+use Rattle.flow_model.specs.Conditions.{CondTree, always}
 use Rattle.flow_model.specs.Graphs as model
 use Rattle.flow_model.specs.Graphs.{StatementTree, JumpTree, Block, Graph}
 use Rattle.flow_syntax.specs.Terminals.{spelled_number}
-use Rattle.flow_syntax.specs.Syntax.{FirstSyntax, no_name, ExprSyntax, CondSyntax, StatementSyntax, assign, claim, JumpSyntax, goto, branch, return, abort, BlockSyntax, a_block, ItemSyntax, sorts, function, variables, graph, rounds, split, equal}
-use Rattle.flow_text.specs.declared.limits.TheConstants.{MAX_BLOCKS}
+use Rattle.flow_syntax.specs.Syntax.{FirstSyntax, no_name, ExprSyntax, CondSyntax, StatementSyntax, assign, claim, JumpSyntax, goto, branch, return, abort, BlockSyntax, a_block, EquationSyntax, equation, BlockMatchSyntax, MatchSyntax, same_names, two_blocks, ItemSyntax, sorts, function, variables, graph, rounds, split, equal, matching}
+use Rattle.flow_text.specs.declared.limits.TheConstants.{MAX_BLOCKS, MAX_MATCHES}
 use Rattle.flow_text.specs.declared.meaning.Meaning.{Meaning}
 use Rattle.flow_text.specs.declared.meaning.Meaning.TheVariants.{Variable, GraphName}
 use Rattle.flow_syntax.specs.Actions.{first_name}
 use Rattle.flow_text.specs.Scopes.{ScopeParts, Counts, no_names, meaning, meaning_in, sorts_declared, may_have_function, with_function, variables_declared, may_have_graph, with_graph, counts_of, scope_before, sort_named, parameters_after, sort_fault, unknown}
 use Rattle.flow_text.specs.DeclaredNames.{variable_names, function_names}
 use Rattle.flow_text.specs.Resolving.{sort_of_first, sort_or_u64, expression_of, condition_of}
-use Rattle.flow_syntax.specs.Sizes.{nodes_with}
+use Rattle.flow_syntax.specs.Sizes.{nodes_with, nodes_with_match}
+use Rattle.flow_text.specs.Matches.{Equation, FileMatch}
 
 -- the number of the first of some names that is the text
 abbrev pub found : List (List ℕ × ℕ) → List ℕ → Option ℕ
@@ -145,20 +147,25 @@ graph_of s results bs = blocks_after s results (found (block_names 0 bs)) [] bs
 pub data GraphSyntax : Type 0 where
   a_graph : (before : Counts) → (blocks : List BlockSyntax) → GraphSyntax
 
+-- what a `match` says, with its keyword and the numbers of declarations before it
+pub data GivenMatch : Type 0 where
+  given_match : (before : Counts) → (word : TokenParts) → (m : MatchSyntax) → GivenMatch
+
 -- what is known of the items so far
 pub record Known : Type 0 where
   pub scope : ScopeParts
   pub graphs : List GraphSyntax
+  pub matches : List GivenMatch
   pub rounds : Option ℕ
   pub splits : Bool
   pub goal : Option (ℕ × ℕ)
   pub nodes : ℕ
 
 abbrev pub nothing_known : Known
-nothing_known = record { scope = no_names; graphs = []; rounds = None; splits = false; goal = None; nodes = 0 }
+nothing_known = record { scope = no_names; graphs = []; matches = []; rounds = None; splits = false; goal = None; nodes = 0 }
 
 abbrev pub in_scope : Known → ScopeParts → Known
-in_scope k s = record { scope = s; graphs = k.graphs; rounds = k.rounds; splits = k.splits; goal = k.goal; nodes = k.nodes }
+in_scope k s = record { scope = s; graphs = k.graphs; matches = k.matches; rounds = k.rounds; splits = k.splits; goal = k.goal; nodes = k.nodes }
 
 abbrev pub graph_meant : TokenParts → Option Meaning → Result ℕ TextFault
 graph_meant t None = unknown t
@@ -173,7 +180,7 @@ at_most_once (Some x) other = Err other
 abbrev pub with_nodes : Known → TokenParts → TokenParts → List BlockSyntax → Option ℕ → Result Known TextFault
 with_nodes k word t bs None = Err (fault.TooLarge (place_of word))
 with_nodes k word t bs (Some nodes) =
-    Ok (record { scope = with_graph k.scope t (length k.graphs); graphs = k.graphs ++ a_graph (counts_of k.scope) bs ∷ []; rounds = k.rounds; splits = k.splits; goal = k.goal; nodes = nodes })
+    Ok (record { scope = with_graph k.scope t (length k.graphs); graphs = k.graphs ++ a_graph (counts_of k.scope) bs ∷ []; matches = k.matches; rounds = k.rounds; splits = k.splits; goal = k.goal; nodes = nodes })
 
 -- a number of rounds, which must be within the limit of problem files
 abbrev pub few_rounds : TokenParts → Option ℕ → Result ℕ TextFault
@@ -201,18 +208,27 @@ graph_known k word name blocks =
 abbrev pub rounds_known : Known → TokenParts → TokenParts → Result Known TextFault
 rounds_known k word number =
     at_most_once k.rounds (fault.DoubleName (place_of word)) >>= λ u. few_rounds number (spelled_number number)
-    >>= λ n. Ok (record { scope = k.scope; graphs = k.graphs; rounds = Some n; splits = k.splits; goal = k.goal; nodes = k.nodes })
+    >>= λ n. Ok (record { scope = k.scope; graphs = k.graphs; matches = k.matches; rounds = Some n; splits = k.splits; goal = k.goal; nodes = k.nodes })
 
 abbrev pub split_known : Known → TokenParts → Result Known TextFault
 split_known k word =
     if k.splits then Err (fault.DoubleName (place_of word))
-    else Ok (record { scope = k.scope; graphs = k.graphs; rounds = k.rounds; splits = true; goal = k.goal; nodes = k.nodes })
+    else Ok (record { scope = k.scope; graphs = k.graphs; matches = k.matches; rounds = k.rounds; splits = true; goal = k.goal; nodes = k.nodes })
 
 abbrev pub goal_known : Known → TokenParts → TokenParts → TokenParts → Result Known TextFault
 goal_known k word before after =
     at_most_once k.goal (fault.TwoGoals (place_of word)) >>= λ u. graph_meant before (meaning k.scope before)
     >>= λ i. graph_meant after (meaning k.scope after)
-    >>= λ j. Ok (record { scope = k.scope; graphs = k.graphs; rounds = k.rounds; splits = k.splits; goal = Some (i, j); nodes = k.nodes })
+    >>= λ j. Ok (record { scope = k.scope; graphs = k.graphs; matches = k.matches; rounds = k.rounds; splits = k.splits; goal = Some (i, j); nodes = k.nodes })
+
+abbrev pub with_match : Known → TokenParts → MatchSyntax → Option ℕ → Result Known TextFault
+with_match k word m None = Err (fault.TooLarge (place_of word))
+with_match k word m (Some nodes) =
+    Ok (record { scope = k.scope; graphs = k.graphs; matches = k.matches ++ given_match (counts_of k.scope) word m ∷ []; rounds = k.rounds; splits = k.splits; goal = k.goal; nodes = nodes })
+
+-- the names of a match are resolved after all items, since it may precede the goal
+abbrev pub match_known : Known → TokenParts → MatchSyntax → Result Known TextFault
+match_known k word m = with_match k word m (nodes_with_match k.nodes m)
 
 abbrev pub item_known : Known → ItemSyntax → Result Known TextFault
 item_known k (sorts word names) = sorts_known k names
@@ -222,10 +238,106 @@ item_known k (graph word name blocks) = graph_known k word name blocks
 item_known k (rounds word number) = rounds_known k word number
 item_known k (split word) = split_known k word
 item_known k (equal word before after) = goal_known k word before after
+item_known k (matching word m) = match_known k word m
 
 abbrev pub items_known : Known → List ItemSyntax → Result Known TextFault
 items_known k [] = Ok k
 items_known k (x ∷ xs) = item_known k x >>= λ l. items_known l xs
+
+-- ---- matches
+
+-- whether some of the equations gives the variable
+abbrev pub is_given_by : List Equation → ℕ → Bool
+is_given_by qs k = list_any (λ q. nat_eq q.variable k) qs
+
+-- the equation of a variable, with its sort, after others
+abbrev pub equation_for : ScopeParts → List Equation → TokenParts → ExprSyntax → ℕ × Sort → Result Equation TextFault
+equation_for s before y e x =
+    if is_given_by before x.0 then Err (fault.DoubleName (place_of y))
+    else (expression_of s x.1 e >>= λ v. Ok (record { variable = x.0; expression = v }))
+
+abbrev pub next_equation : ScopeParts → List Equation → EquationSyntax → Result Equation TextFault
+next_equation s before (equation y e) = next_target s [] y >>= equation_for s before y e
+
+-- the equations before, and others
+abbrev pub equations_after : ScopeParts → List Equation → List EquationSyntax → Result (List Equation) TextFault
+equations_after s before [] = Ok before
+equations_after s before (q ∷ qs) = next_equation s before q >>= λ x. equations_after s (before ++ x ∷ []) qs
+
+abbrev pub condition_or_always : ScopeParts → CondSyntax → Result CondTree TextFault
+condition_or_always s [] = Ok always
+condition_or_always s (n ∷ ns) = condition_of s (n ∷ ns)
+
+abbrev pub rounds_given : Option TokenParts → Result (Option ℕ) TextFault
+rounds_given None = Ok None
+rounds_given (Some t) = few_rounds t (spelled_number t) >>= λ n. Ok (Some n)
+
+-- whether the blocks are matched: the entries always are
+abbrev pub is_matched : List FileMatch → ℕ → ℕ → Bool
+is_matched ms k l = (nat_eq k 0 && nat_eq l 0) || list_any (λ m. nat_eq m.before k && nat_eq m.after l) ms
+
+-- the blocks may be matched: they are not yet, and with them and the entries there are few matches
+abbrev pub may_match : List FileMatch → ℕ → ℕ → TokenParts → Result (Unit {0}) TextFault
+may_match before k l t =
+    if is_matched before k l then Err (fault.DoubleName (place_of t))
+    else if nat_lt (length before + 1) MAX_MATCHES then Ok tt
+    else Err (fault.TooMany (place_of t))
+
+-- the blocks that the names of a match denote
+abbrev pub blocks_matched : List FileMatch → TokenParts → TokenParts → Option ℕ → Option ℕ → Result (ℕ × ℕ) TextFault
+blocks_matched ms t u i j =
+    block_or_fault t i >>= λ k. block_or_fault u j >>= λ l. may_match ms k l t >>= λ v. Ok (k, l)
+
+abbrev pub file_match : ℕ × ℕ → List Equation → List Equation → List Equation → CondTree → Option ℕ → Bool → ℕ → FileMatch
+file_match blocks forth back keeping condition n splits at =
+    record { before = blocks.0; after = blocks.1; forth = forth; back = back; keeping = keeping; condition = condition; rounds = n; splits = splits; at = at }
+
+-- what relates the states at matched blocks, and what is said of their question
+abbrev pub resolved_match : ScopeParts → ℕ × ℕ → ℕ → BlockMatchSyntax → Result FileMatch TextFault
+resolved_match s blocks at m =
+    equations_after s [] m.forth >>= λ f. equations_after s [] m.back >>= λ g. equations_after s [] m.keeping
+    >>= λ q. condition_or_always s m.condition >>= λ c. rounds_given m.rounds >>= λ n. Ok (file_match blocks f g q c n m.splits at)
+
+-- the matches before, and one of blocks of the same name
+abbrev pub with_name : List FileMatch → TokenParts → ℕ → Option ℕ → Result (List FileMatch) TextFault
+with_name before word k None = Ok before
+with_name before word k (Some l) =
+    if nat_eq k 0 && nat_eq l 0 then Ok before
+    else (may_match before k l word >>= λ u. Ok (before ++ file_match (k, l) [] [] [] always None false (place_of word) ∷ []))
+
+-- likewise for each of some names of blocks of the first graph, where `find` gives the number of a block of the second
+abbrev pub with_names : (List ℕ → Option ℕ) → TokenParts → List FileMatch → List (List ℕ × ℕ) → Result (List FileMatch) TextFault
+with_names find word before [] = Ok before
+with_names find word before (x ∷ xs) = with_name before word x.1 (find x.0) >>= λ ms. with_names find word ms xs
+
+-- the matches before, and one of two blocks; `first` and `second` give the numbers of blocks of both graphs
+abbrev pub with_blocks : ScopeParts → (List ℕ → Option ℕ) → (List ℕ → Option ℕ) → List FileMatch → TokenParts → BlockMatchSyntax → Result (List FileMatch) TextFault
+with_blocks s first second before word m =
+    blocks_matched before m.before m.after (first (bytes_of m.before)) (second (bytes_of m.after))
+    >>= λ blocks. resolved_match s blocks (place_of word) m >>= λ x. Ok (before ++ x ∷ [])
+
+-- the matches before, and those of an item; `names` are those of the blocks of the first graph
+abbrev pub next_matches : ScopeParts → List (List ℕ × ℕ) → (List ℕ → Option ℕ) → (List ℕ → Option ℕ) → List FileMatch → GivenMatch → Result (List FileMatch) TextFault
+next_matches s names first second before (given_match n word same_names) = with_names second word before names
+next_matches s names first second before (given_match n word (two_blocks m)) = with_blocks (scope_before s n) first second before word m
+
+abbrev pub matches_after : ScopeParts → List (List ℕ × ℕ) → (List ℕ → Option ℕ) → (List ℕ → Option ℕ) → List FileMatch → List GivenMatch → Result (List FileMatch) TextFault
+matches_after s names first second before [] = Ok before
+matches_after s names first second before (x ∷ xs) =
+    next_matches s names first second before x >>= λ ms. matches_after s names first second ms xs
+
+abbrev pub blocks_or_none : Option GraphSyntax → List BlockSyntax
+blocks_or_none None = []
+blocks_or_none (Some (a_graph before bs)) = bs
+
+-- the matches between the blocks of two graphs
+abbrev pub matches_between : ScopeParts → List BlockSyntax → List BlockSyntax → List GivenMatch → Result (List FileMatch) TextFault
+matches_between s bs cs ms =
+    matches_after s (block_names 0 bs) (found (block_names 0 bs)) (found (block_names 0 cs)) [] ms
+
+-- the matches of a file
+abbrev pub matches_of : Known → ℕ × ℕ → Result (List FileMatch) TextFault
+matches_of k goal = matches_between k.scope (blocks_or_none (slice_get k.graphs goal.0)) (blocks_or_none (slice_get k.graphs goal.1)) k.matches
 
 -- ---- the sorts of results
 
@@ -315,13 +427,14 @@ abbrev pub graphs_after : ScopeParts → ℕ × ℕ → List Sort → List Graph
 graphs_after s goal shared before [] = Ok before
 graphs_after s goal shared before (g ∷ gs) = next_graph s goal shared (length before) g >>= λ x. graphs_after s goal shared (before ++ x ∷ []) gs
 
--- a flow file: the sorts of its variables, its graphs, which of them the goal compares, and the names of its variables and
--- of its functions
+-- a flow file: the sorts of its variables, its graphs, which of them the goal compares, the matches beside that of the
+-- entries, and the names of its variables and of its functions
 pub record FlowFileParts : Type 0 where
   pub sorts : List Sort
   pub graphs : List Graph
   pub before : ℕ
   pub after : ℕ
+  pub matches : List FileMatch
   pub rounds : ℕ
   pub splits : Bool
   pub variable_names : List (List ℕ)
@@ -335,8 +448,8 @@ rounds_or_one (Some n) = n
 abbrev pub with_goal : List (List ℕ) → List (List ℕ) → Known → Option (ℕ × ℕ) → Result FlowFileParts TextFault
 with_goal vs fs k None = Err fault.NoGoal
 with_goal vs fs k (Some goal) =
-    graphs_after k.scope goal (shared_sorts k.scope goal k.graphs) [] k.graphs
-    >>= λ gs. Ok (record { sorts = k.scope.variables; graphs = gs; before = goal.0; after = goal.1; rounds = rounds_or_one k.rounds; splits = k.splits; variable_names = vs; function_names = fs })
+    matches_of k goal >>= λ ms. graphs_after k.scope goal (shared_sorts k.scope goal k.graphs) [] k.graphs
+    >>= λ gs. Ok (record { sorts = k.scope.variables; graphs = gs; before = goal.0; after = goal.1; matches = ms; rounds = rounds_or_one k.rounds; splits = k.splits; variable_names = vs; function_names = fs })
 
 -- the file of some items, or its first fault
 abbrev pub file_of : List ItemSyntax → Result FlowFileParts TextFault

@@ -1,7 +1,7 @@
 -- The names of the variables and of the functions that items declare, in the order of their declarations.
 use Rattle.std.specs.Prelude.{ℕ, List, [], ◌∷◌, ◌++◌, map}
 use Rattle.text_parser.specs.TokenParts.{bytes_of}
-use Rattle.flow_syntax.specs.Syntax.{ItemSyntax, sorts, function, variables, graph, rounds, split, equal}
+use Rattle.flow_syntax.specs.Syntax.{ItemSyntax, sorts, function, variables, graph, rounds, split, equal, matching}
 
 abbrev pub variables_in : ItemSyntax → List (List ℕ)
 variables_in (sorts word names) = []
@@ -11,6 +11,7 @@ variables_in (graph word name blocks) = []
 variables_in (rounds word number) = []
 variables_in (split word) = []
 variables_in (equal word before after) = []
+variables_in (matching word m) = []
 
 abbrev pub functions_in : ItemSyntax → List (List ℕ)
 functions_in (sorts word names) = []
@@ -20,6 +21,7 @@ functions_in (graph word name blocks) = []
 functions_in (rounds word number) = []
 functions_in (split word) = []
 functions_in (equal word before after) = []
+functions_in (matching word m) = []
 
 -- variable k is that of the k-th name
 abbrev pub variable_names : List ItemSyntax → List (List ℕ)

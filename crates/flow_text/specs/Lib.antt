@@ -2,6 +2,8 @@ pub mod Scopes
 pub mod ScopeViews
 pub mod DeclaredNames
 pub mod Trees
+pub mod Matches
+pub mod MatchViews
 pub mod Resolving
 pub mod Checking
 pub mod KnownViews

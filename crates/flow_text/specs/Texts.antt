@@ -1,5 +1,5 @@
 -- The flow file that a text spells, or the first fault of the text.
-use Rattle.std.specs.Prelude.{◌≡◌, ◌⊎◌, ℕ, List, length, map, Result, Ok, Err}
+use Rattle.std.specs.Prelude.{◌≡◌, ◌⊎◌, ℕ, List, length, Result, Ok, Err}
 use Rattle.text_parser.specs.declared.fault.TextFault.{TextFault}
 use Rattle.text_parser.specs.declared.fault.TextFault.TheVariants.{NoMemory, BadToken}
 use Rattle.text_parser.specs.TokenParts.{TokenParts}
@@ -8,7 +8,7 @@ use Rattle.flow_syntax.specs.Derivations.{IsFirstFault}
 use Rattle.problem_file.specs.FirstFaults.{IsNoText}
 use Rattle.flow_syntax.specs.declared.phrase.TheConstants.{FILE}
 use Rattle.flow_text.specs.declared.reading.FlowFile.{FlowFile}
-use Rattle.flow_syntax.specs.Terminals.{mark_of}
+use Rattle.flow_syntax.specs.Marks.{marks_of}
 use Rattle.flow_syntax.specs.Syntax.{ItemSyntax}
 use Rattle.flow_syntax.specs.Spelling.{AreSpelled}
 use Rattle.flow_syntax.specs.Productions.{rules}
@@ -25,7 +25,7 @@ pub record Spells (text : List ℕ) (is : List ItemSyntax) : Type 0 where
 pub record HasSyntaxFault (text : List ℕ) (fault : TextFault) : Type 0 where
   pub tokens : List TokenParts
   pub lexed : Lexes text tokens
-  pub refused : IsFirstFault rules FILE (map mark_of tokens) (length text) fault
+  pub refused : IsFirstFault rules FILE (marks_of tokens) (length text) fault
 
 -- the text is that of a file, whose items have no fault
 pub record IsFlowText (text : List ℕ) (f : FlowFileParts) : Type 0 where

@@ -48,7 +48,7 @@ fn target_of(
     }
 }
 
-fn next_target(
+pub(crate) fn next_target(
     visible_names: &VisibleNames,
     before: &[(usize, Sort)],
     name: &Token,

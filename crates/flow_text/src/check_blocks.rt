@@ -22,9 +22,9 @@ use std::alloc::Global;
 use std::collections::BTreeMap;
 use text_parser::{TextFault, Token};
 
-// The number of the first block with each name.
-struct BlockNames {
-    numbers: BTreeMap<String, usize>,
+/// The number of the first block with each name.
+pub(crate) struct BlockNames {
+    pub(crate) numbers: BTreeMap<String, usize>,
 }
 
 // Explicit, so that it is proved once and not at each end of each function that owns the names.
@@ -34,8 +34,8 @@ impl Drop for BlockNames {
     }
 }
 
-// Returns the names of blocks.
-fn block_names(alloc: Global, blocks: &[Block]) -> Result<BlockNames, NoMemory>
+/// Returns the names of blocks.
+pub(crate) fn block_names(alloc: Global, blocks: &[Block]) -> Result<BlockNames, NoMemory>
     ensures { IfOk result (λ names. get_by_text names.numbers ≡ found (block_names 0 (blocks_syntax blocks.now))) }
 {
     let mut names = BlockNames {
@@ -50,13 +50,15 @@ fn block_names(alloc: Global, blocks: &[Block]) -> Result<BlockNames, NoMemory>
     Ok(names)
 }
 
-fn number_of(names: &BTreeMap<String, usize>, name: &Token) -> Option<usize>
+/// Returns the number of the block with this name, if there is one.
+pub(crate) fn number_of(names: &BTreeMap<String, usize>, name: &Token) -> Option<usize>
     ensures { result ≡ get_by_text names.now name.now.text.now }
 {
     names.get(name.text).copied()
 }
 
-fn block_named(names: &BTreeMap<String, usize>, name: &Token) -> Result<usize, TextFault>
+/// Returns the number of the block with this name.
+pub(crate) fn block_named(names: &BTreeMap<String, usize>, name: &Token) -> Result<usize, TextFault>
     ensures { result ≡ block_or_fault (parts_of_token name.now) (get_by_text names.now name.now.text.now) }
 {
     match number_of(names, name) {

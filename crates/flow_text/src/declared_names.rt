@@ -71,6 +71,7 @@ fn push_variables(alloc: Global, names: &mut Vec<String>, item: &Item) -> Result
         Item::Rounds(_, _) => Ok(()),
         Item::Split(_) => Ok(()),
         Item::Equal(_, _, _) => Ok(()),
+        Item::Match(_, _) => Ok(()),
     }
 }
 
@@ -86,6 +87,7 @@ fn push_functions(alloc: Global, names: &mut Vec<String>, item: &Item) -> Result
         Item::Rounds(_, _) => Ok(()),
         Item::Split(_) => Ok(()),
         Item::Equal(_, _, _) => Ok(()),
+        Item::Match(_, _) => Ok(()),
     }
 }
 

@@ -4,10 +4,10 @@ ghost use Rattle.text_parser.specs.TokenParts.{parts_of_token};
 ghost use Rattle.text_parser.specs.Parsed.{Makes};
 ghost use Rattle.problem_file.specs.Working.Walks.{Does};
 ghost use Rattle.flow_text.specs.Scopes.{sort_meant, sort_named, next_parameter, parameters_after};
-ghost use Rattle.flow_text.specs.Checking.{nothing_known, few_rounds, graph_meant, sorts_known, function_known, variables_known, graph_known, rounds_known, split_known, goal_known, item_known, items_known};
+ghost use Rattle.flow_text.specs.Checking.{nothing_known, few_rounds, graph_meant, sorts_known, function_known, variables_known, graph_known, rounds_known, split_known, goal_known, match_known, item_known, items_known};
 ghost use Rattle.flow_text.specs.ScopeViews.{scope_parts};
 ghost use Rattle.flow_text.specs.KnownViews.{known_parts};
-ghost use Rattle.flow_syntax.specs.SyntaxViews.{tokens_syntax, blocks_syntax, item_syntax, items_syntax};
+ghost use Rattle.flow_syntax.specs.SyntaxViews.{tokens_syntax, blocks_syntax, match_syntax, item_syntax, items_syntax};
 
 use crate::check_blocks::check_graph;
 use crate::faults::{limit_fault, name_fault, repeat_fault, sort_fault};
@@ -16,7 +16,7 @@ use crate::meaning::Meaning;
 use crate::scope::Scope;
 use crate::visible_names::{sight_of_all, width_named};
 use flow_model::Sort;
-use flow_syntax::{Block, Item, nodes_with, spelled_number};
+use flow_syntax::{Block, Item, Match, nodes_with, nodes_with_match, spelled_number};
 use kat_model::{MAX_ROUNDS, append};
 use std::alloc::Global;
 use text_parser::{TextFault, Token};
@@ -43,11 +43,35 @@ impl Drop for WrittenGraph<'_> {
     }
 }
 
+/// What a `match` says, with its keyword and the numbers of declarations before it.
+pub(crate) struct WrittenMatch<'a> {
+    pub(crate) sorts: usize,
+    pub(crate) functions: usize,
+    pub(crate) variables: usize,
+    pub(crate) graphs: usize,
+    pub(crate) word: Token<'a>,
+    pub(crate) matched: Match<'a>,
+}
+
+impl Drop for WrittenMatch<'_> {
+    fn drop(self) {
+        let WrittenMatch {
+            sorts: _,
+            functions: _,
+            variables: _,
+            graphs: _,
+            word: _,
+            matched: _matched,
+        } = self;
+    }
+}
+
 /// What is known of the items so far.
 pub(crate) struct Known<'a> {
     pub(crate) alloc: Global,
     pub(crate) scope: Scope,
     pub(crate) graphs: Vec<WrittenGraph<'a>>,
+    pub(crate) matches: Vec<WrittenMatch<'a>>,
     pub(crate) rounds: Option<u64>,
     pub(crate) splits: bool,
     pub(crate) goal: Option<(usize, usize)>,
@@ -60,6 +84,7 @@ impl Drop for Known<'_> {
             alloc: _,
             scope: _scope,
             graphs: _graphs,
+            matches: _matches,
             rounds: _,
             splits: _,
             goal: _,
@@ -116,7 +141,7 @@ fn parameter_sorts(alloc: Global, scope: &Scope, tokens: &[Token]) -> Result<Vec
     Ok(sorts)
 }
 
-fn few_rounds(token: &Token, number: Option<u64>) -> Result<u64, TextFault>
+pub(crate) fn few_rounds(token: &Token, number: Option<u64>) -> Result<u64, TextFault>
     ensures { result ≡ few_rounds (parts_of_token token.now) number }
 {
     match number {
@@ -152,6 +177,7 @@ impl<'a> Known<'a> {
             alloc,
             scope: Scope::new(alloc),
             graphs: Vec::new(alloc),
+            matches: Vec::new(alloc),
             rounds: None,
             splits: false,
             goal: None,
@@ -254,6 +280,25 @@ impl<'a> Known<'a> {
         }
     }
 
+    fn add_match(&mut self, word: Token<'a>, matched: Match<'a>) -> Result<(), TextFault>
+        ensures { Does (Unit {0}) result (known_parts self.new) (match_known (known_parts self.old) (parts_of_token word.entry) (match_syntax matched.entry)) }
+    {
+        let Some(nodes) = nodes_with_match(self.nodes, &matched) else {
+            return Err(TextFault::TooLarge(word.at));
+        };
+        let written = WrittenMatch {
+            sorts: self.scope.sorts,
+            functions: self.scope.functions.len(),
+            variables: self.scope.variables.len(),
+            graphs: self.scope.graphs,
+            word,
+            matched,
+        };
+        append(&mut self.matches, written)?;
+        self.nodes = nodes;
+        Ok(())
+    }
+
     /// Returns the sorts of the variables.
     pub(crate) fn into_variables(self) -> Vec<Sort>
         ensures { result.items ≡ (known_parts self.entry).scope.variables }
@@ -262,6 +307,7 @@ impl<'a> Known<'a> {
             alloc: _,
             scope,
             graphs: _graphs,
+            matches: _matches,
             rounds: _,
             splits: _,
             goal: _,
@@ -284,6 +330,7 @@ impl<'a> Known<'a> {
             Item::Rounds(word, number) => self.set_rounds(word, number),
             Item::Split(word) => self.set_split(word),
             Item::Equal(word, before, after) => self.set_goal(word, before, after),
+            Item::Match(word, matched) => self.add_match(word, matched),
         }
     }
 }

@@ -10,6 +10,7 @@ mod faults;
 mod known;
 mod laws;
 mod limits;
+mod matches;
 mod meaning;
 mod names;
 mod reading;
@@ -21,6 +22,9 @@ mod scope;
 mod visible_names;
 
 pub use laws::have_one_answer;
-pub use limits::{MAX_BLOCKS, MAX_FUNCTIONS, MAX_PARAMETERS, MAX_SORTS, MAX_VARIABLES};
+pub use limits::{
+    MAX_BLOCKS, MAX_FUNCTIONS, MAX_MATCHES, MAX_PARAMETERS, MAX_SORTS, MAX_VARIABLES,
+};
+pub use matches::{Equation, Match};
 pub use meaning::Meaning;
 pub use reading::{FlowFile, read};

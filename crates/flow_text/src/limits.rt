@@ -8,5 +8,7 @@ pub const MAX_FUNCTIONS: usize = 256;
 pub const MAX_PARAMETERS: usize = 16;
 /// The most variables.
 pub const MAX_VARIABLES: usize = 256;
+/// The most matches, with that of the entries.
+pub const MAX_MATCHES: usize = 4096;
 /// The most blocks of a graph.
 pub const MAX_BLOCKS: usize = 1000;

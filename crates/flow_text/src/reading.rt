@@ -14,6 +14,7 @@ ghost use Rattle.flow_text.specs.Texts.{IsFlowText, Answers};
 use crate::check_blocks::check_graph;
 use crate::declared_names::{DeclaredNames, declared_names};
 use crate::known::{Known, WrittenGraph, check_items};
+use crate::matches::{Match, file_matches};
 use crate::results::{Results, sight_of};
 use crate::scope::Scope;
 use flow_model::{Block, Sort};
@@ -23,7 +24,8 @@ use problem_file::text_of;
 use std::alloc::Global;
 use text_parser::{TextFault, tokens};
 
-/// A flow file: the sorts of its variables, its graphs, which of them the goal compares, and names for comments.
+/// A flow file: the sorts of its variables, its graphs, which of them the goal compares, which blocks are matched beside
+/// the entries, and names for comments.
 #[derive(Drop)]
 pub struct FlowFile {
     pub sorts: Vec<Sort>,
@@ -31,6 +33,7 @@ pub struct FlowFile {
     /// The numbers of the graphs of the goal.
     pub before: usize,
     pub after: usize,
+    pub matches: Vec<Match>,
     pub rounds: u64,
     pub splits: bool,
     /// The names of the variables and of the functions, in the order of their declarations.
@@ -155,6 +158,7 @@ fn file_with_goal(
 ) -> Result<FlowFile, TextFault>
     ensures { Makes (Unit {0}) file_parts result (with_goal (map string_bytes names.variables.items) (map string_bytes names.functions.items) (known_parts known.entry) (Some goal)) }
 {
+    let matches = file_matches(alloc, &known, goal)?;
     let graphs = whole_graphs(alloc, &known, goal)?;
     let rounds = rounds_or_one(known.rounds);
     let splits = known.splits;
@@ -164,6 +168,7 @@ fn file_with_goal(
         graphs,
         before: goal.0,
         after: goal.1,
+        matches,
         rounds,
         splits,
         variable_names,
@@ -204,8 +209,8 @@ fn read_text(alloc: Global, text: &str) -> Result<FlowFile, TextFault>
 /// Returns the contents of a flow file. The nodes of each of its expressions and conditions are exactly one tree. Otherwise
 /// fails with the first fault, in this order: `TooLong` for more than `MAX_LEN` bytes; `NotUtf8`; `BadToken`; the first in
 /// text order of `Syntax`, of `TooDeep` if more than `MAX_OPEN` constructs are open, and of `NumberTooWide` for 2^64 or
-/// more; the first fault of the first item that has one; `NoGoal` if no item is an `equal`; and last the first fault of a
-/// result of a `return`.
+/// more; the first fault of the first item that has one, where a `match` has only `TooLarge`; `NoGoal` if no item is an `equal`;
+/// the first fault of the first `match` that has one; and last the first fault of a result of a `return`.
 pub fn read(alloc: Global, bytes: &[u8]) -> Result<FlowFile, TextFault>
     // The bytes spell the file; a failure is `NoMemory` or the first fault of the bytes.
     ensures answers { Answers bytes.now result }

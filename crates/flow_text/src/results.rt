@@ -32,18 +32,37 @@ impl Drop for Results {
     }
 }
 
-/// Returns what a graph may name.
+/// Returns what may be named when there are these numbers of declarations.
 #[tactic(auto, using(std::proofs::lemmas::List::take_min, crate::proofs::ScopeLists::functions_before))]
-pub(crate) fn sight_of<'s>(scope: &'s Scope, graph: &WrittenGraph) -> VisibleNames<'s>
-    ensures { sight_parts result ≡ scope_before (scope_parts scope.now) (counts graph.now.sorts graph.now.functions graph.now.variables graph.now.graphs) }
+pub(crate) fn sight_before<'s>(
+    scope: &'s Scope,
+    sorts: usize,
+    functions: usize,
+    variables: usize,
+    graphs: usize,
+) -> VisibleNames<'s>
+    ensures { sight_parts result ≡ scope_before (scope_parts scope.now) (counts sorts functions variables graphs) }
 {
     VisibleNames {
         scope,
-        sorts: graph.sorts,
-        functions: &scope.functions[..graph.functions.min(scope.functions.len())],
-        variables: &scope.variables[..graph.variables.min(scope.variables.len())],
-        graphs: graph.graphs,
+        sorts,
+        functions: &scope.functions[..functions.min(scope.functions.len())],
+        variables: &scope.variables[..variables.min(scope.variables.len())],
+        graphs,
     }
+}
+
+/// Returns what a graph may name.
+pub(crate) fn sight_of<'s>(scope: &'s Scope, graph: &WrittenGraph) -> VisibleNames<'s>
+    ensures { sight_parts result ≡ scope_before (scope_parts scope.now) (counts graph.now.sorts graph.now.functions graph.now.variables graph.now.graphs) }
+{
+    sight_before(
+        scope,
+        graph.sorts,
+        graph.functions,
+        graph.variables,
+        graph.graphs,
+    )
 }
 
 fn first_sort(sort: Option<Sort>, other: Option<Sort>) -> Option<Sort>

@@ -98,3 +98,59 @@ fn sorts_are_checked(rt: HostRuntime) {
         assert!(rt; fault_of(rt.alloc(), body) == *expected, "in {body}");
     }
 }
+
+// Returns the number of matches of a file with this match, or its fault. The graphs have the blocks k, l and m, and k, l
+// and n; `match` is a variable too.
+fn matches_of(alloc: Global, item: &str) -> Result<usize, TextFault> {
+    let Ok(text) = format!(in alloc; "{MATCH_START}{item}") else {
+        return Err(TextFault::NoMemory);
+    };
+    let file = read(alloc, text.as_bytes())?;
+    Ok(file.matches.len())
+}
+
+// Its 213 bytes precede the match.
+const MATCH_START: &str =
+    "var u8 x, y; var u64 match, back; graph g { block k { goto l; } block l { x := y; match := back; goto m; } block m { return; } } graph h { block k { goto l; } block l { goto n; } block n { return; } } equal g, h; ";
+
+const MATCHES: &[(&str, Result<usize, TextFault>)] = &[
+    ("", Ok(0)),
+    ("match names;", Ok(1)),
+    ("match m, n; match l, l;", Ok(2)),
+    ("match l, l where x := y + 1, y := x;", Ok(1)),
+    (
+        "match l, l where x := y back match := 1 keeping y := 2 if x < 3 rounds 2 split;",
+        Ok(1),
+    ),
+    ("match l, l split;", Ok(1)),
+    ("match names", Err(TextFault::Syntax(224))),
+    (
+        "match l, l back x := 1 where y := 1;",
+        Err(TextFault::Syntax(236)),
+    ),
+    ("match l, l where names := 1;", Err(TextFault::Syntax(230))),
+    ("match m, m;", Err(TextFault::UnknownName(222))),
+    ("match n, n;", Err(TextFault::UnknownName(219))),
+    ("match k, k;", Err(TextFault::DoubleName(219))),
+    ("match l, l; match l, l;", Err(TextFault::DoubleName(231))),
+    ("match l, l; match names;", Err(TextFault::DoubleName(225))),
+    (
+        "match l, l where x := 1, x := 2;",
+        Err(TextFault::DoubleName(238)),
+    ),
+    ("match l, l where z := 1;", Err(TextFault::UnknownName(230))),
+    ("match l, l where x := match;", Err(TextFault::Sort(235))),
+    ("match l, l if x == match;", Err(TextFault::Sort(232))),
+    (
+        "match l, l where x := 256;",
+        Err(TextFault::NumberTooWide(235)),
+    ),
+    ("match l, l rounds 17;", Err(TextFault::TooMany(231))),
+];
+
+#[test]
+fn matches_are_read(rt: HostRuntime) {
+    for (item, expected) in MATCHES {
+        assert!(rt; matches_of(rt.alloc(), item) == *expected, "in {item}");
+    }
+}

@@ -7,7 +7,7 @@ syntax match katflowNumber /\<\d\+\>/
 syntax match katflowOperator /!=\|&&\|:=\|<=\|==\|>=\|||\|!\|\*\|+\|-\|<\|>/
 syntax match katflowDefined /\(\<graph\s\+\)\@<=\K\k*/
 syntax match katflowDefined /\(\<block\s\+\)\@<=\K\k*/
-syntax keyword katflowDeclaration sort fun var graph block cut rounds split
+syntax keyword katflowDeclaration sort fun var graph block cut rounds split match where back keeping names
 syntax keyword katflowQuestion equal
 syntax keyword katflowStatement goto if else return abort assert
 syntax keyword katflowConstant true false

@@ -1,10 +1,10 @@
-use Rattle.std.proofs.Common.{length, map, Err, sym, subst, ap, ◌∙◌}
+use Rattle.std.proofs.Common.{length, Err, sym, subst, ap, ◌∙◌}
 use Rattle.std.proofs.lemmas.Result.{err_from_is_err_and}
 use Rattle.text_parser.specs.declared.fault.TextFault.{TextFault}
 use Rattle.text_parser.specs.TokenParts.{parts_of_tokens}
 use Rattle.flow_syntax.specs.Derivations.{IsReaderFault}
 use Rattle.flow_syntax.specs.declared.phrase.TheConstants.{FILE}
-use Rattle.flow_syntax.specs.Terminals.{mark_of}
+use Rattle.flow_syntax.specs.Marks.{marks_of}
 use Rattle.flow_syntax.specs.SyntaxViews.{items_syntax}
 use Rattle.flow_syntax.specs.Productions.{rules}
 use Rattle.flow_syntax.specs.Spelling.{AreSpelled}
@@ -23,7 +23,7 @@ returns-in_err-items c =
     let e = c.in_err-items.field-0.0 in
     subst (Answers c.args.text.now) (sym (answer.1 ∙ ap (λ (f : TextFault). Err f) answer.2))
     (syntax_given c.args.text.now (parts_of_tokens c.in_ok-toks.toks.items) e c.in_ok-toks.ensures.read
-    (subst (λ ts. IsReaderFault rules FILE (map mark_of (parts_of_tokens ts)) (length c.args.text.now) e) c.deref.ensures.value c.in_err-items.ensures.refused))
+    (subst (λ ts. IsReaderFault rules FILE (marks_of (parts_of_tokens ts)) (length c.args.text.now) e) c.deref.ensures.value c.in_err-items.ensures.refused))
 
 pub returns : goal.returns
 returns c =
