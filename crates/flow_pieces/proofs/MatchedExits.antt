@@ -3,6 +3,7 @@ use Rattle.std.proofs.Common.{◌≡◌, inl, inr, ⊎_elim, ℕ, ◌+◌, ◌�
 use Rattle.std.specs.List.{list_any, list_all, range_with_len}
 use Rattle.std.proofs.lemmas.Bool.{and_parts, eqb-true, eq-eqb}
 use Rattle.std.proofs.lemmas.List.{length-append}
+use Rattle.std.specs.Cmp.Lexicographic.{pointwise}
 use Rattle.kat_model.specs.Members.{Has}
 use Rattle.kat_model.proofs.Filters.{has_filter, filter_has}
 use Rattle.kat_model.proofs.Lists.{has_any, has_all, has_append, map_has}
@@ -16,7 +17,7 @@ use Rattle.flow_places.proofs.LiveTests.{live_exactly}
 use Rattle.flow_pieces.specs.Matches.{Match}
 use Rattle.flow_pieces.specs.PieceGraphs.{Exit, has_block}
 use Rattle.flow_pieces.specs.PieceQuestions.{matched_at, IsExit}
-use Rattle.flow_pieces.specs.SameTrees.{are_same, is_same_bool}
+use Rattle.flow_pieces.specs.SameTrees.{is_same_bool}
 use Rattle.flow_pieces.specs.Exits.{arrivals_before, arrivals_after, candidates, live_after, have_same_parts, are_like, rows_with, columns_with, is_rectangle, exit_of, has_match, exits_from, piece_exits}
 use Rattle.flow_pieces.proofs.SameTrees.{numbers_same, parts_same}
 use Rattle.flow_pieces.proofs.SortedReads.{live_has_sort}
@@ -80,7 +81,7 @@ module _ (p : Pair) (sorted : IsSortedGraph p.sorts p.after) where
         let d = found.0 in
         let tests = and_parts (nat_eq d.before k && nat_eq d.after l) (are_like p c d) found.2 in
         let blocks = and_parts (nat_eq d.before k) (nat_eq d.after l) tests.0 in
-        let like = and_parts (have_same_parts c d) (are_same nat_eq (live_after p c.after) (live_after p d.after)) tests.1 in
+        let like = and_parts (have_same_parts c d) (pointwise nat_eq (live_after p c.after) (live_after p d.after)) tests.1 in
         subst (λ i. IsLike i l) (eqb-true d.before k blocks.0)
         (subst (λ j. IsLike d.before j) (eqb-true d.after l blocks.1)
         (record {

@@ -2,6 +2,7 @@
 use Rattle.std.proofs.Common.{◌≡◌, ℕ, Bool, true, false, ◌&&◌, nat_eq, List, [], ◌∷◌, refl, ap}
 use Rattle.std.proofs.lemmas.Bool.{and_parts, eqb-true}
 use mathlib.Core.Path.{ap₂}
+use Rattle.std.specs.Cmp.Lexicographic.{pointwise}
 use Rattle.kat_model.specs.declared.expression.Rel.{Rel}
 use Rattle.kat_model.specs.declared.expression.Rel.TheVariants.{Eq, Ne, Lt, Le, Gt, Ge}
 use Rattle.flow_model.specs.declared.sort.Sort.{Sort}
@@ -13,18 +14,18 @@ use Rattle.flow_forms.specs.Conversions.{is_same_width}
 use Rattle.flow_forms.proofs.ConvertedValues.{same_bits}
 use Rattle.flow_pieces.specs.Matches.{Equation, Match}
 use Rattle.flow_pieces.specs.PieceQuestions.{matched_at}
-use Rattle.flow_pieces.specs.SameTrees.{are_same, is_same_bool, is_same_rel, is_same_sort, is_same_expr, is_same_cond, is_same_statement}
+use Rattle.flow_pieces.specs.SameTrees.{is_same_bool, is_same_rel, is_same_sort, is_same_expr, is_same_cond, is_same_statement}
 use Rattle.flow_pieces.specs.Exits.{is_same_equation, have_same_parts}
 
-pub lists_same : {X : Type 0} (same : X → X → Bool) → ((x y : X) → same x y ≡ true → x ≡ y) → (xs ys : List X) → are_same same xs ys ≡ true → xs ≡ ys
+pub lists_same : {X : Type 0} (same : X → X → Bool) → ((x y : X) → same x y ≡ true → x ≡ y) → (xs ys : List X) → pointwise same xs ys ≡ true → xs ≡ ys
 lists_same same is [] [] e = refl
 lists_same same is [] (y ∷ ys) e = absurd cc
 lists_same same is (x ∷ xs) [] e = absurd cc
 lists_same same is (x ∷ xs) (y ∷ ys) e =
-    let h = and_parts (same x y) (are_same same xs ys) e in
+    let h = and_parts (same x y) (pointwise same xs ys) e in
     ap₂ (λ z zs. z ∷ zs) (is x y h.0) (lists_same same is xs ys h.1)
 
-pub numbers_same : (ks ls : List ℕ) → are_same nat_eq ks ls ≡ true → ks ≡ ls
+pub numbers_same : (ks ls : List ℕ) → pointwise nat_eq ks ls ≡ true → ks ≡ ls
 numbers_same ks ls e = lists_same nat_eq (λ k l. eqb-true k l) ks ls e
 
 pub bool_same : (b c : Bool) → is_same_bool b c ≡ true → b ≡ c
@@ -102,7 +103,7 @@ cond_same _ _ q = absurd cc
 
 pub statement_same : (x y : StatementTree) → is_same_statement x y ≡ true → x ≡ y
 statement_same (assign ks es) (assign ls fs) q =
-    let h = and_parts (are_same nat_eq ks ls) (are_same is_same_expr es fs) q in
+    let h = and_parts (pointwise nat_eq ks ls) (pointwise is_same_expr es fs) q in
     ap₂ assign (numbers_same ks ls h.0) (lists_same is_same_expr expr_same es fs h.1)
 statement_same (claim b) (claim c) q = ap claim (cond_same b c q)
 statement_same _ _ q = absurd cc
@@ -112,7 +113,7 @@ equation_same d e q =
     let h = and_parts (nat_eq d.variable e.variable) (is_same_expr d.expression e.expression) q in
     ap₂ (λ k x. record { variable = k; expression = x }) (eqb-true d.variable e.variable h.0) (expr_same d.expression e.expression h.1)
 
-equations_same : (ds es : List Equation) → are_same is_same_equation ds es ≡ true → ds ≡ es
+equations_same : (ds es : List Equation) → pointwise is_same_equation ds es ≡ true → ds ≡ es
 equations_same ds es q = lists_same is_same_equation equation_same ds es q
 
 match_of : (k l : ℕ) (forth forth' back back' keeping keeping' : List Equation) (b c : CondTree) → forth ≡ forth' → back ≡ back' → keeping ≡ keeping' → b ≡ c →
@@ -122,9 +123,9 @@ match_of k l forth forth' back back' keeping keeping' b c p q r s = rw (p, q, r,
 -- matches with the same parts are one match at the blocks of one of them
 pub parts_same : (c d : Match) → have_same_parts c d ≡ true → matched_at d.before d.after c ≡ d
 parts_same c d q =
-    let f = are_same is_same_equation c.forth d.forth in
-    let b = are_same is_same_equation c.back d.back in
-    let k = are_same is_same_equation c.keeping d.keeping in
+    let f = pointwise is_same_equation c.forth d.forth in
+    let b = pointwise is_same_equation c.back d.back in
+    let k = pointwise is_same_equation c.keeping d.keeping in
     let h = and_parts (f && b && k) (is_same_cond c.condition d.condition) q in
     let i = and_parts (f && b) k h.0 in
     let j = and_parts f b i.0 in

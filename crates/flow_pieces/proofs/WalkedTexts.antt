@@ -2,6 +2,7 @@
 use Rattle.std.proofs.Common.{◌≡◌, ◌⊎◌, inl, inr, ⊎_elim, ℕ, zero, suc, ◌+◌, ◌*◌, Bool, true, false, not, ◌&&◌, ◌||◌, nat_eq, List, [], ◌∷◌, ◌++◌, length, filter, Option, Some, None, slice_get, is_some, if◌then◌else◌, refl, sym, ap, subst}
 use Rattle.std.proofs.lemmas.Bool.{false≢true, and_parts, or_parts, eqb-true, eq-eqb}
 use Rattle.std.proofs.lemmas.Option.{same_Some}
+use Rattle.std.specs.Cmp.Lexicographic.{pointwise}
 use Rattle.kat_model.specs.Members.{Has, IsSubset}
 use Rattle.kat_model.proofs.Filters.{has_filter, filter_has}
 use Rattle.kat_model.proofs.Lists.{has_left, has_right, has_any, any_has}
@@ -9,7 +10,7 @@ use Rattle.flow_model.specs.Graphs.{JumpTree, goto, branch, return, abort, Block
 use Rattle.flow_pieces.specs.Matches.{Match}
 use Rattle.flow_pieces.specs.Pieces.{is_matched_before, is_matched_after}
 use Rattle.flow_pieces.specs.PieceQuestions.{plain_match, LeadAlike, JumpAlike, AreAlike, HasSameText}
-use Rattle.flow_pieces.specs.SameTrees.{are_same, is_same_expr, is_same_cond, is_same_statement}
+use Rattle.flow_pieces.specs.SameTrees.{is_same_expr, is_same_cond, is_same_statement}
 use Rattle.flow_pieces.specs.SameTexts.{is_plain, are_matched_plainly, jump_pairs, block_pairs, has_pair, is_paired, pairs_from, walk_next, walk_pairs, pairs_walked, has_same_text}
 use Rattle.flow_pieces.proofs.SameTrees.{lists_same, expr_same, cond_same, statement_same, parts_same}
 
@@ -124,14 +125,14 @@ module _ (p : Pair) (ms : List Match) where
         by_test : (d : Bool) → is_same_cond b c ≡ d → (if d then Some ((k, l) ∷ (k', l') ∷ []) else None) ≡ Some next → (b ≡ c) × LeadAlike ms pairs k l × LeadAlike ms pairs k' l'
         by_test true t q = let there = next_leads ((k, l) ∷ (k', l') ∷ []) q in (cond_same b c t, there k l (inl refl), there k' l' (inr (inl refl)))
         by_test false t q = absurd cc
-    jumps_alike (return es) (return fs) e = lists_same is_same_expr expr_same es fs (given_some (are_same is_same_expr es fs) [] next e)
+    jumps_alike (return es) (return fs) e = lists_same is_same_expr expr_same es fs (given_some (pointwise is_same_expr es fs) [] next e)
     jumps_alike abort abort e = tt
     jumps_alike _ _ e = absurd cc
 
     blocks_alike : (k l : ℕ) → block_pairs (slice_get p.before k) (slice_get p.after l) ≡ Some next → AreAlike p ms pairs k l
     blocks_alike k l e = by_blocks (slice_get p.before k) (slice_get p.after l) refl refl e
       where
-        by_statements : (b c : Block) → slice_get p.before k ≡ Some b → slice_get p.after l ≡ Some c → (d : Bool) → are_same is_same_statement b.statements c.statements ≡ d →
+        by_statements : (b c : Block) → slice_get p.before k ≡ Some b → slice_get p.after l ≡ Some c → (d : Bool) → pointwise is_same_statement b.statements c.statements ≡ d →
             (if d then jump_pairs b.jump c.jump else None) ≡ Some next → AreAlike p ms pairs k l
         by_statements b c s t true same q = record {
           before = b;
@@ -146,7 +147,7 @@ module _ (p : Pair) (ms : List Match) where
         by_blocks : (o r : Option Block) → slice_get p.before k ≡ o → slice_get p.after l ≡ r → block_pairs o r ≡ Some next → AreAlike p ms pairs k l
         by_blocks None r s t q = absurd cc
         by_blocks (Some b) None s t q = absurd cc
-        by_blocks (Some b) (Some c) s t q = by_statements b c s t (are_same is_same_statement b.statements c.statements) refl q
+        by_blocks (Some b) (Some c) s t q = by_statements b c s t (pointwise is_same_statement b.statements c.statements) refl q
 
   -- ---- the piece
 

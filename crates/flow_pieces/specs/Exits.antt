@@ -1,13 +1,14 @@
 -- The exits of a piece: the matches at which both sides may arrive, and which of them share a mark.
 use Rattle.std.specs.Prelude.{ℕ, Bool, false, ◌&&◌, ◌||◌, nat_eq, List, [], ◌∷◌, ◌++◌, length, map, filter, if◌then◌else◌}
 use Rattle.std.specs.List.{list_any, list_all, range_with_len}
+use Rattle.std.specs.Cmp.Lexicographic.{pointwise}
 use Rattle.kat_model.specs.UniqueRows.{with_all_new}
 use Rattle.flow_model.specs.Graphs.{Pair}
 use Rattle.flow_places.specs.Live.{live}
 use Rattle.flow_pieces.specs.Matches.{Equation, Match}
 use Rattle.flow_pieces.specs.Pieces.{is_matched_before, is_matched_after}
 use Rattle.flow_pieces.specs.PieceGraphs.{blocks_from, arrivals_of, Exit, has_block}
-use Rattle.flow_pieces.specs.SameTrees.{are_same, is_same_bool, is_same_expr, is_same_cond}
+use Rattle.flow_pieces.specs.SameTrees.{is_same_bool, is_same_expr, is_same_cond}
 
 -- the matched blocks at which runs from the block of a match may arrive
 abbrev pub arrivals_before : Pair → List Match → Match → List ℕ
@@ -30,12 +31,12 @@ is_same_equation d e = nat_eq d.variable e.variable && is_same_expr d.expression
 -- two matches have the same equations and condition
 abbrev pub have_same_parts : Match → Match → Bool
 have_same_parts c d =
-    are_same is_same_equation c.forth d.forth && are_same is_same_equation c.back d.back
-    && are_same is_same_equation c.keeping d.keeping && is_same_cond c.condition d.condition
+    pointwise is_same_equation c.forth d.forth && pointwise is_same_equation c.back d.back
+    && pointwise is_same_equation c.keeping d.keeping && is_same_cond c.condition d.condition
 
 -- two matches have the same parts, and the same variables are live at their blocks of the second graph
 abbrev pub are_like : Pair → Match → Match → Bool
-are_like p c d = have_same_parts c d && are_same nat_eq (live_after p c.after) (live_after p d.after)
+are_like p c d = have_same_parts c d && pointwise nat_eq (live_after p c.after) (live_after p d.after)
 
 -- the blocks that matches pair with a block of a match
 abbrev pub rows_with : List Match → Match → List ℕ

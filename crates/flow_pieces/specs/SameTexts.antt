@@ -1,11 +1,12 @@
 -- Pieces with the same text on both sides, as a test: both graphs are walked in step from the match, block by block.
 use Rattle.std.specs.Prelude.{ℕ, zero, suc, ◌+◌, ◌*◌, Bool, ◌&&◌, ◌||◌, nat_eq, List, [], ◌∷◌, ◌++◌, length, Option, Some, None, slice_get, is_some, if◌then◌else◌}
 use Rattle.std.specs.List.{list_any}
+use Rattle.std.specs.Cmp.Lexicographic.{pointwise}
 use Rattle.flow_model.specs.Graphs.{JumpTree, goto, branch, return, abort, Block, Pair}
 use Rattle.flow_pieces.specs.Matches.{Match}
 use Rattle.flow_pieces.specs.Pieces.{is_matched_before, is_matched_after}
 use Rattle.flow_pieces.specs.PieceQuestions.{plain_match}
-use Rattle.flow_pieces.specs.SameTrees.{are_same, is_same_expr, is_same_cond, is_same_statement}
+use Rattle.flow_pieces.specs.SameTrees.{is_same_expr, is_same_cond, is_same_statement}
 use Rattle.flow_pieces.specs.Exits.{have_same_parts}
 
 -- the match has no equation and no condition
@@ -20,13 +21,13 @@ are_matched_plainly ms k l = list_any (λ m. nat_eq m.before k && nat_eq m.after
 abbrev pub jump_pairs : JumpTree → JumpTree → Option (List (ℕ × ℕ))
 jump_pairs (goto k) (goto l) = Some ((k, l) ∷ [])
 jump_pairs (branch b k k') (branch c l l') = if is_same_cond b c then Some ((k, l) ∷ (k', l') ∷ []) else None
-jump_pairs (return es) (return fs) = if are_same is_same_expr es fs then Some [] else None
+jump_pairs (return es) (return fs) = if pointwise is_same_expr es fs then Some [] else None
 jump_pairs abort abort = Some []
 jump_pairs _ _ = None
 
 -- two blocks have the same text, with the pairs of blocks to which they lead
 abbrev pub block_pairs : Option Block → Option Block → Option (List (ℕ × ℕ))
-block_pairs (Some b) (Some c) = if are_same is_same_statement b.statements c.statements then jump_pairs b.jump c.jump else None
+block_pairs (Some b) (Some c) = if pointwise is_same_statement b.statements c.statements then jump_pairs b.jump c.jump else None
 block_pairs _ _ = None
 
 abbrev pub has_pair : List (ℕ × ℕ) → ℕ → ℕ → Bool

@@ -1,5 +1,6 @@
 -- Whether expressions, conditions and statements are the same, as tests.
-use Rattle.std.specs.Prelude.{Bool, true, false, not, ◌&&◌, nat_eq, List, [], ◌∷◌, if◌then◌else◌}
+use Rattle.std.specs.Prelude.{Bool, true, false, not, ◌&&◌, nat_eq, if◌then◌else◌}
+use Rattle.std.specs.Cmp.Lexicographic.{pointwise}
 use Rattle.kat_model.specs.declared.expression.Rel.{Rel}
 use Rattle.kat_model.specs.declared.expression.Rel.TheVariants.{Eq, Ne, Lt, Le, Gt, Ge}
 use Rattle.flow_model.specs.declared.sort.Sort.{Sort}
@@ -8,12 +9,6 @@ use Rattle.flow_model.specs.Expressions.{ExprTree, number, variable, plus, minus
 use Rattle.flow_model.specs.Conditions.{CondTree, always, never, compared, compared_signed, negation, both, either}
 use Rattle.flow_model.specs.Graphs.{StatementTree, assign, claim}
 use Rattle.flow_forms.specs.Conversions.{is_same_width}
-
--- the lists have the same length, and their members are the same in turn
-abbrev pub are_same : {X : Type 0} → (X → X → Bool) → List X → List X → Bool
-are_same same [] [] = true
-are_same same (x ∷ xs) (y ∷ ys) = same x y && are_same same xs ys
-are_same same _ _ = false
 
 abbrev pub is_same_bool : Bool → Bool → Bool
 is_same_bool b c = if b then c else not c
@@ -55,6 +50,6 @@ is_same_cond (either b c) (either d e) = is_same_cond b d && is_same_cond c e
 is_same_cond _ _ = false
 
 abbrev pub is_same_statement : StatementTree → StatementTree → Bool
-is_same_statement (assign ks es) (assign ls fs) = are_same nat_eq ks ls && are_same is_same_expr es fs
+is_same_statement (assign ks es) (assign ls fs) = pointwise nat_eq ks ls && pointwise is_same_expr es fs
 is_same_statement (claim b) (claim c) = is_same_cond b c
 is_same_statement _ _ = false
