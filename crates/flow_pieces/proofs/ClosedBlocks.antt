@@ -7,10 +7,10 @@ use Rattle.kat_model.proofs.Lists.{flat_map_has}
 use Rattle.kat_model.proofs.RowMembers.{with_all_new_has}
 use Rattle.flow_model.specs.Graphs.{Block, Graph}
 use Rattle.flow_ways.specs.Liveness.{jump_targets}
-use Rattle.flow_places.specs.Walks.{Walk, is_among, with_head, with_left, walk_all, walk_into, walk_from, no_walk}
+use Rattle.flow_places.specs.Walks.{Walk, is_among, with_head, with_left, walk_all, walk_into, walk_from, no_walk, blocks_from}
 use Rattle.flow_places.specs.Loops.{targets_of, targets}
 use Rattle.flow_places.proofs.Walked.{among_has, has_among, IsBlock, blocks_within}
-use Rattle.flow_pieces.specs.PieceGraphs.{blocks_from, arrivals_of}
+use Rattle.flow_pieces.specs.PieceGraphs.{arrivals_of}
 
 -- a block that the walk has met: it was left, is on the path, or is not there
 abbrev IsMet : Graph → List ℕ → List ℕ → ℕ → Type 0

@@ -11,4 +11,10 @@ pub mod CommonStates
 pub mod SameTexts
 pub mod AgreedPieces
 pub mod QuestionsEnough
+pub mod SameTrees
+pub mod SortedReads
+pub mod MatchedExits
+pub mod WalkedTexts
+pub mod MatchedGraphs
 pub mod PieceExamples
+pub mod ExitExamples

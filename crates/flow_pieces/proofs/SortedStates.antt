@@ -75,7 +75,7 @@ statements_state I sorts (claim b ∷ rest) s h is = by_truth (holds I s b) (sta
     by_truth true later = later
     by_truth false later = tt
 
-sorted_block : (sorts : List Sort) (g : Graph) (k : ℕ) (block : Block) → IsSortedGraph sorts g → slice_get g k ≡ Some block → IsSortedBlock sorts block
+pub sorted_block : (sorts : List Sort) (g : Graph) (k : ℕ) (block : Block) → IsSortedGraph sorts g → slice_get g k ≡ Some block → IsSortedBlock sorts block
 sorted_block sorts [] zero block h e = absurd cc
 sorted_block sorts [] (suc k) block h e = absurd cc
 sorted_block sorts (b ∷ g) zero block h e = let same : b ≡ block = cc in subst (IsSortedBlock sorts) same h.0

@@ -9,15 +9,11 @@ use Rattle.flow_model.specs.Expressions.{ExprTree, number, variable}
 use Rattle.flow_model.specs.Conditions.{CondTree, always, compared, both}
 use Rattle.flow_model.specs.Graphs.{StatementTree, assign, claim, JumpTree, goto, branch, return, abort, Block, Graph, Pair}
 use Rattle.flow_places.specs.Loops.{targets}
-use Rattle.flow_places.specs.Walks.{walk_from, no_walk}
+use Rattle.flow_places.specs.Walks.{blocks_from}
 use Rattle.flow_pieces.specs.Matches.{Equation, Match, is_shared}
 use Rattle.flow_pieces.specs.Pieces.{is_matched_before, is_matched_after}
 
 -- ---- blocks of a piece
-
--- the blocks that a run from block k may enter before it jumps to a matched block, k first
-abbrev pub blocks_from : Graph → (ℕ → Bool) → ℕ → List ℕ
-blocks_from g is_matched k = (walk_from g is_matched (suc (length g)) [] k no_walk).left
 
 -- the matched blocks to which blocks jump, each once
 abbrev pub arrivals_of : Graph → (ℕ → Bool) → List ℕ → List ℕ

@@ -1,5 +1,5 @@
 //! The law of pieces. The function does nothing: its contract is the law.
-ghost use Rattle.flow_pieces.specs.Laws.{PiecesAreEnough, AgreedPiecesAreEnough};
+ghost use Rattle.flow_pieces.specs.Laws.{PiecesAreEnough, AgreedPiecesAreEnough, MatchedGraphsAgree};
 
 /// If the entries of two graphs are matched, and each piece of the matches holds under every interpretation, both graphs
 /// return the same under every interpretation, from every state (cut points: Floyd, *Assigning meanings to programs*,
@@ -13,4 +13,10 @@ pub fn pieces_are_enough()
 /// graphs always return the same.
 pub fn agreed_pieces_are_enough()
     ensures { AgreedPiecesAreEnough }
+{}
+
+/// If the entries of two graphs are matched, each match is proper, and each piece has the same text on both sides, or two
+/// graphs, with the exits that the matches give, that always return the same, both graphs always return the same.
+pub fn matched_graphs_agree()
+    ensures { MatchedGraphsAgree }
 {}

@@ -7,4 +7,4 @@
 
 mod laws;
 
-pub use laws::{agreed_pieces_are_enough, pieces_are_enough};
+pub use laws::{agreed_pieces_are_enough, matched_graphs_agree, pieces_are_enough};

@@ -73,7 +73,7 @@ enough x (suc m) zero (e ∷ es) p q = absurd (omega (arith, q))
 enough x (suc m) (suc k) (e ∷ es) p q = ap (λ b. reads x e || b) (enough x m k es (omega (arith, p)) (omega (arith, q)))
 
 -- a number is at most 2^64 - 1, or it is counted as that
-counted_cases : (m : ℕ) → (counted m ≡ m) ⊎ ((counted m ≡ 2 ^ 64 - 1) × (2 ^ 64 - 1 ≤ m))
+pub counted_cases : (m : ℕ) → (counted m ≡ m) ⊎ ((counted m ≡ 2 ^ 64 - 1) × (2 ^ 64 - 1 ≤ m))
 counted_cases m =
     ⊎_elim (λ l. inl (omega (arith, l))) (λ l. inr (omega (arith, l), omega (arith, l))) (cases_lt m (2 ^ 64 - 1))
 
@@ -97,7 +97,7 @@ fewer (node.Times w) es = omega (arith, others_fewer (other_exprs es), others_fe
 fewer (node.Converted signed from to) es = omega (arith, others_fewer es)
 fewer (node.Applied f result n) es = omega (arith, length-drop n es)
 
-trees_within : (ns : List ExprNode) → length (exprs_of ns) ≤ length ns
+pub trees_within : (ns : List ExprNode) → length (exprs_of ns) ≤ length ns
 trees_within [] = omega arith
 trees_within (n ∷ ns) = omega (arith, fewer n (exprs_of ns), trees_within ns)
 
@@ -167,7 +167,7 @@ fewer_conds Negation bs = omega (arith, other_conds_fewer bs)
 fewer_conds Both bs = omega (arith, other_conds_fewer (other_conds bs), other_conds_fewer bs)
 fewer_conds Either bs = omega (arith, other_conds_fewer (other_conds bs), other_conds_fewer bs)
 
-conds_within : (ns : List CondNode) → length (conds_of (map cond_part ns)) ≤ length ns
+pub conds_within : (ns : List CondNode) → length (conds_of (map cond_part ns)) ≤ length ns
 conds_within [] = omega arith
 conds_within (n ∷ ns) = omega (arith, fewer_conds n (conds_of (map cond_part ns)), conds_within ns)
 

@@ -1,5 +1,5 @@
 -- Depth-first walks along the jumps of a graph (Cormen, Leiserson, Rivest and Stein, *Introduction to Algorithms*, 2009).
-use Rattle.std.specs.Prelude.{ℕ, zero, suc, Bool, nat_eq, List, [], ◌∷◌, reverse, Option, Some, None, slice_get, if◌then◌else◌}
+use Rattle.std.specs.Prelude.{ℕ, zero, suc, Bool, nat_eq, List, [], ◌∷◌, length, reverse, Option, Some, None, slice_get, if◌then◌else◌}
 use Rattle.std.specs.List.{list_any}
 use Rattle.flow_model.specs.Graphs.{Block, Graph}
 use Rattle.flow_ways.specs.Liveness.{jump_targets}
@@ -44,6 +44,10 @@ walk_on g stops n path k w = if stops k then w else walk_from g stops n path k w
 
 abbrev pub no_walk : Walk
 no_walk = record { left = []; heads = [] }
+
+-- the blocks that a run from block k may enter before it jumps to a block where `stops` holds, k first
+abbrev pub blocks_from : Graph → (ℕ → Bool) → ℕ → List ℕ
+blocks_from g stops k = (walk_from g stops (suc (length g)) [] k no_walk).left
 
 -- the walk of the program, whose lists grow at their ends
 abbrev pub walk_of : AWalk → Walk

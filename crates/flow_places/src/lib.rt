@@ -8,6 +8,7 @@ mod eliminating;
 mod elimination;
 mod fault;
 mod finding;
+mod inside;
 mod laws;
 mod live;
 mod reads;
@@ -20,9 +21,11 @@ pub use eliminating::eliminated;
 pub use elimination::Row;
 pub use fault::PlaceFault;
 pub use finding::places;
+pub use inside::blocks_from;
 pub use laws::{
     back_edges_cut_loops, live_sets_are_least, places_cut_runs, rows_are_eliminated,
     walks_reach_blocks,
 };
 pub use live::live_sets;
+pub use reads::{mark_expr, with_conditions, with_operands};
 pub use term_fault::TermFault;

@@ -27,8 +27,8 @@ fn mark_node(node: ExprNode, live: &mut [bool])
     }
 }
 
-// Returns the number of trees that a node and `count` trees after it stand for, saturated at `usize::MAX`.
-fn with_operands(node: ExprNode, count: usize) -> usize
+/// Returns the number of trees that a node and `count` trees after it are made of, saturated at `usize::MAX`.
+pub fn with_operands(node: ExprNode, count: usize) -> usize
     ensures { result ≡ counted (trees_with node count) }
 {
     match node {
@@ -64,7 +64,7 @@ fn mark_nodes_from(node: ExprNode, rest: &[ExprNode], count: usize, live: &mut [
 
 /// Marks the variables that an expression reads.
 #[tactic(auto, using(crate::proofs::NodeReads::expr_read))]
-pub(crate) fn mark_expr(nodes: &[ExprNode], live: &mut [bool])
+pub fn mark_expr(nodes: &[ExprNode], live: &mut [bool])
     ensures { (x : ℕ) → x < length live.old → slice_index_or live.new x false ≡ (reads x (expr_of nodes.now) || slice_index_or live.old x false) }
 {
     let _known = nodes.len();
@@ -111,7 +111,8 @@ fn mark_cond_node(node: &CondNode, live: &mut [bool])
     }
 }
 
-fn with_conditions(node: &CondNode, count: usize) -> usize
+/// Returns the number of conditions that a node and `count` conditions after it are made of, saturated at `usize::MAX`.
+pub fn with_conditions(node: &CondNode, count: usize) -> usize
     ensures { result ≡ counted (conds_with node.now count) }
 {
     match node {
