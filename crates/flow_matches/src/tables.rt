@@ -26,8 +26,8 @@ pub(crate) fn has_mark(marks: &[bool], block: usize) -> bool
 }
 
 // Marks a block, if there is a place for its mark.
-fn mark(marks: &mut [bool], block: usize)
-    ensures { marks.new ≡ slice_set marks.old block true }
+fn mark(marks: &mut Vec<bool>, block: usize)
+    ensures { marks.new.items ≡ slice_set marks.old.items block true }
 {
     if block < marks.len() {
         marks[block] = true;
