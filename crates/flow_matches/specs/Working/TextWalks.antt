@@ -22,7 +22,7 @@ pub record SamePartners (old new : TextWalk) : Type 0 where
   pub before : new.before.items ≡ old.before.items
   pub after : new.after.items ≡ old.after.items
 
--- the tables have as many places
+-- the tables have the same numbers of places
 pub record SameLengths (old new : TextWalk) : Type 0 where
   pub before : vec_len new.before ≡ vec_len old.before
   pub after : vec_len new.after ≡ vec_len old.after
@@ -33,7 +33,7 @@ AddsPairs true (Some next) old new = (waiting_of new ≡ next ++ waiting_of old)
 AddsPairs false None old new = Unit {0}
 AddsPairs same o old new = ⊥
 
--- one step of the walk: it goes on with the pairs that the tables then have, or there is no list of pairs
+-- one step of the walk: it continues with the pairs that the tables then have, or there is no list of pairs
 abbrev pub Visits : Pair → List Match → ℕ × ℕ → Bool → TextWalk → TextWalk → Type 0
 Visits p ms q true old new =
     (n : ℕ) (met : Pairs) → HasMet old met → (more : Pairs) × HasMet new more × (walk_pairs p ms (suc n) met (q ∷ waiting_of old) ≡ walk_pairs p ms n more (waiting_of new))
