@@ -1,0 +1,7 @@
+use Rattle.std.proofs.Common.{◌≡◌, ◌++◌, map, take}
+use Rattle.flow_model.specs.Polish.{cond_part}
+use Rattle.flow_matches.proofs.copies.push_cond.Given as goal
+
+-- the copies so far
+abbrev pub invariant-loop-node : goal.invariant-loop-node
+invariant-loop-node l = map cond_part l.list.items ≡ map cond_part l.initial.list.items ++ map cond_part (take l.node-index l.nodes)

@@ -1,0 +1,4 @@
+pub mod MatchViews
+pub mod Tables
+pub mod Outcomes
+pub mod Working

@@ -1,0 +1,4 @@
+pub mod SameNodes
+pub mod ExitViews
+pub mod SideViews
+pub mod TextWalks

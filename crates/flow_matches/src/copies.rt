@@ -1,0 +1,90 @@
+//! Copies of expressions, conditions and statements.
+ghost use Rattle.std.specs.Prelude.{◌≡◌, ◌++◌, IfOk, OnOk, map};
+ghost use Rattle.flow_model.specs.Polish.{cond_part, cond_of, values_of, statement_of};
+
+use flow_model::{CondNode, ExprNode, Statement};
+use kat_model::{NoMemory, append};
+use std::alloc::Global;
+
+pub(crate) fn copy_expr(nodes: &Vec<ExprNode>) -> Result<Vec<ExprNode>, NoMemory>
+    ensures { IfOk result (λ copy. copy.items ≡ nodes.now.items) }
+{
+    Ok(nodes.clone()?)
+}
+
+pub(crate) fn copy_exprs(
+    alloc: Global,
+    values: &[Vec<ExprNode>],
+) -> Result<Vec<Vec<ExprNode>>, NoMemory>
+    ensures { IfOk result (λ copy. values_of copy.items ≡ values_of values.now) }
+{
+    let mut copies = Vec::new(alloc);
+    for value in values {
+        append(&mut copies, copy_expr(value)?)?;
+    }
+    Ok(copies)
+}
+
+fn copy_cond_node(node: &CondNode) -> Result<CondNode, NoMemory>
+    ensures { IfOk result (λ copy. cond_part copy ≡ cond_part node.now) }
+{
+    match node {
+        CondNode::Always => Ok(CondNode::Always),
+        CondNode::Never => Ok(CondNode::Never),
+        CondNode::Compared(rel, left, right) => {
+            Ok(CondNode::Compared(*rel, copy_expr(left)?, copy_expr(right)?))
+        }
+        CondNode::ComparedSigned(rel, width, left, right) => Ok(CondNode::ComparedSigned(
+            *rel,
+            *width,
+            copy_expr(left)?,
+            copy_expr(right)?,
+        )),
+        CondNode::Negation => Ok(CondNode::Negation),
+        CondNode::Both => Ok(CondNode::Both),
+        CondNode::Either => Ok(CondNode::Either),
+    }
+}
+
+/// Adds copies of the nodes of a condition to nodes.
+pub(crate) fn push_cond(nodes: &[CondNode], list: &mut Vec<CondNode>) -> Result<(), NoMemory>
+    ensures { OnOk result (map cond_part list.new.items ≡ map cond_part list.old.items ++ map cond_part nodes.now) }
+{
+    for node in nodes {
+        append(list, copy_cond_node(node)?)?;
+    }
+    Ok(())
+}
+
+pub(crate) fn copy_cond(alloc: Global, nodes: &[CondNode]) -> Result<Vec<CondNode>, NoMemory>
+    ensures { IfOk result (λ copy. cond_of copy.items ≡ cond_of nodes.now) }
+{
+    let mut copy = Vec::new(alloc);
+    push_cond(nodes, &mut copy)?;
+    Ok(copy)
+}
+
+fn copy_statement(alloc: Global, statement: &Statement) -> Result<Statement, NoMemory>
+    ensures { IfOk result (λ copy. statement_of copy ≡ statement_of statement.now) }
+{
+    match statement {
+        Statement::Assign(targets, values) => Ok(Statement::Assign(
+            targets.clone()?,
+            copy_exprs(alloc, values)?,
+        )),
+        Statement::Claim(cond) => Ok(Statement::Claim(copy_cond(alloc, cond)?)),
+    }
+}
+
+pub(crate) fn copy_statements(
+    alloc: Global,
+    statements: &[Statement],
+) -> Result<Vec<Statement>, NoMemory>
+    ensures { IfOk result (λ copy. map statement_of copy.items ≡ map statement_of statements.now) }
+{
+    let mut copies = Vec::new(alloc);
+    for statement in statements {
+        append(&mut copies, copy_statement(alloc, statement)?)?;
+    }
+    Ok(copies)
+}

@@ -1,0 +1,235 @@
+//! The graph of one side of a piece.
+ghost use Rattle.std.specs.Prelude.{◌≡◌, ◌∷◌, [], IfOk, OnOk, List, map, vec_len, unwrap_or, slice_get};
+ghost use Rattle.flow_model.specs.declared.graph.Block.{Block as ABlock};
+ghost use Rattle.flow_model.specs.Polish.{values_of, statement_of, jump_of, graph_of};
+ghost use Rattle.flow_pieces.specs.PieceGraphs.{Side as ASide, inside, side_blocks, block_at, jump_of as jump_of_side, mark as a_mark, side_graph as graph_of_side};
+ghost use Rattle.flow_matches.specs.Tables.{AreMarks};
+ghost use Rattle.flow_matches.specs.Working.SideViews.{leave_trees, side_arrivals, AddsBlocks, arrival_blocks, IsSide};
+
+use crate::copies::{copy_cond, copy_exprs, copy_statements};
+use crate::interface::mark;
+use crate::leaves::Leave;
+use crate::tables::has_mark;
+use flow_model::{Block, ExprNode, Jump, Statement};
+use kat_model::NoMemory;
+use std::alloc::Global;
+
+/// One side of a piece. Its points are numbered: the start, the blocks inside, and for each matched block where runs
+/// arrive, two for each exit that is tried there, and one where none of them is taken.
+#[derive(Drop)]
+pub(crate) struct Side {
+    /// What is known at first.
+    pub(crate) opening: Vec<Statement>,
+    /// The blocks inside, the first one first.
+    pub(crate) inside: Vec<usize>,
+    /// The exits at each matched block where runs arrive.
+    pub(crate) leaves: Vec<Vec<Leave>>,
+    /// The number of the point to which a jump to each block of the graph leads.
+    pub(crate) targets: Vec<usize>,
+    /// The number of points, to which a jump leads that leads to no block.
+    pub(crate) count: usize,
+    /// The mark that is returned where no exit is taken.
+    pub(crate) otherwise: u64,
+}
+
+// Sets the number of the point of each block inside. A jump to a matched block leads to an arrival.
+fn number_inside(stops: &[bool], inside: &[usize], targets: &mut [usize]) {
+    for place in 0..inside.len() {
+        let block = inside[place];
+        if !has_mark(stops, block) && block < targets.len() {
+            targets[block] = place + 1;
+        }
+    }
+}
+
+// Returns the number of points that an arrival with some exits has, after others.
+fn after_arrival(number: usize, leaves: usize) -> Result<usize, NoMemory> {
+    match number.checked_add(leaves) {
+        Some(half) => match half.checked_add(leaves) {
+            Some(all) => all.checked_add(1).ok_or(NoMemory),
+            None => Err(NoMemory),
+        },
+        None => Err(NoMemory),
+    }
+}
+
+// Sets the number of the first point of each arrival. Returns the number of all points.
+fn number_arrivals(
+    first: usize,
+    arrivals: &[usize],
+    leaves: &[Vec<Leave>],
+    targets: &mut [usize],
+) -> Result<usize, NoMemory> {
+    let mut number = first;
+    for (block, exits) in arrivals.iter().zip(leaves) {
+        if *block < targets.len() {
+            targets[*block] = number;
+        }
+        number = after_arrival(number, exits.len())?;
+    }
+    Ok(number)
+}
+
+// Returns the number of all points.
+fn count_points(first: usize, leaves: &[Vec<Leave>]) -> Result<usize, NoMemory> {
+    let mut number = first;
+    for exits in leaves {
+        number = after_arrival(number, exits.len())?;
+    }
+    Ok(number)
+}
+
+/// Returns a side with these parts, and numbers its points.
+pub(crate) fn new_side(
+    alloc: Global,
+    blocks: &[Block],
+    stops: &[bool],
+    inside: Vec<usize>,
+    arrivals: &[usize],
+    leaves: Vec<Vec<Leave>>,
+    opening: Vec<Statement>,
+    otherwise: u64,
+) -> Result<Side, NoMemory>
+    ensures { IfOk result (λ side. (s : ASide) → s.graph ≡ graph_of blocks.now → AreMarks stops.now s.is_matched → inside.items ≡ side_blocks s → arrivals.now ≡ side_arrivals s → map (λ l. leave_trees l.items) leaves.items ≡ map s.leaves (side_arrivals s) → map statement_of opening.items ≡ s.opening → s.otherwise ≡ a_mark otherwise ∷ [] → IsSide side blocks.now s) }
+{
+    let count = count_points(inside.len() + 1, &leaves)?;
+    let mut targets = vec![in alloc; count; blocks.len()]?;
+    number_inside(stops, &inside, &mut targets);
+    number_arrivals(inside.len() + 1, arrivals, &leaves, &mut targets)?;
+    Ok(Side {
+        opening,
+        inside,
+        leaves,
+        targets,
+        count,
+        otherwise,
+    })
+}
+
+// Returns the number of the point to which a jump to a block leads.
+fn target(side: &Side, block: usize) -> usize
+    ensures { result ≡ unwrap_or (slice_get side.now.targets.items block) side.now.count }
+{
+    side.targets.get(block).copied().unwrap_or(side.count)
+}
+
+fn one_value(alloc: Global, number: u64) -> Result<Vec<Vec<ExprNode>>, NoMemory>
+    ensures { IfOk result (λ values. values_of values.items ≡ a_mark number ∷ []) }
+{
+    let mut values = Vec::new(alloc);
+    values.push(mark(alloc, number)?)?;
+    Ok(values)
+}
+
+// Returns the jump of a block inside: a return begins with its mark.
+fn jump_inside(alloc: Global, side: &Side, jump: &Jump) -> Result<Jump, NoMemory>
+    ensures { IfOk result (λ copy. (s : ASide) (blocks : List ABlock) → IsSide side.now blocks s → jump_of copy ≡ jump_of_side s (jump_of jump.now)) }
+{
+    match jump {
+        Jump::Goto(k) => Ok(Jump::Goto(target(side, *k))),
+        Jump::Branch(cond, k, l) => Ok(Jump::Branch(
+            copy_cond(alloc, cond)?,
+            target(side, *k),
+            target(side, *l),
+        )),
+        Jump::Return(results) => {
+            let mut values = one_value(alloc, 0)?;
+            for result in copy_exprs(alloc, results)? {
+                values.push(result)?;
+            }
+            Ok(Jump::Return(values))
+        }
+        Jump::Abort => Ok(Jump::Abort),
+    }
+}
+
+fn push_block(
+    is_cut: bool,
+    statements: Vec<Statement>,
+    jump: Jump,
+    list: &mut Vec<Block>,
+) -> Result<(), NoMemory>
+    ensures { OnOk result (AddsBlocks list.old list.new (record { is_cut = is_cut; statements = map statement_of statements.items; jump = jump_of jump } ∷ [])) }
+{
+    list.push(Block {
+        is_cut,
+        statements,
+        jump,
+    })?;
+    Ok(())
+}
+
+// Adds the blocks inside.
+fn push_inside(
+    alloc: Global,
+    blocks: &[Block],
+    side: &Side,
+    list: &mut Vec<Block>,
+) -> Result<(), NoMemory>
+    ensures { OnOk result ((s : ASide) → IsSide side.now blocks.now s → AddsBlocks list.old list.new (map (λ k. block_at s (inside k)) (side_blocks s))) }
+{
+    for number in &side.inside {
+        if let Some(block) = blocks.get(*number) {
+            let statements = copy_statements(alloc, &block.statements)?;
+            push_block(
+                block.is_cut,
+                statements,
+                jump_inside(alloc, side, &block.jump)?,
+                list,
+            )?;
+        }
+    }
+    Ok(())
+}
+
+// Adds the points of an arrival: each exit is tried in turn.
+fn push_arrival(
+    alloc: Global,
+    leaves: &[Leave],
+    otherwise: u64,
+    list: &mut Vec<Block>,
+) -> Result<(), NoMemory>
+    ensures { OnOk result (AddsBlocks list.old list.new (arrival_blocks (vec_len list.old) (leave_trees leaves.now) (a_mark otherwise ∷ []))) }
+{
+    for leave in leaves {
+        let number = list.len();
+        let cond = copy_cond(alloc, &leave.condition)?;
+        push_block(
+            false,
+            Vec::new(alloc),
+            Jump::Branch(cond, number + 1, number + 2),
+            list,
+        )?;
+        let results = copy_exprs(alloc, &leave.results)?;
+        push_block(false, Vec::new(alloc), Jump::Return(results), list)?;
+    }
+    push_block(
+        false,
+        Vec::new(alloc),
+        Jump::Return(one_value(alloc, otherwise)?),
+        list,
+    )
+}
+
+/// Returns the graph of a side. Fails only when out of memory.
+pub(crate) fn side_graph(
+    alloc: Global,
+    blocks: &[Block],
+    side: &Side,
+) -> Result<Vec<Block>, NoMemory>
+    ensures { IfOk result (λ list. (s : ASide) → IsSide side.now blocks.now s → graph_of list.items ≡ graph_of_side s) }
+{
+    let mut list = Vec::new(alloc);
+    let statements = copy_statements(alloc, &side.opening)?;
+    let first = if side.inside.is_empty() {
+        side.count
+    } else {
+        1
+    };
+    push_block(false, statements, Jump::Goto(first), &mut list)?;
+    push_inside(alloc, blocks, side, &mut list)?;
+    for leaves in &side.leaves {
+        push_arrival(alloc, leaves, side.otherwise, &mut list)?;
+    }
+    Ok(list)
+}
