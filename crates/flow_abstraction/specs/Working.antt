@@ -1,3 +1,10 @@
 pub mod Placed
 pub mod Splits
 pub mod Stages
+pub mod Adding
+pub mod Substituted
+pub mod Facts
+pub mod IntervalFacts
+pub mod Assignments
+pub mod Rounds
+pub mod Questions

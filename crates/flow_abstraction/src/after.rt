@@ -1,12 +1,11 @@
 //! What holds of a comparison after a parallel assignment, as a condition before it.
-ghost use Rattle.std.specs.Prelude.{◌≡◌, ◌&&◌, true, false, IfOk, IfErr, map, option_map};
-ghost use Rattle.flow_forms.specs.Forms.{form_tree};
+ghost use Rattle.std.specs.Prelude.{◌≡◌, ◌&&◌, true, option_map};
 ghost use Rattle.flow_forms.specs.Comparisons.{comparison_tree, literal_tree};
-ghost use Rattle.flow_forms.specs.Substitution.{comparison_after as compared_after};
 ghost use Rattle.flow_ways.specs.CondForms.{comparison_is_small as is_small_comparison, literal_is_small as is_small_literal};
-ghost use Rattle.flow_ways.specs.ActionTrees.{set_tree};
-ghost use Rattle.flow_problem.specs.Substitutions.{comparison_fits, literal_if_small as literal_unless_large, literal_if_fits, literal_after as literal_after_set};
-ghost use Rattle.flow_abstraction.specs.LiteralsWith.{literal_with as literal_with_forms};
+ghost use Rattle.flow_problem.specs.Substitutions.{literal_if_small as literal_unless_large};
+ghost use Rattle.flow_abstraction.specs.Working.Substituted.{MakesLiteral, literal_by, fits_by, literal_if_it_fits, literal_where, literal_of_sets};
+ghost use Rattle.flow_edges.specs.Working.Splitting.{OkOnlyIf, LargeOnlyIfNot};
+ghost use Rattle.flow_edges.specs.Working.Views.{Makes};
 
 use crate::assigned_forms::forms_after;
 use crate::variables::sets_cell_of;
@@ -26,9 +25,9 @@ fn comparison_after(
     forms: &[FlowForm],
     comparison: &FlowComparison,
 ) -> Result<FlowLiteral, FormFault>
-    ensures made { IfOk result (λ l. literal_tree l ≡ compared_after sorts.now (map form_tree forms.now) (comparison_tree comparison.now)) }
-    ensures fits { IfOk result (λ _. comparison_fits sorts.now (map form_tree forms.now) (comparison_tree comparison.now) ≡ true) }
-    ensures refused { IfErr result (λ e. e ≡ FormFault.TooLarge → comparison_fits sorts.now (map form_tree forms.now) (comparison_tree comparison.now) ≡ false) }
+    ensures made { Makes literal_tree result (literal_by sorts.now forms.now comparison.now) }
+    ensures fits { OkOnlyIf result (fits_by sorts.now forms.now comparison.now) }
+    ensures refused { LargeOnlyIfNot result (fits_by sorts.now forms.now comparison.now) }
 {
     match comparison {
         FlowComparison::Zero(width, f) => {
@@ -83,7 +82,7 @@ fn literal_of_forms(
     forms: &[FlowForm],
     comparison: &FlowComparison,
 ) -> Result<Option<FlowLiteral>, NoMemory>
-    ensures { IfOk result (λ o. option_map literal_tree o ≡ literal_if_fits (comparison_fits sorts.now (map form_tree forms.now) (comparison_tree comparison.now)) (compared_after sorts.now (map form_tree forms.now) (comparison_tree comparison.now))) }
+    ensures { MakesLiteral result (literal_if_it_fits sorts.now forms.now comparison.now) }
 {
     match comparison_after(alloc, sorts, forms, comparison) {
         Ok(literal) => Ok(literal_if_small(literal)),
@@ -100,7 +99,7 @@ pub(crate) fn literal_with(
     forms: &[FlowForm],
     comparison: &FlowComparison,
 ) -> Result<Option<FlowLiteral>, NoMemory>
-    ensures { IfOk result (λ o. option_map literal_tree o ≡ literal_with_forms sorts.now (map set_tree sets.now) (map form_tree forms.now) (comparison_tree comparison.now)) }
+    ensures { MakesLiteral result (literal_where sorts.now sets.now forms.now comparison.now) }
 {
     if !sets_cell_of(sets, comparison) {
         let kept = comparison.copy(alloc)?;
@@ -118,7 +117,7 @@ pub(crate) fn literal_after(
     sets: &[Option<FlowForm>],
     comparison: &FlowComparison,
 ) -> Result<Option<FlowLiteral>, NoMemory>
-    ensures { IfOk result (λ o. option_map literal_tree o ≡ literal_after_set sorts.now (map set_tree sets.now) (comparison_tree comparison.now)) }
+    ensures { MakesLiteral result (literal_of_sets sorts.now sets.now comparison.now) }
 {
     let forms = forms_after(alloc, sorts, sets)?;
     literal_with(alloc, sorts, sets, &forms, comparison)

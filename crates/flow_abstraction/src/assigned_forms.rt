@@ -1,8 +1,10 @@
 //! The forms of the variables after a parallel assignment.
-ghost use Rattle.std.specs.Prelude.{◌≡◌, ◌+◌, ◌<◌, ◌^◌, ◌∷◌, ◌++◌, IfOk, OnOk, length, map, suc};
+ghost use Rattle.std.specs.Prelude.{◌≡◌, ◌+◌, ◌<◌, ◌^◌, ◌∷◌, IfOk, length};
 ghost use Rattle.flow_forms.specs.Forms.{form_tree};
 ghost use Rattle.flow_ways.specs.ActionTrees.{set_tree};
-ghost use Rattle.flow_problem.specs.Substitutions.{set_or_own as form_set_or_own, forms_from, forms_after as forms_after_set};
+ghost use Rattle.flow_problem.specs.Substitutions.{set_or_own as form_set_or_own, forms_after as forms_after_set};
+ghost use Rattle.flow_abstraction.specs.Working.Substituted.{AddsForms, forms_at, forms_then};
+ghost use Rattle.flow_edges.specs.Working.Views.{set_trees, MakesList};
 
 use flow_forms::FlowForm;
 use flow_model::Sort;
@@ -35,7 +37,7 @@ fn push_forms(
     list: &mut Vec<FlowForm>,
 ) -> Result<(), NoMemory>
     requires { number + length sorts.now < 2 ^ 64 }
-    ensures { OnOk result (map form_tree list.new.items ≡ map form_tree list.old.items ++ forms_from number sorts.now (map set_tree sets.now)) }
+    ensures { AddsForms result list.old list.new (forms_at number sorts.now sets.now) }
 {
     match sorts {
         [] => Ok(()),
@@ -53,7 +55,7 @@ fn push_forms_from(
     list: &mut Vec<FlowForm>,
 ) -> Result<(), NoMemory>
     requires { number + length others.now + 1 < 2 ^ 64 }
-    ensures { OnOk result (map form_tree list.new.items ≡ map form_tree list.old.items ++ forms_from number (sort ∷ others.now) (map set_tree sets.now)) }
+    ensures { AddsForms result list.old list.new (forms_at number (sort ∷ others.now) sets.now) }
 {
     match sets {
         [] => {
@@ -78,7 +80,7 @@ fn push_forms_then(
     list: &mut Vec<FlowForm>,
 ) -> Result<(), NoMemory>
     requires { number + length others.now + 1 < 2 ^ 64 }
-    ensures { OnOk result (map form_tree list.new.items ≡ map form_tree list.old.items ++ form_tree form ∷ forms_from (suc number) others.now (map set_tree sets.now)) }
+    ensures { AddsForms result list.old list.new (forms_then form number others.now sets.now) }
 {
     push_form(list, form)?;
     push_forms(alloc, others, number + 1, sets, list)
@@ -91,7 +93,7 @@ pub(crate) fn forms_after(
     sorts: &[Sort],
     sets: &[Option<FlowForm>],
 ) -> Result<Vec<FlowForm>, NoMemory>
-    ensures { IfOk result (λ list. map form_tree list.items ≡ forms_after_set sorts.now (map set_tree sets.now)) }
+    ensures { MakesList form_tree result (forms_after_set sorts.now (set_trees sets.now)) }
 {
     let _known = sorts.len();
     let mut list = Vec::new(alloc);

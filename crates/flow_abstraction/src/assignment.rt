@@ -1,17 +1,12 @@
 //! Hypotheses of assignments: a test holds after an action exactly where a condition holds before it.
-ghost use Rattle.std.specs.Prelude.{◌≡◌, ◌+◌, ◌^◌, ◌<◌, [], ◌∷◌, IfOk, OnOk, length, map, flat_map, option_map, if◌then◌else◌};
-ghost use Rattle.std.specs.List.{enumerate_from};
-ghost use Rattle.kat_model.specs.Trees.{complement, product, test as test_term, test_tree, kat_tree};
-ghost use Rattle.flow_forms.specs.Forms.{form_tree};
-ghost use Rattle.flow_forms.specs.Comparisons.{comparison_tree, literal_tree};
-ghost use Rattle.flow_ways.specs.ActionTrees.{set_tree};
-ghost use Rattle.flow_edges.specs.EdgeViews.{flow_action};
-ghost use Rattle.flow_problem.specs.Edges.{assigned};
+ghost use Rattle.std.specs.Prelude.{◌≡◌, ◌+◌, ◌^◌, ◌<◌, [], ◌∷◌, IfOk, length, map};
+ghost use Rattle.kat_model.specs.Trees.{test_tree, kat_tree};
+ghost use Rattle.flow_forms.specs.Comparisons.{comparison_tree};
 ghost use Rattle.flow_problem.specs.Substitutions.{prim_of};
-ghost use Rattle.flow_problem.specs.FlowFacts.{by_assignment, ends_in as no_end_outside, ends_outside as no_end_in, keeps_test, keeps_literal, keeps_if_known};
-ghost use Rattle.flow_abstraction.specs.CappedLists.{capped};
-ghost use Rattle.flow_abstraction.specs.HypothesisViews.{flow_hypothesis};
-ghost use Rattle.flow_abstraction.specs.ActionLists.{facts_with, facts_of_action};
+ghost use Rattle.flow_problem.specs.FlowFacts.{ends_in as no_end_outside, ends_outside as no_end_in, keeps_test};
+ghost use Rattle.flow_abstraction.specs.Working.Adding.{Adds, wrong_end_of, leaving_fact, entering_fact};
+ghost use Rattle.flow_abstraction.specs.Working.Assignments.{literal_facts, test_facts, tests_facts, assignment_facts, action_facts, actions_facts, assignments_facts};
+ghost use Rattle.flow_edges.specs.Working.Views.{Makes};
 
 use crate::after::literal_with;
 use crate::assigned_forms::forms_after;
@@ -39,7 +34,7 @@ fn ends_outside(alloc: Global, action: usize, test: usize) -> Result<Kat, NoMemo
 
 // Returns that an action ends outside a test that always holds after it, or in one that never does.
 fn wrong_end(alloc: Global, action: usize, test: usize, holds: bool) -> Result<Kat, NoMemory>
-    ensures { IfOk result (λ e. kat_tree e ≡ (if holds then no_end_outside action test else no_end_in action test)) }
+    ensures { Makes kat_tree result (wrong_end_of holds action test) }
 {
     if holds {
         return ends_in(alloc, action, test);
@@ -55,7 +50,7 @@ fn add_leaving(
     before: &Test,
     list: &mut Vec<FlowHypothesis>,
 ) -> Result<(), NoMemory>
-    ensures { OnOk result (map flow_hypothesis list.new.items ≡ capped MAX_HYPS (map flow_hypothesis list.old.items) (record { rule = by_assignment action test; term = product (test_term (test_tree before.now)) (no_end_outside action test) } ∷ [])) }
+    ensures { Adds result list.old list.new (leaving_fact action test before.now ∷ []) }
 {
     let holds = before.copy(alloc)?;
     let leaving = ends_in(alloc, action, test)?;
@@ -71,7 +66,7 @@ fn add_entering(
     before: Test,
     list: &mut Vec<FlowHypothesis>,
 ) -> Result<(), NoMemory>
-    ensures { OnOk result (map flow_hypothesis list.new.items ≡ capped MAX_HYPS (map flow_hypothesis list.old.items) (record { rule = by_assignment action test; term = product (test_term (complement (test_tree before))) (no_end_in action test) } ∷ [])) }
+    ensures { Adds result list.old list.new (entering_fact action test before ∷ []) }
 {
     let fails = Test::new_not(alloc, before)?;
     let entering = ends_outside(alloc, action, test)?;
@@ -88,7 +83,7 @@ fn add_kept(
     before: Test,
     list: &mut Vec<FlowHypothesis>,
 ) -> Result<(), NoMemory>
-    ensures { OnOk result (map flow_hypothesis list.new.items ≡ capped MAX_HYPS (map flow_hypothesis list.old.items) (keeps_test action test (test_tree before))) }
+    ensures { Adds result list.old list.new (keeps_test action test (test_tree before)) }
 {
     add_leaving(alloc, action, test, &before, list)?;
     add_entering(alloc, action, test, before, list)
@@ -110,7 +105,7 @@ fn add_literal_facts(
     literal: &FlowLiteral,
     list: &mut Vec<FlowHypothesis>,
 ) -> Result<(), NoMemory>
-    ensures { OnOk result (map flow_hypothesis list.new.items ≡ capped MAX_HYPS (map flow_hypothesis list.old.items) (keeps_literal (map comparison_tree tests.now) action test (literal_tree literal.now))) }
+    ensures { Adds result list.old list.new (literal_facts tests.now action test literal.now) }
 {
     match literal {
         FlowLiteral::Decided(holds) => {
@@ -154,7 +149,7 @@ fn add_test_facts(
     test: &FlowComparison,
     list: &mut Vec<FlowHypothesis>,
 ) -> Result<(), NoMemory>
-    ensures { OnOk result (map flow_hypothesis list.new.items ≡ capped MAX_HYPS (map flow_hypothesis list.old.items) (facts_with setting.now.sorts.now (map comparison_tree setting.now.tests.now) action.now.number (map set_tree action.now.sets.now) (map form_tree action.now.forms.now) (number, comparison_tree test.now))) }
+    ensures { Adds result list.old list.new (test_facts setting.now action.now number test.now) }
 {
     let alloc = setting.alloc;
     let known = literal_with(alloc, setting.sorts, action.sets, action.forms, test)?;
@@ -181,7 +176,7 @@ fn add_tests_facts(
     list: &mut Vec<FlowHypothesis>,
 ) -> Result<(), NoMemory>
     requires { number + length tests.now < 2 ^ 64 }
-    ensures { OnOk result (map flow_hypothesis list.new.items ≡ capped MAX_HYPS (map flow_hypothesis list.old.items) (flat_map (facts_with setting.now.sorts.now (map comparison_tree setting.now.tests.now) action.now.number (map set_tree action.now.sets.now) (map form_tree action.now.forms.now)) (enumerate_from number (map comparison_tree tests.now)))) }
+    ensures { Adds result list.old list.new (tests_facts setting.now action.now number tests.now) }
 {
     match tests {
         [] => Ok(()),
@@ -199,7 +194,7 @@ fn add_tests_facts_from(
     list: &mut Vec<FlowHypothesis>,
 ) -> Result<(), NoMemory>
     requires { number + length rest.now + 1 < 2 ^ 64 }
-    ensures { OnOk result (map flow_hypothesis list.new.items ≡ capped MAX_HYPS (map flow_hypothesis list.old.items) (flat_map (facts_with setting.now.sorts.now (map comparison_tree setting.now.tests.now) action.now.number (map set_tree action.now.sets.now) (map form_tree action.now.forms.now)) (enumerate_from number (comparison_tree test.now ∷ map comparison_tree rest.now)))) }
+    ensures { Adds result list.old list.new (tests_facts setting.now action.now number (test.now ∷ rest.now)) }
 {
     add_test_facts(setting, action, number, test, list)?;
     add_tests_facts(setting, action, number + 1, rest, list)
@@ -213,7 +208,7 @@ fn add_assignment_facts(
     sets: &[Option<FlowForm>],
     list: &mut Vec<FlowHypothesis>,
 ) -> Result<(), NoMemory>
-    ensures { OnOk result (map flow_hypothesis list.new.items ≡ capped MAX_HYPS (map flow_hypothesis list.old.items) (facts_of_action setting.now.sorts.now (map comparison_tree setting.now.tests.now) (number, assigned (map set_tree sets.now)))) }
+    ensures { Adds result list.old list.new (assignment_facts setting.now number sets.now) }
 {
     let forms = forms_after(setting.alloc, setting.sorts, sets)?;
     let tests = setting.tests;
@@ -234,7 +229,7 @@ fn add_action_facts(
     action: &FlowAction,
     list: &mut Vec<FlowHypothesis>,
 ) -> Result<(), NoMemory>
-    ensures { OnOk result (map flow_hypothesis list.new.items ≡ capped MAX_HYPS (map flow_hypothesis list.old.items) (facts_of_action setting.now.sorts.now (map comparison_tree setting.now.tests.now) (number, flow_action action.now))) }
+    ensures { Adds result list.old list.new (action_facts setting.now number action.now) }
 {
     if list.len() > MAX_HYPS {
         return Ok(());
@@ -254,7 +249,7 @@ fn add_actions_facts(
     list: &mut Vec<FlowHypothesis>,
 ) -> Result<(), NoMemory>
     requires { number + length actions.now < 2 ^ 64 }
-    ensures { OnOk result (map flow_hypothesis list.new.items ≡ capped MAX_HYPS (map flow_hypothesis list.old.items) (flat_map (facts_of_action setting.now.sorts.now (map comparison_tree setting.now.tests.now)) (enumerate_from number (map flow_action actions.now)))) }
+    ensures { Adds result list.old list.new (actions_facts setting.now number actions.now) }
 {
     match actions {
         [] => Ok(()),
@@ -271,7 +266,7 @@ fn add_actions_facts_from(
     list: &mut Vec<FlowHypothesis>,
 ) -> Result<(), NoMemory>
     requires { number + length rest.now + 1 < 2 ^ 64 }
-    ensures { OnOk result (map flow_hypothesis list.new.items ≡ capped MAX_HYPS (map flow_hypothesis list.old.items) (flat_map (facts_of_action setting.now.sorts.now (map comparison_tree setting.now.tests.now)) (enumerate_from number (flow_action action.now ∷ map flow_action rest.now)))) }
+    ensures { Adds result list.old list.new (actions_facts setting.now number (action.now ∷ rest.now)) }
 {
     add_action_facts(setting, number, action, list)?;
     add_actions_facts(setting, number + 1, rest, list)
@@ -285,7 +280,7 @@ pub(crate) fn add_assignments_facts(
     actions: &[FlowAction],
     list: &mut Vec<FlowHypothesis>,
 ) -> Result<(), NoMemory>
-    ensures { OnOk result (map flow_hypothesis list.new.items ≡ capped MAX_HYPS (map flow_hypothesis list.old.items) (flat_map (facts_of_action sorts.now (map comparison_tree tests.now)) (enumerate_from 0 (map flow_action actions.now)))) }
+    ensures { Adds result list.old list.new (assignments_facts sorts.now tests.now actions.now) }
 {
     let _known = actions.len();
     let setting = Setting {

@@ -1,11 +1,10 @@
 //! Hypotheses that a last test completes: one that is a comparison computed from the tests before it.
-ghost use Rattle.std.specs.Prelude.{◌≡◌, ◌+◌, ◌^◌, ◌<◌, ◌∷◌, IfOk, OnOk, length, map, flat_map};
-ghost use Rattle.std.specs.List.{enumerate_from};
+ghost use Rattle.std.specs.Prelude.{◌≡◌, ◌+◌, ◌^◌, ◌<◌, ◌∷◌, IfOk, length};
 ghost use Rattle.kat_model.specs.Trees.{kat_tree};
-ghost use Rattle.flow_forms.specs.Comparisons.{comparison_tree, literal_tree};
-ghost use Rattle.flow_abstraction.specs.CappedLists.{capped};
-ghost use Rattle.flow_abstraction.specs.HypothesisViews.{flow_rule, flow_hypothesis};
-ghost use Rattle.flow_abstraction.specs.Completions.{completed_rule as rule_of, completed_term as term_of, completed_fact};
+ghost use Rattle.flow_abstraction.specs.HypothesisViews.{flow_rule};
+ghost use Rattle.flow_abstraction.specs.Completions.{completed_rule as rule_of, completed_term as term_of};
+ghost use Rattle.flow_abstraction.specs.Working.Adding.{Adds};
+ghost use Rattle.flow_abstraction.specs.Working.Facts.{completed_by, completed_all};
 
 use crate::hypothesis::{FlowHypothesis, FlowRule, push_hypothesis};
 use crate::sameness::is_comparison;
@@ -60,7 +59,7 @@ fn add_completed_by(
     test: &FlowComparison,
     list: &mut Vec<FlowHypothesis>,
 ) -> Result<(), NoMemory>
-    ensures { OnOk result (map flow_hypothesis list.new.items ≡ capped MAX_HYPS (map flow_hypothesis list.old.items) (completed_fact pending (literal_tree literal.now) (number, comparison_tree test.now))) }
+    ensures { Adds result list.old list.new (completed_by pending literal.now number test.now) }
 {
     if !is_comparison(literal, test) {
         return Ok(());
@@ -80,7 +79,7 @@ pub(crate) fn add_completed(
     list: &mut Vec<FlowHypothesis>,
 ) -> Result<(), NoMemory>
     requires { number + length tests.now < 2 ^ 64 }
-    ensures { OnOk result (map flow_hypothesis list.new.items ≡ capped MAX_HYPS (map flow_hypothesis list.old.items) (flat_map (completed_fact pending (literal_tree literal.now)) (enumerate_from number (map comparison_tree tests.now)))) }
+    ensures { Adds result list.old list.new (completed_all pending literal.now number tests.now) }
 {
     match tests {
         [] => Ok(()),
@@ -101,7 +100,7 @@ fn add_completed_from(
     list: &mut Vec<FlowHypothesis>,
 ) -> Result<(), NoMemory>
     requires { number + length rest.now + 1 < 2 ^ 64 }
-    ensures { OnOk result (map flow_hypothesis list.new.items ≡ capped MAX_HYPS (map flow_hypothesis list.old.items) (flat_map (completed_fact pending (literal_tree literal.now)) (enumerate_from number (comparison_tree test.now ∷ map comparison_tree rest.now)))) }
+    ensures { Adds result list.old list.new (completed_all pending literal.now number (test.now ∷ rest.now)) }
 {
     add_completed_by(alloc, pending, literal, number, test, list)?;
     add_completed(alloc, pending, literal, number + 1, rest, list)

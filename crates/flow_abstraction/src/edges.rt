@@ -1,12 +1,11 @@
 //! The first tests of a question, and the edges of both graphs.
-ghost use Rattle.std.specs.Prelude.{◌≡◌, ◌≤◌, length, map, IfOk, IfErr};
+ghost use Rattle.std.specs.Prelude.{◌≤◌, length, IfOk, IfErr};
 ghost use Rattle.kat_model.specs.declared.limits.TheConstants.{MAX_TESTS};
-ghost use Rattle.flow_model.specs.Polish.{graph_of};
 ghost use Rattle.flow_forms.specs.Comparisons.{comparison_tree};
-ghost use Rattle.flow_problem.specs.FlowProblems.{first_tests};
-ghost use Rattle.flow_abstraction.specs.PosedQuestion.{question_of, marks_of, HasFault};
-ghost use Rattle.flow_abstraction.specs.Working.Placed.{HasEdges};
-ghost use Rattle.flow_abstraction.specs.Working.Stages.{posed_by, ways_before, ways_after, HasPairEdges};
+ghost use Rattle.flow_abstraction.specs.PosedQuestion.{HasFault};
+ghost use Rattle.flow_abstraction.specs.Working.Stages.{posed_by, HasPairEdges};
+ghost use Rattle.flow_abstraction.specs.Working.Questions.{first_tests_of, HasWaysBefore, HasWaysAfter};
+ghost use Rattle.flow_edges.specs.Working.Views.{MakesList};
 
 use crate::fault::FlowFault;
 use crate::placed::{PlacedEdges, placed_edges};
@@ -40,10 +39,10 @@ fn tests_of(
     first: &PlacedEdges,
     second: &PlacedEdges,
 ) -> Result<Vec<FlowComparison>, FlowFault>
-    requires first { HasEdges (graph_of question.now.before.now) (ways_before (posed_by question.now)) first.now }
-    requires second { HasEdges (graph_of question.now.after.now) (ways_after (posed_by question.now)) second.now }
-    ensures made { IfOk result (λ v. map comparison_tree v.items ≡ first_tests (question_of (posed_by question.now)) (marks_of (posed_by question.now))) }
-    ensures few { IfOk result (λ _. length (first_tests (question_of (posed_by question.now)) (marks_of (posed_by question.now))) ≤ MAX_TESTS) }
+    requires first { HasWaysBefore question.now first.now }
+    requires second { HasWaysAfter question.now second.now }
+    ensures made { MakesList comparison_tree result (first_tests_of question.now) }
+    ensures few { IfOk result (λ _. length (first_tests_of question.now) ≤ MAX_TESTS) }
     ensures refused { IfErr result (HasFault (posed_by question.now)) }
 {
     Ok(test_rows(alloc, &first.edges, &second.edges)?)

@@ -1,15 +1,12 @@
 //! All facts between tests: F2, F3, F6 and F10 between comparisons, and F9 between intervals.
-ghost use Rattle.std.specs.Prelude.{◌≡◌, ◌+◌, ◌^◌, ◌<◌, ◌∷◌, ◌++◌, OnOk, IfOk, length, map, flat_map, option_map};
-ghost use Rattle.std.specs.List.{enumerate_from};
-ghost use Rattle.kat_model.specs.Stores.{modulus};
-ghost use Rattle.flow_forms.specs.Forms.{form_tree, constant};
-ghost use Rattle.flow_forms.specs.Arithmetic.{form_sum};
-ghost use Rattle.flow_forms.specs.Comparisons.{comparison_tree, literal_tree, compared_numbers};
-ghost use Rattle.flow_problem.specs.FlowFacts.{interval_of as interval_of_test, facts_between};
-ghost use Rattle.flow_abstraction.specs.CappedLists.{capped};
-ghost use Rattle.flow_abstraction.specs.HypothesisViews.{flow_hypothesis};
+ghost use Rattle.std.specs.Prelude.{◌≡◌, ◌+◌, ◌^◌, ◌<◌, ◌∷◌, IfOk, length, option_map};
+ghost use Rattle.flow_forms.specs.Comparisons.{comparison_tree, literal_tree};
+ghost use Rattle.flow_problem.specs.FlowFacts.{facts_between};
 ghost use Rattle.flow_abstraction.specs.IntervalViews.{interval_tree};
-ghost use Rattle.flow_abstraction.specs.FactLists.{converse, order_fact_by, equalities, third_ways, three_ways, next_numbers_at, next_numbers, first_facts, facts_by_list};
+ghost use Rattle.flow_abstraction.specs.FactLists.{converse, equalities};
+ghost use Rattle.flow_abstraction.specs.Working.Adding.{Adds, all_tests};
+ghost use Rattle.flow_abstraction.specs.Working.Facts.{test_of, order_fact_at, order_facts, third_ways_at, three_ways_at, all_three_ways, next_condition, IsNext, next_at, all_next, next_facts, first_facts_at, all_first_facts, all_facts_from, intervals_of_tests, facts_with_intervals};
+ghost use Rattle.flow_edges.specs.Working.Views.{Makes, MakesList};
 
 use crate::completion::{Pending, add_completed};
 use crate::hypothesis::{FlowHypothesis, FlowRule, push_hypothesis};
@@ -39,7 +36,7 @@ struct NumberedTest<'a> {
 
 // Whether two tests are `f < g` and `g < f`, the first of them before the second.
 fn is_converse(first: &NumberedTest<'_>, number: usize, second: &FlowComparison) -> bool
-    ensures { result ≡ converse (first.now.number, comparison_tree first.now.test.now) (number, comparison_tree second.now) }
+    ensures { result ≡ converse (test_of first.now) (number, comparison_tree second.now) }
 {
     match (first.test, second) {
         (FlowComparison::Less(v, d, e), FlowComparison::Less(w, f, g)) => {
@@ -57,7 +54,7 @@ fn add_order_fact(
     second: &FlowComparison,
     list: &mut Vec<FlowHypothesis>,
 ) -> Result<(), NoMemory>
-    ensures { OnOk result (map flow_hypothesis list.new.items ≡ capped MAX_HYPS (map flow_hypothesis list.old.items) (order_fact_by (first.now.number, comparison_tree first.now.test.now) (number, comparison_tree second.now))) }
+    ensures { Adds result list.old list.new (order_fact_at first.now number second.now) }
 {
     if !is_converse(first, number, second) {
         return Ok(());
@@ -77,7 +74,7 @@ fn add_order_facts(
     list: &mut Vec<FlowHypothesis>,
 ) -> Result<(), NoMemory>
     requires { number + length tests.now < 2 ^ 64 }
-    ensures { OnOk result (map flow_hypothesis list.new.items ≡ capped MAX_HYPS (map flow_hypothesis list.old.items) (flat_map (order_fact_by (first.now.number, comparison_tree first.now.test.now)) (enumerate_from number (map comparison_tree tests.now)))) }
+    ensures { Adds result list.old list.new (order_facts first.now number tests.now) }
 {
     match tests {
         [] => Ok(()),
@@ -95,7 +92,7 @@ fn add_order_facts_from(
     list: &mut Vec<FlowHypothesis>,
 ) -> Result<(), NoMemory>
     requires { number + length rest.now + 1 < 2 ^ 64 }
-    ensures { OnOk result (map flow_hypothesis list.new.items ≡ capped MAX_HYPS (map flow_hypothesis list.old.items) (flat_map (order_fact_by (first.now.number, comparison_tree first.now.test.now)) (enumerate_from number (comparison_tree second.now ∷ map comparison_tree rest.now)))) }
+    ensures { Adds result list.old list.new (order_facts first.now number (second.now ∷ rest.now)) }
 {
     add_order_fact(alloc, first, number, second, list)?;
     add_order_facts(alloc, first, number + 1, rest, list)
@@ -108,7 +105,7 @@ fn add_equalities(
     first: &NumberedTest<'_>,
     list: &mut Vec<FlowHypothesis>,
 ) -> Result<(), NoMemory>
-    ensures { OnOk result (map flow_hypothesis list.new.items ≡ capped MAX_HYPS (map flow_hypothesis list.old.items) (equalities (enumerate_from 0 (map comparison_tree tests.now)) (first.now.number, comparison_tree first.now.test.now))) }
+    ensures { Adds result list.old list.new (equalities (all_tests tests.now) (test_of first.now)) }
 {
     let _known = tests.len();
     let i = first.number;
@@ -130,7 +127,7 @@ fn add_third_ways(
     second: &FlowComparison,
     list: &mut Vec<FlowHypothesis>,
 ) -> Result<(), NoMemory>
-    ensures { OnOk result (map flow_hypothesis list.new.items ≡ capped MAX_HYPS (map flow_hypothesis list.old.items) (third_ways (enumerate_from 0 (map comparison_tree tests.now)) i j (comparison_tree second.now))) }
+    ensures { Adds result list.old list.new (third_ways_at tests.now i j second.now) }
 {
     let _known = tests.len();
     match second {
@@ -150,7 +147,7 @@ fn add_three_ways_of(
     second: &FlowComparison,
     list: &mut Vec<FlowHypothesis>,
 ) -> Result<(), NoMemory>
-    ensures { OnOk result (map flow_hypothesis list.new.items ≡ capped MAX_HYPS (map flow_hypothesis list.old.items) (three_ways (enumerate_from 0 (map comparison_tree tests.now)) (first.now.number, comparison_tree first.now.test.now) (number, comparison_tree second.now))) }
+    ensures { Adds result list.old list.new (three_ways_at tests.now first.now number second.now) }
 {
     if !is_converse(first, number, second) {
         return Ok(());
@@ -169,7 +166,7 @@ fn add_three_ways(
     list: &mut Vec<FlowHypothesis>,
 ) -> Result<(), NoMemory>
     requires { number + length others.now < 2 ^ 64 }
-    ensures { OnOk result (map flow_hypothesis list.new.items ≡ capped MAX_HYPS (map flow_hypothesis list.old.items) (flat_map (three_ways (enumerate_from 0 (map comparison_tree tests.now)) (first.now.number, comparison_tree first.now.test.now)) (enumerate_from number (map comparison_tree others.now)))) }
+    ensures { Adds result list.old list.new (all_three_ways tests.now first.now number others.now) }
 {
     match others {
         [] => Ok(()),
@@ -188,7 +185,7 @@ fn add_three_ways_from(
     list: &mut Vec<FlowHypothesis>,
 ) -> Result<(), NoMemory>
     requires { number + length rest.now + 1 < 2 ^ 64 }
-    ensures { OnOk result (map flow_hypothesis list.new.items ≡ capped MAX_HYPS (map flow_hypothesis list.old.items) (flat_map (three_ways (enumerate_from 0 (map comparison_tree tests.now)) (first.now.number, comparison_tree first.now.test.now)) (enumerate_from number (comparison_tree second.now ∷ map comparison_tree rest.now)))) }
+    ensures { Adds result list.old list.new (all_three_ways tests.now first.now number (second.now ∷ rest.now)) }
 {
     add_three_ways_of(alloc, tests, first, number, second, list)?;
     add_three_ways(alloc, tests, first, number + 1, rest, list)
@@ -221,7 +218,7 @@ fn add_next_numbers_at(
     second: &FlowComparison,
     list: &mut Vec<FlowHypothesis>,
 ) -> Result<(), NoMemory>
-    ensures { OnOk result (map flow_hypothesis list.new.items ≡ capped MAX_HYPS (map flow_hypothesis list.old.items) (next_numbers_at (enumerate_from 0 (map comparison_tree tests.now)) next.now.number (literal_tree next.now.less) (literal_tree next.now.equal) (number, comparison_tree second.now))) }
+    ensures { Adds result list.old list.new (next_at tests.now next.now number second.now) }
 {
     let _known = tests.len();
     if !is_comparison(&next.less, second) {
@@ -242,7 +239,7 @@ fn add_next_numbers(
     list: &mut Vec<FlowHypothesis>,
 ) -> Result<(), NoMemory>
     requires { number + length others.now < 2 ^ 64 }
-    ensures { OnOk result (map flow_hypothesis list.new.items ≡ capped MAX_HYPS (map flow_hypothesis list.old.items) (flat_map (next_numbers_at (enumerate_from 0 (map comparison_tree tests.now)) next.now.number (literal_tree next.now.less) (literal_tree next.now.equal)) (enumerate_from number (map comparison_tree others.now)))) }
+    ensures { Adds result list.old list.new (all_next tests.now next.now number others.now) }
 {
     match others {
         [] => Ok(()),
@@ -263,7 +260,7 @@ fn add_next_numbers_from(
     list: &mut Vec<FlowHypothesis>,
 ) -> Result<(), NoMemory>
     requires { number + length rest.now + 1 < 2 ^ 64 }
-    ensures { OnOk result (map flow_hypothesis list.new.items ≡ capped MAX_HYPS (map flow_hypothesis list.old.items) (flat_map (next_numbers_at (enumerate_from 0 (map comparison_tree tests.now)) next.now.number (literal_tree next.now.less) (literal_tree next.now.equal)) (enumerate_from number (comparison_tree second.now ∷ map comparison_tree rest.now)))) }
+    ensures { Adds result list.old list.new (all_next tests.now next.now number (second.now ∷ rest.now)) }
 {
     add_next_numbers_at(alloc, tests, next, number, second, list)?;
     add_next_numbers(alloc, tests, next, number + 1, rest, list)
@@ -277,7 +274,7 @@ fn next_literal(
     left: &FlowForm,
     right: &FlowForm,
 ) -> Result<FlowLiteral, NoMemory>
-    ensures { IfOk result (λ l. literal_tree l ≡ compared_numbers width rel (form_sum (modulus width) (form_tree left.now) (constant 1)) (form_tree right.now)) }
+    ensures { Makes literal_tree result (next_condition width rel left.now right.now) }
 {
     let next = sum(alloc, width, left.copy(alloc)?, FlowForm::Constant(1))?;
     let right = right.copy(alloc)?;
@@ -292,7 +289,7 @@ fn next_number(
     left: &FlowForm,
     right: &FlowForm,
 ) -> Result<NextNumber, NoMemory>
-    ensures { IfOk result (λ n. (n.number ≡ number) × (literal_tree n.less ≡ compared_numbers width Rel.Lt (form_sum (modulus width) (form_tree left.now) (constant 1)) (form_tree right.now)) × (literal_tree n.equal ≡ compared_numbers width Rel.Eq (form_sum (modulus width) (form_tree left.now) (constant 1)) (form_tree right.now))) }
+    ensures { IfOk result (IsNext number width left.now right.now) }
 {
     let less = next_literal(alloc, width, Rel::Lt, left, right)?;
     let equal = next_literal(alloc, width, Rel::Eq, left, right)?;
@@ -310,7 +307,7 @@ fn add_next_numbers_of(
     first: &NumberedTest<'_>,
     list: &mut Vec<FlowHypothesis>,
 ) -> Result<(), NoMemory>
-    ensures { OnOk result (map flow_hypothesis list.new.items ≡ capped MAX_HYPS (map flow_hypothesis list.old.items) (next_numbers (enumerate_from 0 (map comparison_tree tests.now)) (first.now.number, comparison_tree first.now.test.now))) }
+    ensures { Adds result list.old list.new (next_facts tests.now first.now) }
 {
     let _known = tests.len();
     match first.test {
@@ -331,7 +328,7 @@ fn add_first_facts(
     first: &NumberedTest<'_>,
     list: &mut Vec<FlowHypothesis>,
 ) -> Result<(), NoMemory>
-    ensures { OnOk result (map flow_hypothesis list.new.items ≡ capped MAX_HYPS (map flow_hypothesis list.old.items) (first_facts kind (enumerate_from 0 (map comparison_tree tests.now)) (first.now.number, comparison_tree first.now.test.now))) }
+    ensures { Adds result list.old list.new (first_facts_at kind tests.now first.now) }
 {
     if list.len() > MAX_HYPS {
         return Ok(());
@@ -356,7 +353,7 @@ fn add_facts(
     list: &mut Vec<FlowHypothesis>,
 ) -> Result<(), NoMemory>
     requires { number + length firsts.now < 2 ^ 64 }
-    ensures { OnOk result (map flow_hypothesis list.new.items ≡ capped MAX_HYPS (map flow_hypothesis list.old.items) (flat_map (first_facts kind (enumerate_from 0 (map comparison_tree tests.now))) (enumerate_from number (map comparison_tree firsts.now)))) }
+    ensures { Adds result list.old list.new (all_first_facts kind tests.now number firsts.now) }
 {
     match firsts {
         [] => Ok(()),
@@ -377,14 +374,14 @@ fn add_facts_from(
     list: &mut Vec<FlowHypothesis>,
 ) -> Result<(), NoMemory>
     requires { first.now.number + length rest.now + 1 < 2 ^ 64 }
-    ensures { OnOk result (map flow_hypothesis list.new.items ≡ capped MAX_HYPS (map flow_hypothesis list.old.items) (flat_map (first_facts kind (enumerate_from 0 (map comparison_tree tests.now))) (enumerate_from first.now.number (comparison_tree first.now.test.now ∷ map comparison_tree rest.now)))) }
+    ensures { Adds result list.old list.new (all_facts_from kind tests.now first.now rest.now) }
 {
     add_first_facts(alloc, kind, tests, first, list)?;
     add_facts(alloc, kind, tests, first.number + 1, rest, list)
 }
 
 fn intervals_of(alloc: Global, tests: &[FlowComparison]) -> Result<Vec<Option<Interval>>, NoMemory>
-    ensures { IfOk result (λ v. map (option_map interval_tree) v.items ≡ map interval_of_test (map comparison_tree tests.now)) }
+    ensures { MakesList (option_map interval_tree) result (intervals_of_tests tests.now) }
 {
     let mut list = Vec::new(alloc);
     for test in tests {
@@ -401,7 +398,7 @@ fn add_all_facts(
     intervals: &[Option<Interval>],
     list: &mut Vec<FlowHypothesis>,
 ) -> Result<(), NoMemory>
-    ensures { OnOk result (map flow_hypothesis list.new.items ≡ capped MAX_HYPS (map flow_hypothesis list.old.items) (facts_by_list (enumerate_from 0 (map comparison_tree tests.now)) (enumerate_from 0 (map (option_map interval_tree) intervals.now)))) }
+    ensures { Adds result list.old list.new (facts_with_intervals tests.now intervals.now) }
 {
     let _known = tests.len();
     add_facts(alloc, FactKind::Order, tests, 0, tests, list)?;
@@ -420,7 +417,7 @@ pub(crate) fn add_facts_between(
     tests: &[FlowComparison],
     list: &mut Vec<FlowHypothesis>,
 ) -> Result<(), NoMemory>
-    ensures { OnOk result (map flow_hypothesis list.new.items ≡ capped MAX_HYPS (map flow_hypothesis list.old.items) (facts_between (enumerate_from 0 (map comparison_tree tests.now)))) }
+    ensures { Adds result list.old list.new (facts_between (all_tests tests.now)) }
 {
     let intervals = intervals_of(alloc, tests)?;
     add_all_facts(alloc, tests, &intervals, list)

@@ -1,9 +1,11 @@
 //! The hypotheses of a question.
-ghost use Rattle.std.specs.Prelude.{◌≡◌, ◌++◌, [], ◌∷◌, map, IfOk, IfErr, OnOk};
+ghost use Rattle.std.specs.Prelude.{[], ◌∷◌, IfOk, IfErr};
 ghost use Rattle.kat_model.specs.Trees.{kat_tree};
-ghost use Rattle.flow_abstraction.specs.HypothesisViews.{flow_rule, flow_hypothesis};
+ghost use Rattle.flow_abstraction.specs.HypothesisViews.{flow_rule};
 ghost use Rattle.flow_abstraction.specs.PosedQuestion.{HasFault};
 ghost use Rattle.flow_abstraction.specs.Working.Stages.{posed_by, HasTables, HasReasons};
+ghost use Rattle.flow_abstraction.specs.Working.Adding.{HasRulesOf, HasTermsOf};
+ghost use Rattle.flow_edges.specs.Working.Views.{Appends};
 
 use crate::edges::Question;
 use crate::fault::FlowFault;
@@ -27,8 +29,8 @@ fn push_parts(
     terms: &mut Vec<Kat>,
     hypothesis: FlowHypothesis,
 ) -> Result<(), NoMemory>
-    ensures rule { OnOk result (map flow_rule rules.new.items ≡ map flow_rule rules.old.items ++ (flow_hypothesis hypothesis).rule ∷ []) }
-    ensures term { OnOk result (map kat_tree terms.new.items ≡ map kat_tree terms.old.items ++ (flow_hypothesis hypothesis).term ∷ []) }
+    ensures rule { Appends flow_rule result rules.old rules.new (flow_rule hypothesis.rule ∷ []) }
+    ensures term { Appends kat_tree result terms.old terms.new (kat_tree hypothesis.term ∷ []) }
 {
     let FlowHypothesis { rule, term } = hypothesis;
     append(rules, rule)?;
@@ -37,8 +39,8 @@ fn push_parts(
 
 // Splits hypotheses into their rules and their terms.
 fn rules_and_terms(alloc: Global, list: Vec<FlowHypothesis>) -> Result<Reasons, NoMemory>
-    ensures rules { IfOk result (λ r. map flow_rule r.rules.items ≡ map (λ h. h.rule) (map flow_hypothesis list.items)) }
-    ensures terms { IfOk result (λ r. map kat_tree r.terms.items ≡ map (λ h. h.term) (map flow_hypothesis list.items)) }
+    ensures rules { IfOk result (HasRulesOf list) }
+    ensures terms { IfOk result (HasTermsOf list) }
 {
     let mut rules = Vec::new(alloc);
     let mut terms = Vec::new(alloc);

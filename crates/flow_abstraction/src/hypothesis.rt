@@ -1,8 +1,6 @@
 //! Hypotheses of a flow problem, each with the rule that gives it.
-ghost use Rattle.std.specs.Prelude.{◌≡◌, [], ◌∷◌, OnOk, map};
-ghost use Rattle.kat_model.specs.Trees.{kat_tree};
-ghost use Rattle.flow_abstraction.specs.CappedLists.{capped};
-ghost use Rattle.flow_abstraction.specs.HypothesisViews.{flow_rule, flow_hypothesis};
+ghost use Rattle.std.specs.Prelude.{[], ◌∷◌};
+ghost use Rattle.flow_abstraction.specs.Working.Adding.{Adds, hypothesis_of};
 
 use kat_model::{Kat, MAX_HYPS, NoMemory, append};
 
@@ -39,7 +37,7 @@ pub(crate) fn push_hypothesis(
     rule: FlowRule,
     term: Kat,
 ) -> Result<(), NoMemory>
-    ensures { OnOk result (map flow_hypothesis list.new.items ≡ capped MAX_HYPS (map flow_hypothesis list.old.items) (record { rule = flow_rule rule; term = kat_tree term } ∷ [])) }
+    ensures { Adds result list.old list.new (hypothesis_of rule term ∷ []) }
 {
     if list.len() > MAX_HYPS {
         return Ok(());

@@ -1,10 +1,12 @@
 //! Tests as intervals: that a form or its opposite is in an arc.
-ghost use Rattle.std.specs.Prelude.{◌≡◌, ◌+◌, ◌-◌, ◌%◌, ◌<◌, IfOk, Some, option_map, map};
+ghost use Rattle.std.specs.Prelude.{◌≡◌, ◌+◌, ◌-◌, ◌%◌, ◌<◌, IfOk, Some};
 ghost use Rattle.kat_model.specs.Stores.{modulus as modulus_of};
 ghost use Rattle.flow_forms.specs.Forms.{form_tree};
 ghost use Rattle.flow_forms.specs.Comparisons.{comparison_tree};
 ghost use Rattle.flow_problem.specs.FlowFacts.{varying_part as varying_part_of, constant_part as constant_part_of, interval_of_sum as interval_of_form, interval_below as interval_of_bound, interval_of as interval_of_test, is_same_interval_form as has_same_form};
 ghost use Rattle.flow_abstraction.specs.IntervalViews.{interval_tree};
+ghost use Rattle.flow_abstraction.specs.Working.IntervalFacts.{MakesInterval};
+ghost use Rattle.flow_edges.specs.Working.Views.{Makes};
 
 mod arcs;
 pub(crate) mod interval_facts;
@@ -64,7 +66,7 @@ fn interval_of_sum(
     constant: u64,
     bound: u64,
 ) -> Result<Interval, NoMemory>
-    ensures { IfOk result (λ i. interval_tree i ≡ interval_of_form width (form_tree form) constant bound) }
+    ensures { Makes interval_tree result (interval_of_form width (form_tree form) constant bound) }
 {
     let m = modulus(width);
     let lesser = canonical(alloc, width, form.copy(alloc)?)?;
@@ -88,7 +90,7 @@ fn interval_below(
     form: &FlowForm,
     bound: u64,
 ) -> Result<Option<Interval>, NoMemory>
-    ensures { IfOk result (λ o. option_map interval_tree o ≡ interval_of_bound width (form_tree form.now) bound) }
+    ensures { MakesInterval result (interval_of_bound width (form_tree form.now) bound) }
 {
     if bound as u128 >= modulus(width) {
         return Ok(None);
@@ -103,7 +105,7 @@ pub(crate) fn interval_of(
     alloc: Global,
     test: &FlowComparison,
 ) -> Result<Option<Interval>, NoMemory>
-    ensures { IfOk result (λ o. option_map interval_tree o ≡ interval_of_test (comparison_tree test.now)) }
+    ensures { MakesInterval result (interval_of_test (comparison_tree test.now)) }
 {
     match test {
         FlowComparison::Zero(width, form) => interval_below(alloc, *width, form, 1),

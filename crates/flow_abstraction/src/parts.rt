@@ -1,12 +1,10 @@
 //! The tests and actions of a question, and the terms of its graphs.
-ghost use Rattle.std.specs.Prelude.{◌≡◌, true, false, IfOk, IfErr, map};
+ghost use Rattle.std.specs.Prelude.{◌≡◌, true, IfOk, IfErr};
 ghost use Rattle.kat_model.specs.Trees.{kat_tree};
-ghost use Rattle.flow_model.specs.Polish.{graph_of};
-ghost use Rattle.flow_forms.specs.Comparisons.{comparison_tree};
-ghost use Rattle.flow_problem.specs.FlowProblems.{first_tests, edges_before, edges_after};
-ghost use Rattle.flow_abstraction.specs.PosedQuestion.{question_of, marks_of, HasFault};
-ghost use Rattle.flow_abstraction.specs.Working.Placed.{HasEdges};
+ghost use Rattle.flow_abstraction.specs.PosedQuestion.{HasFault};
 ghost use Rattle.flow_abstraction.specs.Working.Stages.{posed_by, KeepsLimits, HasTables, IsSide, side_fits, HasSides};
+ghost use Rattle.flow_abstraction.specs.Working.Questions.{first_tests_of, HasEdgesBefore, HasEdgesAfter, TermOnlyIfNot};
+ghost use Rattle.flow_edges.specs.Working.Views.{comparison_trees};
 
 use crate::edges::Question;
 use crate::fault::FlowFault;
@@ -40,9 +38,9 @@ pub(crate) fn tables_of(
     before: &PlacedEdges,
     after: &PlacedEdges,
 ) -> Result<Tables, FlowFault>
-    requires tests { map comparison_tree tests.items ≡ first_tests (question_of (posed_by question.now)) (marks_of (posed_by question.now)) }
-    requires before { HasEdges (graph_of question.now.before.now) (edges_before (question_of (posed_by question.now)) (marks_of (posed_by question.now))) before.now }
-    requires after { HasEdges (graph_of question.now.after.now) (edges_after (question_of (posed_by question.now)) (marks_of (posed_by question.now))) after.now }
+    requires tests { comparison_trees tests.items ≡ first_tests_of question.now }
+    requires before { HasEdgesBefore question.now before.now }
+    requires after { HasEdgesAfter question.now after.now }
     ensures made { IfOk result (HasTables (posed_by question.now)) }
     ensures refused { IfErr result (HasFault (posed_by question.now)) }
 {
@@ -55,7 +53,7 @@ pub(crate) fn tables_of(
 fn side_of(alloc: Global, tables: &Tables, placed: &PlacedEdges) -> Result<Kat, TermFault>
     ensures made { IfOk result (λ e. IsSide tables.now placed.now (kat_tree e)) }
     ensures fits { IfOk result (λ _. side_fits tables.now placed.now ≡ true) }
-    ensures refused { IfErr result (λ f. f ≡ TermFault.TooLarge → side_fits tables.now placed.now ≡ false) }
+    ensures refused { TermOnlyIfNot result (side_fits tables.now placed.now) }
 {
     graph_term(
         alloc,
@@ -76,8 +74,8 @@ pub(crate) fn sides_of(
 ) -> Result<Sides, FlowFault>
     requires limits { KeepsLimits (posed_by question.now) }
     requires tables { HasTables (posed_by question.now) tables.now }
-    requires before { HasEdges (graph_of question.now.before.now) (edges_before (question_of (posed_by question.now)) (marks_of (posed_by question.now))) before.now }
-    requires after { HasEdges (graph_of question.now.after.now) (edges_after (question_of (posed_by question.now)) (marks_of (posed_by question.now))) after.now }
+    requires before { HasEdgesBefore question.now before.now }
+    requires after { HasEdgesAfter question.now after.now }
     ensures made { IfOk result (HasSides (posed_by question.now)) }
     ensures refused { IfErr result (HasFault (posed_by question.now)) }
 {

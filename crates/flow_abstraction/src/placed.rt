@@ -1,14 +1,10 @@
 //! The edges from the places of a graph.
-ghost use Rattle.std.specs.Prelude.{◌≡◌, ◌∷◌, ◌++◌, [], true, false, length, map, filter, slice_index_or, IfOk, IfErr, OnOk, if◌then◌else◌};
-ghost use Rattle.std.specs.List.{range_with_len};
-ghost use Rattle.flow_model.specs.Polish.{graph_of};
-ghost use Rattle.flow_forms.specs.Comparisons.{comparison_tree};
-ghost use Rattle.flow_problem.specs.Edges.{way_edges};
-ghost use Rattle.flow_problem.specs.FlowProblems.{edges_with};
-ghost use Rattle.flow_problem.specs.PlacedProblems.{graph_marks};
+ghost use Rattle.std.specs.Prelude.{◌≡◌, ◌∷◌, ◌++◌, [], true, false, map, slice_index_or, IfOk, IfErr, OnOk};
 ghost use Rattle.flow_edges.specs.GraphRows.{row_edges};
-ghost use Rattle.flow_abstraction.specs.Working.Placed.{AllAre, table_edges, AreFew, HasWayFault, HasEdges, IsSound, HasGraphFault};
-ghost use Rattle.flow_abstraction.specs.Working.Splits.{AreShort, HasLongRow};
+ghost use Rattle.flow_abstraction.specs.Working.Placed.{AllAre, IsSound, HasGraphFault};
+ghost use Rattle.flow_abstraction.specs.Working.Splits.{AreShort};
+ghost use Rattle.flow_abstraction.specs.Working.Questions.{HasWayEdges, place_if_any, places_of, rows_at, AreFewAt, HasFaultAt, rows_if_split, IsSplit, LongRowOnlyIf};
+ghost use Rattle.flow_edges.specs.Working.Views.{Appends, MakesList};
 
 use crate::fault::FlowFault;
 use crate::split::split_rows;
@@ -48,10 +44,10 @@ impl PlacedEdges {
         splits: bool,
     ) -> Result<PlacedEdges, SplitFault>
         ensures places { IfOk result (λ p. p.places.items ≡ self.places.items) }
-        ensures made { IfOk result (λ p. map row_edges p.edges.items ≡ map (edges_with splits (map comparison_tree tests.now) sorts.now) (map row_edges self.edges.items)) }
+        ensures made { IfOk result (IsSplit splits sorts.now tests.now self) }
         ensures few { IfOk result (λ p. splits ≡ true → AreShort (map row_edges p.edges.items)) }
         ensures splits { IfErr result (λ e. e ≡ SplitFault.TooManyPaths → splits ≡ true) }
-        ensures many { IfErr result (λ e. e ≡ SplitFault.TooManyPaths → HasLongRow (map (edges_with splits (map comparison_tree tests.now) sorts.now) (map row_edges self.edges.items))) }
+        ensures many { LongRowOnlyIf result (rows_if_split splits sorts.now tests.now self) }
     {
         if !splits {
             return Ok(self);
@@ -80,7 +76,7 @@ fn is_place(places: &[bool], block: usize) -> bool
 // Appends a block if it is a place.
 #[tactic(auto, using(flow_ways::proofs::CourseLists::none_then))]
 fn push_place(places: &[bool], block: usize, list: &mut Vec<usize>) -> Result<(), NoMemory>
-    ensures { OnOk result (list.new.items ≡ list.old.items ++ (if slice_index_or places.now block false then block ∷ [] else [])) }
+    ensures { OnOk result (list.new.items ≡ list.old.items ++ place_if_any places.now block) }
 {
     if is_place(places, block) {
         list.push(block)?;
@@ -90,7 +86,7 @@ fn push_place(places: &[bool], block: usize, list: &mut Vec<usize>) -> Result<()
 
 // Returns the blocks that are places, in order.
 fn place_list(alloc: Global, places: &[bool]) -> Result<Vec<usize>, NoMemory>
-    ensures { IfOk result (λ v. v.items ≡ filter (λ k. slice_index_or places.now k false) (range_with_len 0 (length places.now))) }
+    ensures { IfOk result (λ v. v.items ≡ places_of places.now) }
 {
     let mut list = Vec::new(alloc);
     for block in 0..places.len() {
@@ -102,7 +98,7 @@ fn place_list(alloc: Global, places: &[bool]) -> Result<Vec<usize>, NoMemory>
 /// Appends the edges from one more place.
 #[tactic(auto, using(flow_ways::proofs::CourseLists::map_pushed))]
 pub(crate) fn push_row(list: &mut Vec<Vec<FlowEdge>>, row: Vec<FlowEdge>) -> Result<(), NoMemory>
-    ensures { OnOk result (map row_edges list.new.items ≡ map row_edges list.old.items ++ row_edges row ∷ []) }
+    ensures { Appends row_edges result list.old list.new (row_edges row ∷ []) }
 {
     append(list, row)
 }
@@ -116,9 +112,9 @@ fn push_rows(
     blocks: &[usize],
     list: &mut Vec<Vec<FlowEdge>>,
 ) -> Result<(), WayFault>
-    ensures made { OnOk result (map row_edges list.new.items ≡ map row_edges list.old.items ++ map (table_edges graph.now.sorts.now graph.now.blocks.now graph.now.places.now graph.now.live.now) blocks.now) }
-    ensures few { OnOk result (AllAre (AreFew graph.now.sorts.now graph.now.blocks.now graph.now.places.now) blocks.now) }
-    ensures refused { IfErr result (HasWayFault graph.now.sorts.now graph.now.blocks.now graph.now.places.now blocks.now) }
+    ensures made { Appends row_edges result list.old list.new (rows_at graph.now blocks.now) }
+    ensures few { OnOk result (AllAre (AreFewAt graph.now) blocks.now) }
+    ensures refused { IfErr result (HasFaultAt graph.now blocks.now) }
 {
     match blocks {
         [] => Ok(()),
@@ -135,9 +131,9 @@ fn push_rows_from(
     rest: &[usize],
     list: &mut Vec<Vec<FlowEdge>>,
 ) -> Result<(), WayFault>
-    ensures made { OnOk result (map row_edges list.new.items ≡ map row_edges list.old.items ++ table_edges graph.now.sorts.now graph.now.blocks.now graph.now.places.now graph.now.live.now block ∷ map (table_edges graph.now.sorts.now graph.now.blocks.now graph.now.places.now graph.now.live.now) rest.now) }
-    ensures few { OnOk result (AllAre (AreFew graph.now.sorts.now graph.now.blocks.now graph.now.places.now) (block ∷ rest.now)) }
-    ensures refused { IfErr result (HasWayFault graph.now.sorts.now graph.now.blocks.now graph.now.places.now (block ∷ rest.now)) }
+    ensures made { Appends row_edges result list.old list.new (rows_at graph.now (block ∷ rest.now)) }
+    ensures few { OnOk result (AllAre (AreFewAt graph.now) (block ∷ rest.now)) }
+    ensures refused { IfErr result (HasFaultAt graph.now (block ∷ rest.now)) }
 {
     let row = edges_from(
         alloc,
@@ -152,9 +148,9 @@ fn push_rows_from(
 }
 
 fn rows_of(alloc: Global, graph: &Marked, blocks: &[usize]) -> Result<Vec<Vec<FlowEdge>>, WayFault>
-    ensures made { IfOk result (λ list. map row_edges list.items ≡ map (table_edges graph.now.sorts.now graph.now.blocks.now graph.now.places.now graph.now.live.now) blocks.now) }
-    ensures few { IfOk result (λ _. AllAre (AreFew graph.now.sorts.now graph.now.blocks.now graph.now.places.now) blocks.now) }
-    ensures refused { IfErr result (HasWayFault graph.now.sorts.now graph.now.blocks.now graph.now.places.now blocks.now) }
+    ensures made { MakesList row_edges result (rows_at graph.now blocks.now) }
+    ensures few { IfOk result (λ _. AllAre (AreFewAt graph.now) blocks.now) }
+    ensures refused { IfErr result (HasFaultAt graph.now blocks.now) }
 {
     let mut list = Vec::new(alloc);
     push_rows(alloc, graph, blocks, &mut list)?;
@@ -169,7 +165,7 @@ pub(crate) fn placed_edges(
     sorts: &[Sort],
     blocks: &[Block],
 ) -> Result<PlacedEdges, FlowFault>
-    ensures made { IfOk result (HasEdges (graph_of blocks.now) (way_edges (graph_of blocks.now) sorts.now (graph_marks (graph_of blocks.now)))) }
+    ensures made { IfOk result (HasWayEdges sorts.now blocks.now) }
     ensures sound { IfOk result (λ _. IsSound sorts.now blocks.now) }
     ensures refused { IfErr result (HasGraphFault sorts.now blocks.now) }
 {

@@ -1,10 +1,8 @@
 //! All hypotheses of a flow problem.
-ghost use Rattle.std.specs.Prelude.{◌≡◌, ◌<◌, ◌≤◌, IfOk, IfErr, OnOk, length, map};
-ghost use Rattle.flow_forms.specs.Comparisons.{comparison_tree};
-ghost use Rattle.flow_edges.specs.EdgeViews.{flow_action};
-ghost use Rattle.flow_problem.specs.FlowFacts.{flow_hypotheses};
-ghost use Rattle.flow_abstraction.specs.CappedLists.{capped};
-ghost use Rattle.flow_abstraction.specs.HypothesisViews.{flow_hypothesis};
+ghost use Rattle.std.specs.Prelude.{◌<◌, ◌≤◌, IfOk, length};
+ghost use Rattle.flow_abstraction.specs.Working.Adding.{Adds, MakesFacts};
+ghost use Rattle.flow_abstraction.specs.Working.Questions.{TooManyOnlyIf};
+ghost use Rattle.flow_abstraction.specs.Working.Assignments.{all_hypotheses};
 
 use crate::assignment::add_assignments_facts;
 use crate::facts::add_facts_between;
@@ -25,7 +23,7 @@ fn add_hypotheses(
     actions: &[FlowAction],
     list: &mut Vec<FlowHypothesis>,
 ) -> Result<(), NoMemory>
-    ensures { OnOk result (map flow_hypothesis list.new.items ≡ capped MAX_HYPS (map flow_hypothesis list.old.items) (flow_hypotheses sorts.now (map comparison_tree tests.now) (map flow_action actions.now))) }
+    ensures { Adds result list.old list.new (all_hypotheses sorts.now tests.now actions.now) }
 {
     add_assignments_facts(alloc, sorts, tests, actions, list)?;
     add_facts_between(alloc, tests, list)
@@ -40,9 +38,9 @@ pub(crate) fn hypotheses(
     tests: &[FlowComparison],
     actions: &[FlowAction],
 ) -> Result<Vec<FlowHypothesis>, HypothesisFault>
-    ensures made { IfOk result (λ v. map flow_hypothesis v.items ≡ flow_hypotheses sorts.now (map comparison_tree tests.now) (map flow_action actions.now)) }
+    ensures made { MakesFacts result (all_hypotheses sorts.now tests.now actions.now) }
     ensures few { IfOk result (λ v. length v.items ≤ MAX_HYPS) }
-    ensures many { IfErr result (λ e. e ≡ HypothesisFault.TooMany → MAX_HYPS < length (flow_hypotheses sorts.now (map comparison_tree tests.now) (map flow_action actions.now))) }
+    ensures many { TooManyOnlyIf result (all_hypotheses sorts.now tests.now actions.now) }
 {
     let mut list = Vec::new(alloc);
     add_hypotheses(alloc, sorts, tests, actions, &mut list)?;

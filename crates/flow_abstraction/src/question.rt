@@ -8,6 +8,7 @@ ghost use Rattle.flow_problem.specs.PlacedProblems.{IsFlowProblem};
 ghost use Rattle.flow_abstraction.specs.PosedQuestion.{posed, question_of, HasFault, HasNoFault};
 ghost use Rattle.flow_abstraction.specs.Abstracts.{flow_problem_of};
 ghost use Rattle.flow_abstraction.specs.Working.Stages.{posed_by, KeepsLimits, HasPairEdges, HasTables, HasReasons, HasSides};
+ghost use Rattle.flow_abstraction.specs.Working.Questions.{IsProblemOf, HasOwnRules};
 
 use crate::edges::{PairEdges, Question, pair_edges};
 use crate::fault::FlowFault;
@@ -52,8 +53,8 @@ fn with_parts(
     requires tables { HasTables (posed_by question.now) tables }
     requires reasons { HasReasons (posed_by question.now) reasons }
     requires sides { HasSides (posed_by question.now) sides }
-    ensures made { IfOk result (λ a. IsFlowProblem (question_of (posed_by question.now)) (flow_problem_of a)) }
-    ensures rules { IfOk result (λ a. map flow_rule a.rules.items ≡ map (λ h. h.rule) (flow_hypotheses question.now.sorts.now (map comparison_tree a.tests.items) (map flow_action a.actions.items))) }
+    ensures made { IfOk result (IsProblemOf question.now) }
+    ensures rules { IfOk result (HasOwnRules question.now.sorts.now) }
     ensures faultless { IfOk result (λ _. HasNoFault (posed_by question.now)) }
     ensures refused { IfErr result (HasFault (posed_by question.now)) }
 {
@@ -79,8 +80,8 @@ fn problem_with(
     edges: PairEdges,
 ) -> Result<FlowAbstract, FlowFault>
     requires { HasPairEdges (posed_by question.now) edges }
-    ensures made { IfOk result (λ a. IsFlowProblem (question_of (posed_by question.now)) (flow_problem_of a)) }
-    ensures rules { IfOk result (λ a. map flow_rule a.rules.items ≡ map (λ h. h.rule) (flow_hypotheses question.now.sorts.now (map comparison_tree a.tests.items) (map flow_action a.actions.items))) }
+    ensures made { IfOk result (IsProblemOf question.now) }
+    ensures rules { IfOk result (HasOwnRules question.now.sorts.now) }
     ensures faultless { IfOk result (λ _. HasNoFault (posed_by question.now)) }
     ensures refused { IfErr result (HasFault (posed_by question.now)) }
 {

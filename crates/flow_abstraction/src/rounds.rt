@@ -1,12 +1,7 @@
 //! Rounds: the comparisons that hold before an action exactly where tests hold after it become tests.
-ghost use Rattle.std.specs.Prelude.{◌≡◌, ◌∷◌, IfOk, OnOk, map, flat_map, option_map};
-ghost use Rattle.flow_forms.specs.Forms.{form_tree};
-ghost use Rattle.flow_forms.specs.Comparisons.{comparison_tree, literal_tree};
-ghost use Rattle.flow_ways.specs.ActionTrees.{set_tree};
-ghost use Rattle.flow_edges.specs.EdgeViews.{flow_action};
-ghost use Rattle.flow_problem.specs.Edges.{assigned};
-ghost use Rattle.flow_problem.specs.FlowRounds.{comparisons_if_any, comparisons_before, with_comparison, with_comparisons, flow_round, flow_rounds};
-ghost use Rattle.flow_abstraction.specs.LiteralsWith.{literal_with as literal_with_forms, comparisons_with as all_with_forms};
+ghost use Rattle.std.specs.Prelude.{◌≡◌, ◌∷◌, IfOk, OnOk, map};
+ghost use Rattle.flow_forms.specs.Comparisons.{comparison_tree};
+ghost use Rattle.flow_abstraction.specs.Working.Rounds.{Adds, AddsOne, comparisons_in, before_one, before_all, before_sets, before_action, before_actions, IsRound, AreRounds};
 
 use crate::after::literal_with;
 use crate::assigned_forms::forms_after;
@@ -22,7 +17,7 @@ fn add_comparison(
     table: &mut Vec<FlowComparison>,
     comparison: FlowComparison,
 ) -> Result<(), NoMemory>
-    ensures { OnOk result (map comparison_tree table.new.items ≡ with_comparison (map comparison_tree table.old.items) (comparison_tree comparison)) }
+    ensures { AddsOne result table.old table.new (comparison_tree comparison) }
 {
     if table.len() >= MAX_TESTS || has_row(table, &comparison) {
         return Ok(());
@@ -35,7 +30,7 @@ fn add_literal(
     table: &mut Vec<FlowComparison>,
     literal: Option<FlowLiteral>,
 ) -> Result<(), NoMemory>
-    ensures { OnOk result (map comparison_tree table.new.items ≡ with_comparisons (map comparison_tree table.old.items) (comparisons_if_any (option_map literal_tree literal))) }
+    ensures { Adds result table.old table.new (comparisons_in literal) }
 {
     match literal {
         None => Ok(()),
@@ -55,7 +50,7 @@ fn add_before(
     comparison: &FlowComparison,
     table: &mut Vec<FlowComparison>,
 ) -> Result<(), NoMemory>
-    ensures { OnOk result (map comparison_tree table.new.items ≡ with_comparisons (map comparison_tree table.old.items) (comparisons_if_any (literal_with_forms sorts.now (map set_tree sets.now) (map form_tree forms.now) (comparison_tree comparison.now)))) }
+    ensures { Adds result table.old table.new (before_one sorts.now sets.now forms.now comparison.now) }
 {
     if table.len() >= MAX_TESTS {
         return Ok(());
@@ -74,7 +69,7 @@ fn add_all_before(
     comparisons: &[FlowComparison],
     table: &mut Vec<FlowComparison>,
 ) -> Result<(), NoMemory>
-    ensures { OnOk result (map comparison_tree table.new.items ≡ with_comparisons (map comparison_tree table.old.items) (all_with_forms sorts.now (map set_tree sets.now) (map form_tree forms.now) (map comparison_tree comparisons.now))) }
+    ensures { Adds result table.old table.new (before_all sorts.now sets.now forms.now comparisons.now) }
 {
     match comparisons {
         [] => Ok(()),
@@ -92,7 +87,7 @@ fn add_all_before_from(
     rest: &[FlowComparison],
     table: &mut Vec<FlowComparison>,
 ) -> Result<(), NoMemory>
-    ensures { OnOk result (map comparison_tree table.new.items ≡ with_comparisons (map comparison_tree table.old.items) (all_with_forms sorts.now (map set_tree sets.now) (map form_tree forms.now) (comparison_tree first.now ∷ map comparison_tree rest.now))) }
+    ensures { Adds result table.old table.new (before_all sorts.now sets.now forms.now (first.now ∷ rest.now)) }
 {
     add_before(alloc, sorts, sets, forms, first, table)?;
     add_all_before(alloc, sorts, sets, forms, rest, table)
@@ -107,7 +102,7 @@ fn add_assigned(
     sets: &[Option<FlowForm>],
     table: &mut Vec<FlowComparison>,
 ) -> Result<(), NoMemory>
-    ensures { OnOk result (map comparison_tree table.new.items ≡ with_comparisons (map comparison_tree table.old.items) (comparisons_before sorts.now (map comparison_tree comparisons.now) (assigned (map set_tree sets.now)))) }
+    ensures { Adds result table.old table.new (before_sets sorts.now comparisons.now sets.now) }
 {
     let forms = forms_after(alloc, sorts, sets)?;
     add_all_before(alloc, sorts, sets, &forms, comparisons, table)
@@ -121,7 +116,7 @@ fn add_before_action(
     action: &FlowAction,
     table: &mut Vec<FlowComparison>,
 ) -> Result<(), NoMemory>
-    ensures { OnOk result (map comparison_tree table.new.items ≡ with_comparisons (map comparison_tree table.old.items) (comparisons_before sorts.now (map comparison_tree comparisons.now) (flow_action action.now))) }
+    ensures { Adds result table.old table.new (before_action sorts.now comparisons.now action.now) }
 {
     match action {
         FlowAction::Assigned(sets) => add_assigned(alloc, sorts, comparisons, sets, table),
@@ -138,7 +133,7 @@ fn add_before_actions(
     actions: &[FlowAction],
     table: &mut Vec<FlowComparison>,
 ) -> Result<(), NoMemory>
-    ensures { OnOk result (map comparison_tree table.new.items ≡ with_comparisons (map comparison_tree table.old.items) (flat_map (comparisons_before sorts.now (map comparison_tree comparisons.now)) (map flow_action actions.now))) }
+    ensures { Adds result table.old table.new (before_actions sorts.now comparisons.now actions.now) }
 {
     match actions {
         [] => Ok(()),
@@ -157,7 +152,7 @@ fn add_before_actions_from(
     rest: &[FlowAction],
     table: &mut Vec<FlowComparison>,
 ) -> Result<(), NoMemory>
-    ensures { OnOk result (map comparison_tree table.new.items ≡ with_comparisons (map comparison_tree table.old.items) (flat_map (comparisons_before sorts.now (map comparison_tree comparisons.now)) (flow_action first.now ∷ map flow_action rest.now))) }
+    ensures { Adds result table.old table.new (before_actions sorts.now comparisons.now (first.now ∷ rest.now)) }
 {
     add_before_action(alloc, sorts, comparisons, first, table)?;
     add_before_actions(alloc, sorts, comparisons, rest, table)
@@ -180,7 +175,7 @@ fn add_round(
     actions: &[FlowAction],
     table: &mut Vec<FlowComparison>,
 ) -> Result<(), NoMemory>
-    ensures { OnOk result (map comparison_tree table.new.items ≡ flow_round sorts.now (map flow_action actions.now) (map comparison_tree table.old.items)) }
+    ensures { OnOk result (IsRound sorts.now actions.now table.old table.new) }
 {
     let comparisons = copies(alloc, table)?;
     add_before_actions(alloc, sorts, &comparisons, actions, table)
@@ -195,7 +190,7 @@ fn add_rounds(
     actions: &[FlowAction],
     table: &mut Vec<FlowComparison>,
 ) -> Result<(), NoMemory>
-    ensures { OnOk result (map comparison_tree table.new.items ≡ flow_rounds rounds sorts.now (map flow_action actions.now) (map comparison_tree table.old.items)) }
+    ensures { OnOk result (AreRounds rounds sorts.now actions.now table.old table.new) }
 {
     if rounds == 0 {
         return Ok(());
@@ -218,7 +213,7 @@ pub(crate) fn with_rounds(
     actions: &[FlowAction],
     table: Vec<FlowComparison>,
 ) -> Result<Vec<FlowComparison>, NoMemory>
-    ensures { IfOk result (λ v. map comparison_tree v.items ≡ flow_rounds rounds sorts.now (map flow_action actions.now) (map comparison_tree table.items)) }
+    ensures { IfOk result (AreRounds rounds sorts.now actions.now table) }
 {
     let mut tests = table;
     add_rounds(alloc, rounds, sorts, actions, &mut tests)?;

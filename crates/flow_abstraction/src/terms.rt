@@ -2,7 +2,9 @@
 ghost use Rattle.std.specs.Prelude.{◌≡◌, IfOk};
 ghost use Rattle.kat_model.specs.Trees.{test, product, test_tree, kat_tree};
 ghost use Rattle.flow_problem.specs.Substitutions.{complement_of};
-ghost use Rattle.flow_problem.specs.FlowFacts.{never_both as never_both_of, none_of_three as none_of, literal_test as literal_test_of};
+ghost use Rattle.flow_problem.specs.FlowFacts.{never_both as never_both_of, literal_test as literal_test_of};
+ghost use Rattle.flow_abstraction.specs.Working.Adding.{none_of_tests};
+ghost use Rattle.flow_edges.specs.Working.Views.{Makes};
 
 use kat_model::{Kat, NoMemory, Test};
 use std::alloc::Global;
@@ -26,7 +28,7 @@ pub(crate) fn literal_test(alloc: Global, number: usize, holds: bool) -> Result<
 
 /// Returns the product of two tests.
 pub(crate) fn both(alloc: Global, first: Test, second: Test) -> Result<Kat, NoMemory>
-    ensures { IfOk result (λ e. kat_tree e ≡ product (test (test_tree first)) (test (test_tree second))) }
+    ensures { Makes kat_tree result (product (test (test_tree first)) (test (test_tree second))) }
 {
     Kat::new_seq(alloc, Kat::Test(first), Kat::Test(second))
 }
@@ -45,7 +47,7 @@ pub(crate) fn none_of_three(
     second: Test,
     third: Test,
 ) -> Result<Kat, NoMemory>
-    ensures { IfOk result (λ e. kat_tree e ≡ none_of (test_tree first) (test_tree second) (test_tree third)) }
+    ensures { Makes kat_tree result (none_of_tests first second third) }
 {
     let end = both(alloc, second, third)?;
     Kat::new_seq(alloc, Kat::Test(first), end)

@@ -3,7 +3,8 @@ ghost use Rattle.std.specs.Prelude.{◌≡◌, ◌+◌, ◌<◌, ◌^◌, ◌∷
 ghost use Rattle.flow_forms.specs.Forms.{form_tree};
 ghost use Rattle.flow_forms.specs.Comparisons.{comparison_tree};
 ghost use Rattle.flow_ways.specs.ActionTrees.{set_tree};
-ghost use Rattle.flow_problem.specs.Substitutions.{has_variable as form_has_variable, comparison_has as comparison_has_variable, some_set as some_set_has, sets_cell_of as sets_cell};
+ghost use Rattle.flow_problem.specs.Substitutions.{has_variable as form_has_variable, comparison_has as comparison_has_variable, sets_cell_of as sets_cell};
+ghost use Rattle.flow_abstraction.specs.Working.Substituted.{some_set_in};
 
 use flow_forms::{FlowComparison, FlowForm};
 
@@ -41,7 +42,7 @@ fn comparison_has(comparison: &FlowComparison, variable: usize) -> bool
 #[cycle(some_set)]
 fn some_set(comparison: &FlowComparison, number: usize, sets: &[Option<FlowForm>]) -> bool
     requires { number + length sets.now < 2 ^ 64 }
-    ensures { result ≡ some_set_has (λ x. comparison_has_variable x (comparison_tree comparison.now)) number (map set_tree sets.now) }
+    ensures { result ≡ some_set_in comparison.now number sets.now }
 {
     match sets {
         [] => false,
@@ -58,7 +59,7 @@ fn some_set_from(
     rest: &[Option<FlowForm>],
 ) -> bool
     requires { number + length rest.now + 1 < 2 ^ 64 }
-    ensures { result ≡ some_set_has (λ x. comparison_has_variable x (comparison_tree comparison.now)) number (set_tree set.now ∷ map set_tree rest.now) }
+    ensures { result ≡ some_set_in comparison.now number (set.now ∷ rest.now) }
 {
     match set {
         None => some_set(comparison, number + 1, rest),

@@ -1,8 +1,9 @@
 //! Arcs of the numbers modulo 2 to a width.
 ghost use Rattle.std.specs.Prelude.{◌≡◌, ◌≤◌, ◌<◌, ◌^◌, ◌&&◌, [], ◌∷◌};
 ghost use Rattle.kat_model.specs.Stores.{modulus as modulus_of};
-ghost use Rattle.flow_problem.specs.FlowFacts.{lies_in as is_in_arc, other_arc as arc_outside, literal_arc, have_common as have_common_number, is_least as are_least};
+ghost use Rattle.flow_problem.specs.FlowFacts.{lies_in as is_in_arc, other_arc as arc_outside, literal_arc, have_common as have_common_number};
 ghost use Rattle.flow_abstraction.specs.ArcViews.{arc_of, span_of};
+ghost use Rattle.flow_abstraction.specs.Working.IntervalFacts.{is_in, is_in_both, have_common_of, is_least_of};
 
 use kat_model::Width;
 
@@ -68,13 +69,13 @@ fn lies_in(width: Width, span: &Span, number: u64) -> bool
 }
 
 fn lies_in_two(width: Width, a: &Span, b: &Span, number: u64) -> bool
-    ensures { result ≡ (is_in_arc (modulus_of width) (span_of a.now) number && is_in_arc (modulus_of width) (span_of b.now) number) }
+    ensures { result ≡ (is_in width a.now number && is_in width b.now number) }
 {
     lies_in(width, a, number) && lies_in(width, b, number)
 }
 
 fn lies_in_three(width: Width, a: &Span, b: &Span, c: &Span, number: u64) -> bool
-    ensures { result ≡ (is_in_arc (modulus_of width) (span_of a.now) number && (is_in_arc (modulus_of width) (span_of b.now) number && is_in_arc (modulus_of width) (span_of c.now) number)) }
+    ensures { result ≡ (is_in width a.now number && is_in_both width b.now c.now number) }
 {
     lies_in(width, a, number) && lies_in_two(width, b, c, number)
 }
@@ -89,7 +90,7 @@ pub(crate) fn two_have_common(width: Width, a: &Span, b: &Span) -> bool
 
 #[tactic(auto, using(crate::proofs::ArcTests::three_common))]
 fn three_have_common(width: Width, a: &Span, b: &Span, c: &Span) -> bool
-    ensures { result ≡ have_common_number (modulus_of width) (span_of a.now ∷ span_of b.now ∷ span_of c.now ∷ []) }
+    ensures { result ≡ have_common_of width (a.now ∷ b.now ∷ c.now ∷ []) }
 {
     lies_in_three(width, a, b, c, a.start)
         || lies_in_three(width, a, b, c, b.start)
@@ -98,7 +99,7 @@ fn three_have_common(width: Width, a: &Span, b: &Span, c: &Span) -> bool
 
 /// Whether three arcs have no number in common, while each two of them have one.
 pub(crate) fn is_least(width: Width, a: &Span, b: &Span, c: &Span) -> bool
-    ensures { result ≡ are_least (modulus_of width) (span_of a.now) (span_of b.now) (span_of c.now) }
+    ensures { result ≡ is_least_of width a.now b.now c.now }
 {
     two_have_common(width, a, b)
         && two_have_common(width, a, c)

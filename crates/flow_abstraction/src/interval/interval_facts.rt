@@ -1,13 +1,7 @@
 //! F9: intervals of one form that have no number in common.
-ghost use Rattle.std.specs.Prelude.{◌≡◌, ◌+◌, ◌^◌, ◌<◌, ◌∷◌, ◌&&◌, nat_lt, OnOk, IfOk, length, map, flat_map, option_map};
-ghost use Rattle.std.specs.List.{enumerate_from};
-ghost use Rattle.kat_model.specs.Stores.{modulus};
-ghost use Rattle.flow_problem.specs.FlowFacts.{two_arc_fact, two_arc_facts, three_arc_fact, three_arc_facts, is_same_interval_form as has_same_form};
-ghost use Rattle.flow_abstraction.specs.CappedLists.{capped};
-ghost use Rattle.flow_abstraction.specs.HypothesisViews.{flow_hypothesis};
-ghost use Rattle.flow_abstraction.specs.ArcViews.{arc_of};
-ghost use Rattle.flow_abstraction.specs.IntervalViews.{interval_tree};
-ghost use Rattle.flow_abstraction.specs.FactLists.{signed_arc_facts, third_interval, interval_facts_of, interval_facts_with, interval_facts};
+ghost use Rattle.std.specs.Prelude.{◌≡◌, ◌+◌, ◌^◌, ◌<◌, ◌∷◌, ◌&&◌, length};
+ghost use Rattle.flow_abstraction.specs.Working.Adding.{Adds};
+ghost use Rattle.flow_abstraction.specs.Working.IntervalFacts.{signed_test, fact_of_two, fact_of_three, facts_of_two, signed_facts, facts_of_three, is_further_than, third_facts, all_thirds, facts_of_pair, second_facts, all_seconds, first_interval_facts, all_firsts, facts_between_intervals};
 
 use crate::hypothesis::{FlowHypothesis, FlowRule, push_hypothesis};
 use crate::interval::arcs::{Arc, is_least, literal_span, two_have_common};
@@ -39,7 +33,7 @@ struct NumberedInterval<'a> {
 }
 
 fn signed(test: &NumberedInterval<'_>, holds: bool) -> Literal
-    ensures { result ≡ record { number = test.now.number; arc = test.now.interval.now.arc; holds = holds } }
+    ensures { result ≡ signed_test test.now holds }
 {
     Literal {
         number: test.number,
@@ -57,7 +51,7 @@ fn add_two_arc_fact(
     second: Literal,
     list: &mut Vec<FlowHypothesis>,
 ) -> Result<(), NoMemory>
-    ensures { OnOk result (map flow_hypothesis list.new.items ≡ capped MAX_HYPS (map flow_hypothesis list.old.items) (two_arc_fact (modulus width) first.number second.number (arc_of first.arc) (arc_of second.arc) first.holds second.holds)) }
+    ensures { Adds result list.old list.new (fact_of_two width first second) }
 {
     let a = literal_span(width, first.arc, first.holds);
     let b = literal_span(width, second.arc, second.holds);
@@ -84,7 +78,7 @@ fn add_three_arc_fact(
     third: Literal,
     list: &mut Vec<FlowHypothesis>,
 ) -> Result<(), NoMemory>
-    ensures { OnOk result (map flow_hypothesis list.new.items ≡ capped MAX_HYPS (map flow_hypothesis list.old.items) (three_arc_fact (modulus width) first.number second.number third.number (arc_of first.arc) (arc_of second.arc) (arc_of third.arc) first.holds second.holds third.holds)) }
+    ensures { Adds result list.old list.new (fact_of_three width first second third) }
 {
     let a = literal_span(width, first.arc, first.holds);
     let b = literal_span(width, second.arc, second.holds);
@@ -108,7 +102,7 @@ fn add_two_arc_facts(
     j: &NumberedInterval<'_>,
     list: &mut Vec<FlowHypothesis>,
 ) -> Result<(), NoMemory>
-    ensures { OnOk result (map flow_hypothesis list.new.items ≡ capped MAX_HYPS (map flow_hypothesis list.old.items) (two_arc_facts (modulus width) i.now.number j.now.number (arc_of i.now.interval.now.arc) (arc_of j.now.interval.now.arc))) }
+    ensures { Adds result list.old list.new (facts_of_two width i.now j.now) }
 {
     add_two_arc_fact(alloc, width, signed(i, true), signed(j, true), list)?;
     add_two_arc_fact(alloc, width, signed(i, true), signed(j, false), list)?;
@@ -125,7 +119,7 @@ fn add_signed_arc_facts(
     k: &NumberedInterval<'_>,
     list: &mut Vec<FlowHypothesis>,
 ) -> Result<(), NoMemory>
-    ensures { OnOk result (map flow_hypothesis list.new.items ≡ capped MAX_HYPS (map flow_hypothesis list.old.items) (signed_arc_facts (modulus width) first.number j.now.number k.now.number (arc_of first.arc) (arc_of j.now.interval.now.arc) (arc_of k.now.interval.now.arc) first.holds)) }
+    ensures { Adds result list.old list.new (signed_facts width first j.now k.now) }
 {
     add_three_arc_fact(alloc, width, first, signed(j, true), signed(k, true), list)?;
     add_three_arc_fact(alloc, width, first, signed(j, true), signed(k, false), list)?;
@@ -149,7 +143,7 @@ fn add_three_arc_facts(
     k: &NumberedInterval<'_>,
     list: &mut Vec<FlowHypothesis>,
 ) -> Result<(), NoMemory>
-    ensures { OnOk result (map flow_hypothesis list.new.items ≡ capped MAX_HYPS (map flow_hypothesis list.old.items) (three_arc_facts (modulus width) i.now.number j.now.number k.now.number (arc_of i.now.interval.now.arc) (arc_of j.now.interval.now.arc) (arc_of k.now.interval.now.arc))) }
+    ensures { Adds result list.old list.new (facts_of_three width i.now j.now k.now) }
 {
     add_signed_arc_facts(alloc, width, signed(i, true), j, k, list)?;
     add_signed_arc_facts(alloc, width, signed(i, false), j, k, list)
@@ -157,7 +151,7 @@ fn add_three_arc_facts(
 
 // Whether a test is after another one, and its interval is of the form of the first one.
 fn is_further(before: usize, first: &Interval, number: usize, interval: &Interval) -> bool
-    ensures { result ≡ (nat_lt before number && has_same_form (interval_tree first.now) (interval_tree interval.now)) }
+    ensures { result ≡ is_further_than before first.now number interval.now }
 {
     before < number && is_same_interval_form(first, interval)
 }
@@ -170,7 +164,7 @@ fn add_third(
     third: &Option<Interval>,
     list: &mut Vec<FlowHypothesis>,
 ) -> Result<(), NoMemory>
-    ensures { OnOk result (map flow_hypothesis list.new.items ≡ capped MAX_HYPS (map flow_hypothesis list.old.items) (third_interval i.now.number j.now.number (interval_tree i.now.interval.now) (interval_tree j.now.interval.now) (number, option_map interval_tree third.now))) }
+    ensures { Adds result list.old list.new (third_facts i.now j.now number third.now) }
 {
     let Some(interval) = third else {
         return Ok(());
@@ -193,7 +187,7 @@ fn add_thirds(
     list: &mut Vec<FlowHypothesis>,
 ) -> Result<(), NoMemory>
     requires { number + length intervals.now < 2 ^ 64 }
-    ensures { OnOk result (map flow_hypothesis list.new.items ≡ capped MAX_HYPS (map flow_hypothesis list.old.items) (flat_map (third_interval i.now.number j.now.number (interval_tree i.now.interval.now) (interval_tree j.now.interval.now)) (enumerate_from number (map (option_map interval_tree) intervals.now)))) }
+    ensures { Adds result list.old list.new (all_thirds i.now j.now number intervals.now) }
 {
     match intervals {
         [] => Ok(()),
@@ -212,7 +206,7 @@ fn add_thirds_from(
     list: &mut Vec<FlowHypothesis>,
 ) -> Result<(), NoMemory>
     requires { number + length rest.now + 1 < 2 ^ 64 }
-    ensures { OnOk result (map flow_hypothesis list.new.items ≡ capped MAX_HYPS (map flow_hypothesis list.old.items) (flat_map (third_interval i.now.number j.now.number (interval_tree i.now.interval.now) (interval_tree j.now.interval.now)) (enumerate_from number (option_map interval_tree third.now ∷ map (option_map interval_tree) rest.now)))) }
+    ensures { Adds result list.old list.new (all_thirds i.now j.now number (third.now ∷ rest.now)) }
 {
     add_third(alloc, i, j, number, third, list)?;
     add_thirds(alloc, i, j, number + 1, rest, list)
@@ -233,7 +227,7 @@ fn add_of_two(
     j: &NumberedInterval<'_>,
     list: &mut Vec<FlowHypothesis>,
 ) -> Result<(), NoMemory>
-    ensures { OnOk result (map flow_hypothesis list.new.items ≡ capped MAX_HYPS (map flow_hypothesis list.old.items) (interval_facts_of setting.now.count (enumerate_from 0 (map (option_map interval_tree) setting.now.intervals.now)) i.now.number j.now.number (interval_tree i.now.interval.now) (interval_tree j.now.interval.now))) }
+    ensures { Adds result list.old list.new (facts_of_pair setting.now i.now j.now) }
 {
     let alloc = setting.alloc;
     let intervals = setting.intervals;
@@ -251,7 +245,7 @@ fn add_second(
     second: &Option<Interval>,
     list: &mut Vec<FlowHypothesis>,
 ) -> Result<(), NoMemory>
-    ensures { OnOk result (map flow_hypothesis list.new.items ≡ capped MAX_HYPS (map flow_hypothesis list.old.items) (interval_facts_with setting.now.count (enumerate_from 0 (map (option_map interval_tree) setting.now.intervals.now)) i.now.number (interval_tree i.now.interval.now) (number, option_map interval_tree second.now))) }
+    ensures { Adds result list.old list.new (second_facts setting.now i.now number second.now) }
 {
     let Some(interval) = second else {
         return Ok(());
@@ -273,7 +267,7 @@ fn add_seconds(
     list: &mut Vec<FlowHypothesis>,
 ) -> Result<(), NoMemory>
     requires { number + length intervals.now < 2 ^ 64 }
-    ensures { OnOk result (map flow_hypothesis list.new.items ≡ capped MAX_HYPS (map flow_hypothesis list.old.items) (flat_map (interval_facts_with setting.now.count (enumerate_from 0 (map (option_map interval_tree) setting.now.intervals.now)) i.now.number (interval_tree i.now.interval.now)) (enumerate_from number (map (option_map interval_tree) intervals.now)))) }
+    ensures { Adds result list.old list.new (all_seconds setting.now i.now number intervals.now) }
 {
     match intervals {
         [] => Ok(()),
@@ -291,7 +285,7 @@ fn add_seconds_from(
     list: &mut Vec<FlowHypothesis>,
 ) -> Result<(), NoMemory>
     requires { number + length rest.now + 1 < 2 ^ 64 }
-    ensures { OnOk result (map flow_hypothesis list.new.items ≡ capped MAX_HYPS (map flow_hypothesis list.old.items) (flat_map (interval_facts_with setting.now.count (enumerate_from 0 (map (option_map interval_tree) setting.now.intervals.now)) i.now.number (interval_tree i.now.interval.now)) (enumerate_from number (option_map interval_tree second.now ∷ map (option_map interval_tree) rest.now)))) }
+    ensures { Adds result list.old list.new (all_seconds setting.now i.now number (second.now ∷ rest.now)) }
 {
     add_second(setting, i, number, second, list)?;
     add_seconds(setting, i, number + 1, rest, list)
@@ -305,7 +299,7 @@ fn add_first(
     first: &Option<Interval>,
     list: &mut Vec<FlowHypothesis>,
 ) -> Result<(), NoMemory>
-    ensures { OnOk result (map flow_hypothesis list.new.items ≡ capped MAX_HYPS (map flow_hypothesis list.old.items) (interval_facts setting.now.count (enumerate_from 0 (map (option_map interval_tree) setting.now.intervals.now)) (number, option_map interval_tree first.now))) }
+    ensures { Adds result list.old list.new (first_interval_facts setting.now number first.now) }
 {
     if list.len() > MAX_HYPS {
         return Ok(());
@@ -328,7 +322,7 @@ fn add_firsts(
     list: &mut Vec<FlowHypothesis>,
 ) -> Result<(), NoMemory>
     requires { number + length intervals.now < 2 ^ 64 }
-    ensures { OnOk result (map flow_hypothesis list.new.items ≡ capped MAX_HYPS (map flow_hypothesis list.old.items) (flat_map (interval_facts setting.now.count (enumerate_from 0 (map (option_map interval_tree) setting.now.intervals.now))) (enumerate_from number (map (option_map interval_tree) intervals.now)))) }
+    ensures { Adds result list.old list.new (all_firsts setting.now number intervals.now) }
 {
     match intervals {
         [] => Ok(()),
@@ -345,7 +339,7 @@ fn add_firsts_from(
     list: &mut Vec<FlowHypothesis>,
 ) -> Result<(), NoMemory>
     requires { number + length rest.now + 1 < 2 ^ 64 }
-    ensures { OnOk result (map flow_hypothesis list.new.items ≡ capped MAX_HYPS (map flow_hypothesis list.old.items) (flat_map (interval_facts setting.now.count (enumerate_from 0 (map (option_map interval_tree) setting.now.intervals.now))) (enumerate_from number (option_map interval_tree first.now ∷ map (option_map interval_tree) rest.now)))) }
+    ensures { Adds result list.old list.new (all_firsts setting.now number (first.now ∷ rest.now)) }
 {
     add_first(setting, number, first, list)?;
     add_firsts(setting, number + 1, rest, list)
@@ -358,7 +352,7 @@ pub(crate) fn add_interval_facts(
     intervals: &[Option<Interval>],
     list: &mut Vec<FlowHypothesis>,
 ) -> Result<(), NoMemory>
-    ensures { OnOk result (map flow_hypothesis list.new.items ≡ capped MAX_HYPS (map flow_hypothesis list.old.items) (flat_map (interval_facts count (enumerate_from 0 (map (option_map interval_tree) intervals.now))) (enumerate_from 0 (map (option_map interval_tree) intervals.now)))) }
+    ensures { Adds result list.old list.new (facts_between_intervals count intervals.now) }
 {
     let _known = intervals.len();
     let setting = Setting {
