@@ -8,3 +8,4 @@ pub mod Reads
 pub mod Tables
 pub mod Laws
 pub mod Elimination
+pub mod Working

@@ -1,8 +1,9 @@
 //! Elimination of places (Kleene 1956): the term of the paths through a graph, from the terms between its places.
-ghost use Rattle.std.specs.Prelude.{◌≡◌, ◌-◌, ◌+◌, ◌++◌, [], ◌∷◌, map, length, Option, IfOk, OnOk};
+ghost use Rattle.std.specs.Prelude.{◌≡◌, ◌-◌, [], map, IfOk};
 ghost use Rattle.kat_model.specs.Trees.{kat_tree};
 ghost use Rattle.flow_places.specs.Elimination.{is_nought, is_unit, plus, times, repeated};
-ghost use Rattle.flow_places.specs.Rows.{row_tree, steps_around, row_without, rows_without, only_place, rows_term, rows_fit, rows_size, first_step, later_steps};
+ghost use Rattle.flow_places.specs.Rows.{row_tree, row_without, rows_without, first_step, later_steps};
+ghost use Rattle.flow_places.specs.Working.Steps.{with_way_over, steps_over, rows_over, AddsTerms, AddsRows};
 
 use kat_model::{Kat, NoMemory};
 use std::alloc::Global;
@@ -75,7 +76,7 @@ pub fn repeated(alloc: Global, term: Kat) -> Result<Kat, NoMemory>
 
 // Returns a term with the way to a place, around it and on.
 fn with_way(alloc: Global, own: &Kat, to: &Kat, around: &Kat, onward: &Kat) -> Result<Kat, NoMemory>
-    ensures { IfOk result (λ e. kat_tree e ≡ plus (kat_tree own.now) (times (kat_tree to.now) (times (kat_tree around.now) (kat_tree onward.now)))) }
+    ensures { IfOk result (λ e. kat_tree e ≡ with_way_over own.now to.now around.now onward.now) }
 {
     let back = times(alloc, around.copy(alloc)?, onward.copy(alloc)?)?;
     let way = times(alloc, to.copy(alloc)?, back)?;
@@ -91,7 +92,7 @@ fn push_steps(
     onward: &[Kat],
     list: &mut Vec<Kat>,
 ) -> Result<(), NoMemory>
-    ensures { OnOk result (map kat_tree list.new.items ≡ map kat_tree list.old.items ++ steps_around (kat_tree to.now) (kat_tree around.now) (map kat_tree own.now) (map kat_tree onward.now)) }
+    ensures { AddsTerms result list.old list.new (steps_over to.now around.now own.now onward.now) }
 {
     match own {
         [] => Ok(()),
@@ -153,7 +154,7 @@ fn push_rows(
     list: &mut Vec<Row>,
 ) -> Result<(), NoMemory>
     requires { kat_tree around.now ≡ repeated (first_step (map kat_tree last.now.steps.items)) }
-    ensures { OnOk result (map row_tree list.new.items ≡ map row_tree list.old.items ++ map (row_without (row_tree last.now)) (map row_tree rows.now)) }
+    ensures { AddsRows result list.old list.new (rows_over last.now rows.now) }
 {
     for row in rows {
         list.push(row_without(alloc, last, around, row)?)?;

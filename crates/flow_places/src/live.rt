@@ -1,10 +1,9 @@
 //! Live variables of flow graphs.
-ghost use Rattle.std.specs.Prelude.{◌≡◌, ◌≢◌, ◌<◌, ◌≤◌, [], ◌∷◌, ◌||◌, ℕ, true, false, length, map, slice_get, slice_index_or, vec_len, IsTrue, IfOk, OnOk, Some};
-ghost use Rattle.std.specs.List.{list_any};
-ghost use Rattle.flow_model.specs.Polish.{statement_of, jump_of, block_of, graph_of};
-ghost use Rattle.flow_ways.specs.Liveness.{live_before, jump_reads, jump_targets};
-ghost use Rattle.flow_places.specs.Live.{live_at_jump, live_at_block, live as is_live};
-ghost use Rattle.flow_places.specs.Tables.{same_mark, noted, IsSwept};
+ghost use Rattle.std.specs.Prelude.{◌≡◌, ◌<◌, [], ◌∷◌, ◌||◌, ℕ, true, false, length, slice_index_or, vec_len, IsTrue, IfOk, OnOk, Some};
+ghost use Rattle.flow_model.specs.Polish.{graph_of};
+ghost use Rattle.flow_places.specs.Live.{live as is_live};
+ghost use Rattle.flow_places.specs.Tables.{same_mark, noted};
+ghost use Rattle.flow_places.specs.Working.Marks.{is_marked, Becomes, live_at, live_over, live_in, live_or_noted, HasMarks, IsUpdated, IsKeptBut, AreSwept, ReportsChange};
 
 use crate::reads::{mark_cond, mark_values, unmark};
 use crate::walk::has_mark;
@@ -14,7 +13,7 @@ use std::alloc::Global;
 
 // Adds the marks of another row.
 fn join(other: &[bool], live: &mut [bool])
-    ensures { (x : ℕ) → x < length live.old → slice_index_or live.new x false ≡ (slice_index_or live.old x false || slice_index_or other.now x false) }
+    ensures { Becomes live.old live.new (λ x. is_marked live.old x || is_marked other.now x) }
 {
     for k in 0..live.len() {
         if other.get(k).copied().unwrap_or(false) {
@@ -25,7 +24,7 @@ fn join(other: &[bool], live: &mut [bool])
 
 // Adds the marks of the row of a block.
 fn join_row(table: &[Vec<bool>], block: usize, live: &mut [bool])
-    ensures { (x : ℕ) → x < length live.old → slice_index_or live.new x false ≡ (slice_index_or live.old x false || noted table.now x block) }
+    ensures { Becomes live.old live.new (λ x. is_marked live.old x || noted table.now x block) }
 {
     if let Some(row) = table.get(block) {
         join(row, live);
@@ -36,7 +35,7 @@ fn join_row(table: &[Vec<bool>], block: usize, live: &mut [bool])
 #[tactic(auto, using(crate::proofs::LiveRows::at_goto, crate::proofs::LiveRows::at_branch, crate::proofs::LiveRows::at_return))]
 fn mark_jump(table: &[Vec<bool>], jump: &Jump, live: &mut [bool])
     requires { (x : ℕ) → slice_index_or live.old x false ≡ false }
-    ensures { (x : ℕ) → x < length live.old → slice_index_or live.new x false ≡ live_at_jump x (noted table.now x) (jump_of jump.now) }
+    ensures { Becomes live.old live.new (live_at table.now jump.now) }
 {
     match jump {
         Jump::Goto(k) => join_row(table, *k, live),
@@ -53,7 +52,7 @@ fn mark_jump(table: &[Vec<bool>], jump: &Jump, live: &mut [bool])
 // Marks what is live before a statement, where what is live after it is marked.
 #[tactic(auto, using(crate::proofs::LiveRows::at_assign))]
 fn mark_statement(statement: &Statement, live: &mut [bool])
-    ensures { (x : ℕ) → x < length live.old → slice_index_or live.new x false ≡ live_before x (statement_of statement.now ∷ []) (slice_index_or live.old x false) }
+    ensures { Becomes live.old live.new (live_over (statement.now ∷ []) live.old) }
 {
     match statement {
         Statement::Assign(targets, values) => {
@@ -67,7 +66,7 @@ fn mark_statement(statement: &Statement, live: &mut [bool])
 // Marks what is live before statements, where what is live after them is marked.
 #[cycle(mark_statements)]
 fn mark_statements(statements: &[Statement], live: &mut [bool])
-    ensures { (x : ℕ) → x < length live.old → slice_index_or live.new x false ≡ live_before x (map statement_of statements.now) (slice_index_or live.old x false) }
+    ensures { Becomes live.old live.new (live_over statements.now live.old) }
 {
     match statements {
         [] => {}
@@ -78,7 +77,7 @@ fn mark_statements(statements: &[Statement], live: &mut [bool])
 #[cycle(mark_statements)]
 #[tactic(auto, using(crate::proofs::LiveRows::first_before))]
 fn mark_statements_from(statement: &Statement, rest: &[Statement], live: &mut [bool])
-    ensures { (x : ℕ) → x < length live.old → slice_index_or live.new x false ≡ live_before x (statement_of statement.now ∷ map statement_of rest.now) (slice_index_or live.old x false) }
+    ensures { Becomes live.old live.new (live_over (statement.now ∷ rest.now) live.old) }
 {
     mark_statements(rest, live);
     mark_statement(statement, live);
@@ -87,7 +86,7 @@ fn mark_statements_from(statement: &Statement, rest: &[Statement], live: &mut [b
 // Marks what is live at a block.
 fn mark_block(table: &[Vec<bool>], block: &Block, live: &mut [bool])
     requires { (x : ℕ) → slice_index_or live.old x false ≡ false }
-    ensures { (x : ℕ) → x < length live.old → slice_index_or live.new x false ≡ live_at_block x (noted table.now x) (Some (block_of block.now)) }
+    ensures { Becomes live.old live.new (live_in table.now block.now) }
 {
     mark_jump(table, &block.jump, live);
     mark_statements(&block.statements, live);
@@ -102,7 +101,7 @@ fn new_row(
     number: usize,
 ) -> Result<Vec<bool>, NoMemory>
     ensures width { IfOk result (λ row. vec_len row ≡ variables) }
-    ensures row { IfOk result (λ row. (x : ℕ) → x < variables → slice_index_or row.items x false ≡ (live_at_block x (noted table.now x) (Some (block_of block.now)) || noted table.now x number)) }
+    ensures row { IfOk result (HasMarks variables (live_or_noted table.now block.now number)) }
 {
     let mut row = vec![in alloc; false; variables]?;
     mark_block(table, block, &mut row);
@@ -119,7 +118,7 @@ fn is_same(left: bool, right: bool) -> bool
 // Returns whether all marks of the row are as in another row.
 #[tactic(auto, using(crate::proofs::Marks::same_marks))]
 fn is_same_row(row: &[bool], other: &[bool]) -> bool
-    ensures { IsTrue result → (x : ℕ) → x < length row.now → slice_index_or row.now x false ≡ slice_index_or other.now x false }
+    ensures { IsTrue result → Becomes row.now row.now (is_marked other.now) }
 {
     for k in 0..row.len() {
         let same = is_same(has_mark(row, k), has_mark(other, k));
@@ -132,7 +131,7 @@ fn is_same_row(row: &[bool], other: &[bool]) -> bool
 
 // Returns whether all marks of the row are as in the row of a block.
 fn is_noted(table: &[Vec<bool>], number: usize, row: &[bool]) -> bool
-    ensures { IsTrue result → (x : ℕ) → x < length row.now → slice_index_or row.now x false ≡ noted table.now x number }
+    ensures { IsTrue result → Becomes row.now row.now (λ x. noted table.now x number) }
 {
     match table.get(number) {
         Some(other) => is_same_row(row, other),
@@ -150,9 +149,9 @@ fn update(
 ) -> Result<bool, NoMemory>
     requires { number < vec_len table.old }
     ensures rows { OnOk result (vec_len table.new ≡ vec_len table.old) }
-    ensures here { OnOk result ((x : ℕ) → x < variables → noted table.new.items x number ≡ (live_at_block x (noted table.old.items x) (Some (block_of block.now)) || noted table.old.items x number)) }
-    ensures elsewhere { OnOk result ((x k : ℕ) → k ≢ number → noted table.new.items x k ≡ noted table.old.items x k) }
-    ensures unchanged { IfOk result (λ changed. changed ≡ false → table.new.items ≡ table.old.items) }
+    ensures here { OnOk result (IsUpdated variables block.now number table.old table.new) }
+    ensures elsewhere { OnOk result (IsKeptBut number table.old table.new) }
+    ensures unchanged { ReportsChange result table.old table.new }
 {
     let row = new_row(alloc, table, variables, block, number)?;
     if is_noted(table, number, &row) {
@@ -177,8 +176,8 @@ fn sweep(
 ) -> Result<bool, NoMemory>
     requires { vec_len table.old ≡ length blocks.now }
     ensures rows { OnOk result (vec_len table.new ≡ vec_len table.old) }
-    ensures swept { OnOk result ((x : ℕ) → x < variables → IsSwept (graph_of blocks.now) x 0 (noted table.old.items x) (noted table.new.items x)) }
-    ensures unchanged { IfOk result (λ changed. changed ≡ false → table.new.items ≡ table.old.items) }
+    ensures swept { OnOk result (AreSwept blocks.now variables table.old table.new) }
+    ensures unchanged { ReportsChange result table.old table.new }
 {
     let mut changed = false;
     for step in 0..blocks.len() {

@@ -1,9 +1,10 @@
 //! Marks of the variables that expressions and conditions read.
-ghost use Rattle.std.specs.Prelude.{◌≡◌, ◌<◌, ◌∷◌, ◌||◌, ◌&&◌, not, ℕ, false, true, length, slice_index_or, slice_set};
+ghost use Rattle.std.specs.Prelude.{◌≡◌, ◌<◌, ◌∷◌, ◌||◌, false, true, slice_set};
 ghost use Rattle.kat_model.specs.Problems.{counted};
 ghost use Rattle.flow_model.specs.Polish.{expr_of, cond_of};
 ghost use Rattle.flow_ways.specs.Liveness.{reads, cond_reads, is_target};
 ghost use Rattle.flow_places.specs.Reads.{node_reads, with_operands as trees_with, nodes_read, cond_node_reads, with_conditions as conds_with, cond_nodes_read, values_read};
+ghost use Rattle.flow_places.specs.Working.Marks.{Marks, Unmarks};
 
 use flow_model::{CondNode, ExprNode};
 
@@ -19,7 +20,7 @@ pub(crate) fn mark(live: &mut [bool], variable: usize, value: bool)
 // Marks the variable that a node reads.
 #[tactic(auto, using(crate::proofs::Marks::marked, crate::proofs::Marks::none_read))]
 fn mark_node(node: ExprNode, live: &mut [bool])
-    ensures { (x : ℕ) → x < length live.old → slice_index_or live.new x false ≡ (node_reads x node || slice_index_or live.old x false) }
+    ensures { Marks live.old live.new (λ x. node_reads x node) }
 {
     match node {
         ExprNode::Variable(k) => mark(live, k, true),
@@ -42,7 +43,7 @@ pub fn with_operands(node: ExprNode, count: usize) -> usize
 // Marks the variables that the first `count` trees read.
 #[cycle(mark_nodes)]
 fn mark_nodes(nodes: &[ExprNode], count: usize, live: &mut [bool])
-    ensures { (x : ℕ) → x < length live.old → slice_index_or live.new x false ≡ (nodes_read x count nodes.now || slice_index_or live.old x false) }
+    ensures { Marks live.old live.new (λ x. nodes_read x count nodes.now) }
 {
     match nodes {
         [] => {}
@@ -53,7 +54,7 @@ fn mark_nodes(nodes: &[ExprNode], count: usize, live: &mut [bool])
 #[cycle(mark_nodes)]
 #[tactic(auto, using(crate::proofs::Marks::marked_twice))]
 fn mark_nodes_from(node: ExprNode, rest: &[ExprNode], count: usize, live: &mut [bool])
-    ensures { (x : ℕ) → x < length live.old → slice_index_or live.new x false ≡ (nodes_read x count (node ∷ rest.now) || slice_index_or live.old x false) }
+    ensures { Marks live.old live.new (λ x. nodes_read x count (node ∷ rest.now)) }
 {
     if count == 0 {
         return;
@@ -74,7 +75,7 @@ pub fn mark_expr(nodes: &[ExprNode], live: &mut [bool])
 // Marks the variables that two expressions read.
 #[tactic(auto, using(crate::proofs::Marks::marked_twice))]
 fn mark_both(left: &[ExprNode], right: &[ExprNode], live: &mut [bool])
-    ensures { (x : ℕ) → x < length live.old → slice_index_or live.new x false ≡ ((reads x (expr_of left.now) || reads x (expr_of right.now)) || slice_index_or live.old x false) }
+    ensures { Marks live.old live.new (λ x. reads x (expr_of left.now) || reads x (expr_of right.now)) }
 {
     mark_expr(left, live);
     mark_expr(right, live);
@@ -83,7 +84,7 @@ fn mark_both(left: &[ExprNode], right: &[ExprNode], live: &mut [bool])
 /// Marks the variables that expressions read.
 #[cycle(mark_values)]
 pub(crate) fn mark_values(values: &[Vec<ExprNode>], live: &mut [bool])
-    ensures { (x : ℕ) → x < length live.old → slice_index_or live.new x false ≡ (values_read x values.now || slice_index_or live.old x false) }
+    ensures { Marks live.old live.new (λ x. values_read x values.now) }
 {
     match values {
         [] => {}
@@ -94,14 +95,14 @@ pub(crate) fn mark_values(values: &[Vec<ExprNode>], live: &mut [bool])
 #[cycle(mark_values)]
 #[tactic(auto, using(crate::proofs::Marks::marked_twice))]
 fn mark_values_from(value: &Vec<ExprNode>, rest: &[Vec<ExprNode>], live: &mut [bool])
-    ensures { (x : ℕ) → x < length live.old → slice_index_or live.new x false ≡ (values_read x (value.now ∷ rest.now) || slice_index_or live.old x false) }
+    ensures { Marks live.old live.new (λ x. values_read x (value.now ∷ rest.now)) }
 {
     mark_expr(value, live);
     mark_values(rest, live);
 }
 
 fn mark_cond_node(node: &CondNode, live: &mut [bool])
-    ensures { (x : ℕ) → x < length live.old → slice_index_or live.new x false ≡ (cond_node_reads x node.now || slice_index_or live.old x false) }
+    ensures { Marks live.old live.new (λ x. cond_node_reads x node.now) }
 {
     match node {
         CondNode::Compared(_, left, right) => mark_both(left, right, live),
@@ -126,7 +127,7 @@ pub fn with_conditions(node: &CondNode, count: usize) -> usize
 // Marks the variables that the first `count` conditions read.
 #[cycle(mark_conds)]
 fn mark_conds(nodes: &[CondNode], count: usize, live: &mut [bool])
-    ensures { (x : ℕ) → x < length live.old → slice_index_or live.new x false ≡ (cond_nodes_read x count nodes.now || slice_index_or live.old x false) }
+    ensures { Marks live.old live.new (λ x. cond_nodes_read x count nodes.now) }
 {
     match nodes {
         [] => {}
@@ -137,7 +138,7 @@ fn mark_conds(nodes: &[CondNode], count: usize, live: &mut [bool])
 #[cycle(mark_conds)]
 #[tactic(auto, using(crate::proofs::Marks::marked_twice))]
 fn mark_conds_from(node: &CondNode, rest: &[CondNode], count: usize, live: &mut [bool])
-    ensures { (x : ℕ) → x < length live.old → slice_index_or live.new x false ≡ (cond_nodes_read x count (node.now ∷ rest.now) || slice_index_or live.old x false) }
+    ensures { Marks live.old live.new (λ x. cond_nodes_read x count (node.now ∷ rest.now)) }
 {
     if count == 0 {
         return;
@@ -149,7 +150,7 @@ fn mark_conds_from(node: &CondNode, rest: &[CondNode], count: usize, live: &mut 
 /// Marks the variables that a condition reads.
 #[tactic(auto, using(crate::proofs::NodeReads::cond_read))]
 pub(crate) fn mark_cond(nodes: &[CondNode], live: &mut [bool])
-    ensures { (x : ℕ) → x < length live.old → slice_index_or live.new x false ≡ (cond_reads x (cond_of nodes.now) || slice_index_or live.old x false) }
+    ensures { Marks live.old live.new (λ x. cond_reads x (cond_of nodes.now)) }
 {
     let _known = nodes.len();
     mark_conds(nodes, 1, live);
@@ -158,7 +159,7 @@ pub(crate) fn mark_cond(nodes: &[CondNode], live: &mut [bool])
 /// Removes the marks of variables.
 #[cycle(unmark)]
 pub(crate) fn unmark(targets: &[usize], live: &mut [bool])
-    ensures { (x : ℕ) → slice_index_or live.new x false ≡ (not (is_target x targets.now) && slice_index_or live.old x false) }
+    ensures { Unmarks live.old live.new (λ x. is_target x targets.now) }
 {
     match targets {
         [] => {}
@@ -169,7 +170,7 @@ pub(crate) fn unmark(targets: &[usize], live: &mut [bool])
 #[cycle(unmark)]
 #[tactic(auto, using(crate::proofs::Marks::unmarked))]
 fn unmark_from(target: usize, rest: &[usize], live: &mut [bool])
-    ensures { (x : ℕ) → slice_index_or live.new x false ≡ (not (is_target x (target ∷ rest.now)) && slice_index_or live.old x false) }
+    ensures { Unmarks live.old live.new (λ x. is_target x (target ∷ rest.now)) }
 {
     mark(live, target, false);
     unmark(rest, live);

@@ -1,10 +1,11 @@
 //! The size of rows without their last place, before they are made.
-ghost use Rattle.std.specs.Prelude.{◌≡◌, ◌+◌, map};
+ghost use Rattle.std.specs.Prelude.{◌≡◌, map};
 ghost use Rattle.kat_model.specs.Trees.{kat_tree};
 ghost use Rattle.kat_model.specs.Problems.{counted};
 ghost use Rattle.flow_places.specs.Elimination.{repeated};
 ghost use Rattle.flow_places.specs.Rows.{row_tree, first_step, row_without, rows_without, row_size, rows_size};
 ghost use Rattle.flow_places.specs.Shapes.{shape_of, way_shape, ways_size};
+ghost use Rattle.flow_places.specs.Working.Steps.{rows_over};
 
 use crate::elimination::{Row, later_steps};
 use crate::shape::{Shape, plus_shape, repeated_shape, term_shape, times_shape};
@@ -63,7 +64,7 @@ fn row_size_without(last: &Row, around: Shape, row: &Row) -> u64
 // The size of rows without the last place.
 fn sizes_without(last: &Row, around: Shape, rows: &[Row]) -> u64
     requires { around ≡ shape_of (repeated (first_step (map kat_tree last.now.steps.items))) }
-    ensures { result ≡ counted (rows_size (map (row_without (row_tree last.now)) (map row_tree rows.now))) }
+    ensures { result ≡ counted (rows_size (rows_over last.now rows.now)) }
 {
     let mut total: u64 = 0;
     for row in rows {
