@@ -10,7 +10,8 @@ use Rattle.flow_syntax.specs.Syntax.{ExprSyntax, CondSyntax, BlockSyntax, a_bloc
 use Rattle.flow_syntax.proofs.WholeSyntax.{ArePolish, IsWholeOrNone, AreWholeEquations, IsWholeMatch}
 use Rattle.flow_text.specs.Scopes.{ScopeParts, counts, meaning_in, scope_before}
 use Rattle.flow_text.specs.Resolving.{expression_of}
-use Rattle.flow_text.specs.Matches.{Equation, FileMatch}
+use Rattle.flow_model.specs.Matches.{Equation}
+use Rattle.flow_text.specs.Matches.{FileMatch}
 use Rattle.flow_text.specs.Checking.{next_target, found, block_or_fault, block_names, GivenMatch, given_match, is_given_by, equation_for, next_equation, equations_after, condition_or_always, rounds_given, may_match, blocks_matched, file_match, resolved_match, with_name, with_names, next_matches, matches_after, matches_between}
 use Rattle.flow_laws.specs.SortedMatches.{IsSortedEquation, AreSortedEquations, IsSortedMatch}
 use Rattle.flow_laws.proofs.Holding.{Holds, any_holds, then_holds, if_holds}
@@ -19,9 +20,9 @@ use Rattle.flow_laws.proofs.SortedGraphs.{IsTarget, meant_good, condition_good, 
 
 abbrev pub AreMatches : List Sort → ℕ → ℕ → List FileMatch → Type 0
 AreMatches sorts n m [] = Unit {0}
-AreMatches sorts n m (x ∷ xs) = IsSortedMatch sorts n m x × AreMatches sorts n m xs
+AreMatches sorts n m (x ∷ xs) = IsSortedMatch sorts n m x.blocks × AreMatches sorts n m xs
 
-matches_more : (sorts : List Sort) (n m : ℕ) (xs : List FileMatch) (x : FileMatch) → AreMatches sorts n m xs → IsSortedMatch sorts n m x → AreMatches sorts n m (xs ++ x ∷ [])
+matches_more : (sorts : List Sort) (n m : ℕ) (xs : List FileMatch) (x : FileMatch) → AreMatches sorts n m xs → IsSortedMatch sorts n m x.blocks → AreMatches sorts n m (xs ++ x ∷ [])
 matches_more sorts n m [] x h k = (k, tt)
 matches_more sorts n m (y ∷ ys) x h k = (h.0, matches_more sorts n m ys x h.1 k)
 
@@ -80,13 +81,13 @@ module _ (s : ScopeParts) (sorts : List Sort) (declared : (k : ℕ) (sort : Sort
   given_condition_good [] h = tt
   given_condition_good (n ∷ ns) h = condition_good s sorts declared (n ∷ ns) h
 
-  match_good : (n m : ℕ) (blocks : ℕ × ℕ) (at : ℕ) (b : BlockMatchSyntax) → IsWholeMatch (two_blocks b) → blocks.0 < n → blocks.1 < m → Holds (IsSortedMatch sorts n m) (resolved_match s blocks at b)
+  match_good : (n m : ℕ) (blocks : ℕ × ℕ) (at : ℕ) (b : BlockMatchSyntax) → IsWholeMatch (two_blocks b) → blocks.0 < n → blocks.1 < m → Holds (λ (x : FileMatch). IsSortedMatch sorts n m x.blocks) (resolved_match s blocks at b)
   match_good n m blocks at b h below others =
-      then_holds (AreSortedEquations sorts) (IsSortedMatch sorts n m) (equations_after s [] b.forth) _ (equations_good b.forth [] h.0 tt) (λ f forth.
-      then_holds (AreSortedEquations sorts) (IsSortedMatch sorts n m) (equations_after s [] b.back) _ (equations_good b.back [] h.1 tt) (λ g back.
-      then_holds (AreSortedEquations sorts) (IsSortedMatch sorts n m) (equations_after s [] b.keeping) _ (equations_good b.keeping [] h.2 tt) (λ q keeping.
-      then_holds (IsSortedCond sorts) (IsSortedMatch sorts n m) (condition_or_always s b.condition) _ (given_condition_good b.condition h.3) (λ c condition.
-      then_holds (λ r. Unit {0}) (IsSortedMatch sorts n m) (rounds_given b.rounds) (λ r. Ok (file_match blocks f g q c r b.splits at)) (any_holds (rounds_given b.rounds)) (λ r u.
+      then_holds (AreSortedEquations sorts) (λ (x : FileMatch). IsSortedMatch sorts n m x.blocks) (equations_after s [] b.forth) _ (equations_good b.forth [] h.0 tt) (λ f forth.
+      then_holds (AreSortedEquations sorts) (λ (x : FileMatch). IsSortedMatch sorts n m x.blocks) (equations_after s [] b.back) _ (equations_good b.back [] h.1 tt) (λ g back.
+      then_holds (AreSortedEquations sorts) (λ (x : FileMatch). IsSortedMatch sorts n m x.blocks) (equations_after s [] b.keeping) _ (equations_good b.keeping [] h.2 tt) (λ q keeping.
+      then_holds (IsSortedCond sorts) (λ (x : FileMatch). IsSortedMatch sorts n m x.blocks) (condition_or_always s b.condition) _ (given_condition_good b.condition h.3) (λ c condition.
+      then_holds (λ r. Unit {0}) (λ (x : FileMatch). IsSortedMatch sorts n m x.blocks) (rounds_given b.rounds) (λ r. Ok (file_match blocks f g q c r b.splits at)) (any_holds (rounds_given b.rounds)) (λ r u.
       record { before_exists = below; after_exists = others; forth_sorted = forth; back_sorted = back; keeping_sorted = keeping; condition_sorted = condition })))))
 
 -- ---- matches; `first` and `second` give numbers of blocks of two graphs, which have `n` and `m`
@@ -128,7 +129,7 @@ module _ (s : ScopeParts) (n m : ℕ) (first second : List ℕ → Option ℕ) (
   item_good names before (given_match (counts i j v g) word (two_blocks b)) numbered h a =
       let t = scope_before s (counts i j v g) in
       then_holds (AreBelow n m) (AreMatches s.variables n m) (blocks_matched before b.before b.after (first (bytes_of b.before)) (second (bytes_of b.after))) _ (blocks_exist before b.before b.after) (λ blocks exist.
-      then_holds (IsSortedMatch s.variables n m) (AreMatches s.variables n m) (resolved_match t blocks (place_of word) b) (λ x. Ok (before ++ x ∷ []))
+      then_holds (λ (x : FileMatch). IsSortedMatch s.variables n m x.blocks) (AreMatches s.variables n m) (resolved_match t blocks (place_of word) b) (λ x. Ok (before ++ x ∷ []))
       (match_good t s.variables (taken_declared v s.variables) n m blocks (place_of word) b h exist.0 exist.1) (λ x k.
       matches_more s.variables n m before x a k))
 

@@ -20,7 +20,7 @@ pub fn files_are_sorted()
 /// The blocks of each match of a flow file are blocks of its graphs, and each of its expressions has the sort that its
 /// place requires.
 pub fn matches_are_sorted()
-    ensures { (text : List ℕ) (f : FlowFileParts) → IsFlowText text f → All (IsMatchOf (pair_of f)) f.matches }
+    ensures { (text : List ℕ) (f : FlowFileParts) → IsFlowText text f → All (λ m. IsMatchOf (pair_of f) m.blocks) f.matches }
 {}
 
 /// The nodes of each expression and of each condition of a graph that is read are exactly one tree.
@@ -30,7 +30,7 @@ pub fn graphs_are_whole()
 
 /// The nodes of each expression and of the condition of a match that is read are exactly one tree.
 pub fn matches_are_whole()
-    ensures { (text : List ℕ) (f : FlowFile) → IsFlowText text (file_parts f) → All IsWholeMatch f.matches.items }
+    ensures { (text : List ℕ) (f : FlowFile) → IsFlowText text (file_parts f) → All (λ m. IsWholeMatch m.blocks) f.matches.items }
 {}
 
 /// The names of the variables and of the functions of a flow file may be comments: they are UTF-8 without a line feed.

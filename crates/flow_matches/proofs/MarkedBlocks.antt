@@ -6,9 +6,9 @@ use Rattle.std.proofs.lemmas.List.{length-set, get_or-set_same, get_or-set_other
 use Rattle.std.proofs.lemmas.List.Folds.{list_any-append}
 use Rattle.kat_model.specs.Members.{Has}
 use Rattle.kat_model.proofs.Lists.{has_any, map_has}
-use Rattle.flow_pieces.specs.Matches.{Match}
-use Rattle.flow_matches.specs.declared.block_match.BlockMatch.{BlockMatch}
-use Rattle.flow_matches.specs.MatchViews.{match_of, matches_of}
+use Rattle.flow_model.specs.Matches.{Match}
+use Rattle.flow_model.specs.declared.block_match.BlockMatch.{BlockMatch}
+use Rattle.flow_model.specs.Matches.{match_of, matches_of}
 use Rattle.flow_matches.specs.Tables.{AreMarks, AreBelow}
 
 or_false : (b : Bool) → (b || false) ≡ b

@@ -2,7 +2,7 @@
 use Rattle.std.specs.Prelude.{◌≡◌, ◌<◌, ℕ, true, false, List, Some, slice_get}
 use Rattle.flow_model.specs.Graphs.{Pair}
 use Rattle.flow_model.specs.Polish.{graph_of}
-use Rattle.flow_pieces.specs.Matches.{Match}
+use Rattle.flow_model.specs.Matches.{Match}
 use Rattle.flow_pieces.specs.PieceGraphs.{Exit, piece_pair}
 use Rattle.flow_pieces.specs.Exits.{piece_exits, share_column, is_ambiguous}
 use Rattle.flow_pieces.specs.SameTexts.{has_same_text}

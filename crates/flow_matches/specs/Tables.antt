@@ -7,9 +7,9 @@ use Rattle.flow_model.specs.Polish.{graph_of}
 use Rattle.flow_places.specs.Live.{live}
 use Rattle.flow_places.specs.Tables.{noted}
 use Rattle.flow_pieces.specs.Pieces.{is_matched_before, is_matched_after}
-use Rattle.flow_matches.specs.declared.block_match.BlockMatch.{BlockMatch}
+use Rattle.flow_model.specs.declared.block_match.BlockMatch.{BlockMatch}
 use Rattle.flow_matches.specs.declared.tables.MatchTables.{MatchTables}
-use Rattle.flow_matches.specs.MatchViews.{matches_of}
+use Rattle.flow_model.specs.Matches.{matches_of}
 
 -- the list has a mark at each number that passes the test, and at no other
 abbrev pub AreMarks : List Bool → (ℕ → Bool) → Type 0

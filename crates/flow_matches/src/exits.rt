@@ -12,12 +12,13 @@ ghost use Rattle.flow_places.specs.Tables.{noted};
 ghost use Rattle.flow_pieces.specs.SameTrees.{is_same_bool};
 ghost use Rattle.flow_pieces.specs.PieceGraphs.{arrivals_of, has_block as has_number};
 ghost use Rattle.flow_pieces.specs.Exits.{have_same_parts as same_parts, rows_with as rows_of, columns_with as columns_of, exit_of as exit_at, has_match as exit_has, exits_from, piece_exits as exits_of_piece};
-ghost use Rattle.flow_matches.specs.declared.block_match.BlockMatch.{BlockMatch as ABlockMatch};
-ghost use Rattle.flow_matches.specs.MatchViews.{match_of, matches_of, match_at, pair_of};
+ghost use Rattle.flow_model.specs.declared.block_match.BlockMatch.{BlockMatch as ABlockMatch};
+ghost use Rattle.flow_model.specs.Matches.{match_of, matches_of};
+ghost use Rattle.flow_matches.specs.MatchViews.{match_at, pair_of};
 ghost use Rattle.flow_matches.specs.Tables.{AreBelow, AreTables, AreInside};
 ghost use Rattle.flow_matches.specs.Working.ExitViews.{exit_tree, exit_trees, chosen, IsMarkedList, with_arrivals, AreArrivals, noted_at, like_by, has_like_by, FirstWith, FirstShared};
 
-use crate::block_match::BlockMatch;
+use flow_model::{BlockMatch};
 use crate::same::is_same_cond;
 use crate::same_lists::are_same_equations;
 use crate::tables::{MatchTables, has_mark};

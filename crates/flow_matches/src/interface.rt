@@ -4,11 +4,11 @@ ghost use Rattle.flow_model.specs.Expressions.{variable as a_variable};
 ghost use Rattle.flow_model.specs.Polish.{expr_of, cond_of, values_of, statement_of};
 ghost use Rattle.flow_pieces.specs.Matches.{gives, equations_read};
 ghost use Rattle.flow_pieces.specs.PieceGraphs.{mark as a_mark, equations_hold, assigned, known_at, exit_mark as mark_of, shared_variables, results_before as first_results, results_after as second_results};
-ghost use Rattle.flow_matches.specs.MatchViews.{equation_of, match_of};
+ghost use Rattle.flow_model.specs.Matches.{equation_of, match_of};
 ghost use Rattle.flow_matches.specs.Tables.{AreBelow};
 ghost use Rattle.flow_matches.specs.Working.ExitViews.{exit_with, AddsTrees, AddsMarks};
 
-use crate::block_match::{BlockMatch, Equation};
+use flow_model::{BlockMatch, Equation};
 use crate::copies::{copy_expr, push_cond};
 use crate::exits::Exit;
 use flow_model::{CondNode, ExprNode, Statement};

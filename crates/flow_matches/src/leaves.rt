@@ -4,7 +4,7 @@ ghost use Rattle.flow_pieces.specs.PieceGraphs.{leaves_from, has_block, leave_be
 ghost use Rattle.flow_matches.specs.Working.ExitViews.{exit_trees};
 ghost use Rattle.flow_matches.specs.Working.SideViews.{leave_trees};
 
-use crate::block_match::BlockMatch;
+use flow_model::{BlockMatch};
 use crate::exits::Exit;
 use crate::interface::{holding, results_after, results_before};
 use flow_model::{CondNode, ExprNode};

@@ -4,7 +4,6 @@
 //! or it becomes a question about two flow graphs of its own.
 #![tactic(auto)]
 
-mod block_match;
 mod copies;
 mod exits;
 mod fault;
@@ -17,7 +16,6 @@ mod side;
 mod tables;
 mod text;
 
-pub use block_match::{BlockMatch, Equation};
 pub use fault::MatchFault;
 pub use piece::{Piece, piece_of};
 pub use tables::{MatchTables, match_tables};

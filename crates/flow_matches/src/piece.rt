@@ -4,12 +4,13 @@ ghost use Rattle.flow_model.specs.declared.sort.Sort.{Sort};
 ghost use Rattle.flow_model.specs.declared.graph.Block.{Block as ABlock};
 ghost use Rattle.flow_model.specs.Polish.{graph_of};
 ghost use Rattle.flow_pieces.specs.PieceGraphs.{side_before as first_side, side_after as second_side, side_graph as graph_of_side};
-ghost use Rattle.flow_matches.specs.MatchViews.{matches_of, match_at, pair_of};
+ghost use Rattle.flow_model.specs.Matches.{matches_of};
+ghost use Rattle.flow_matches.specs.MatchViews.{match_at, pair_of};
 ghost use Rattle.flow_matches.specs.Tables.{AreTables, AreInside};
 ghost use Rattle.flow_matches.specs.Outcomes.{IsPieceOf, IsRefusalOf};
 ghost use Rattle.flow_matches.specs.Working.ExitViews.{exit_trees};
 
-use crate::block_match::BlockMatch;
+use flow_model::{BlockMatch};
 use crate::exits::{Exit, arrivals_from, piece_exits, shared_column};
 use crate::fault::MatchFault;
 use crate::interface::opening;

@@ -4,9 +4,9 @@ ghost use Rattle.std.specs.Cmp.Lexicographic.{pointwise};
 ghost use Rattle.flow_model.specs.Polish.{values_of, statement_of};
 ghost use Rattle.flow_pieces.specs.SameTrees.{is_same_expr as same_expr, is_same_statement as same_statement};
 ghost use Rattle.flow_pieces.specs.Exits.{is_same_equation as same_equation};
-ghost use Rattle.flow_matches.specs.MatchViews.{equation_of};
+ghost use Rattle.flow_model.specs.Matches.{equation_of};
 
-use crate::block_match::Equation;
+use flow_model::{Equation};
 use crate::same::{is_same_cond, is_same_expr};
 use flow_model::{ExprNode, Statement};
 

@@ -1,10 +1,10 @@
 //! Tables that the pieces of all matches need: which blocks are matched, and what is live at each block.
 ghost use Rattle.std.specs.Prelude.{◌≡◌, true, false, IfOk, length, slice_index_or, slice_set};
 ghost use Rattle.flow_pieces.specs.Pieces.{is_matched_before, is_matched_after};
-ghost use Rattle.flow_matches.specs.MatchViews.{matches_of};
+ghost use Rattle.flow_model.specs.Matches.{matches_of};
 ghost use Rattle.flow_matches.specs.Tables.{AreMarks, AreBelow, blocks_before, blocks_after, AreTables, AreInside};
 
-use crate::block_match::BlockMatch;
+use flow_model::{BlockMatch};
 use flow_model::{Block, Sort};
 use flow_places::live_sets;
 use kat_model::NoMemory;

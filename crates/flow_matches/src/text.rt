@@ -5,11 +5,12 @@ ghost use Rattle.flow_model.specs.Conditions.{always};
 ghost use Rattle.flow_model.specs.Polish.{cond_of, jump_of, graph_of};
 ghost use Rattle.flow_pieces.specs.SameTrees.{is_same_cond as same_cond};
 ghost use Rattle.flow_pieces.specs.SameTexts.{is_plain as plain_match, are_matched_plainly as matched_plainly, jump_pairs, block_pairs, is_paired, walk_pairs, has_same_text as same_text};
-ghost use Rattle.flow_matches.specs.MatchViews.{match_of, matches_of, match_at, pair_of};
+ghost use Rattle.flow_model.specs.Matches.{match_of, matches_of};
+ghost use Rattle.flow_matches.specs.MatchViews.{match_at, pair_of};
 ghost use Rattle.flow_matches.specs.Tables.{AreMarked, AreInside};
 ghost use Rattle.flow_matches.specs.Working.TextWalks.{Pairs, waiting_of, HasMet, SameLengths, AddsPairs, Visits};
 
-use crate::block_match::BlockMatch;
+use flow_model::{BlockMatch};
 use crate::same::is_same_cond;
 use crate::same_lists::{are_same_exprs, are_same_statements};
 use crate::tables::{MatchTables, has_mark};

@@ -6,4 +6,5 @@ pub mod Polish
 pub mod Interpretations
 pub mod SignedOrder
 pub mod Runs
+pub mod Matches
 pub mod Agreement

@@ -8,7 +8,8 @@ use Rattle.flow_model.specs.Graphs.{Graph, Pair}
 use Rattle.flow_model.specs.Interpretations.{Interpretation, value}
 use Rattle.flow_ways.specs.Sorted.{IsSortedGraph}
 use Rattle.flow_ways.specs.Stops.{Stop, came_to, returned, stuck, unfinished, IsSettled}
-use Rattle.flow_pieces.specs.Matches.{Match, Relates}
+use Rattle.flow_model.specs.Matches.{Match}
+use Rattle.flow_pieces.specs.Matches.{Relates}
 use Rattle.flow_pieces.specs.Pieces.{Ends, is_matched_before, is_matched_after, AreRelatedAt}
 use Rattle.flow_pieces.specs.PieceGraphs.{Side, side_before, side_after}
 use Rattle.flow_pieces.specs.PieceQuestions.{IsProper, IsAgreed}

@@ -15,7 +15,8 @@ use Rattle.flow_model.specs.Runs.{with_values, after_statements}
 use Rattle.flow_ways.specs.Liveness.{reads, cond_reads, IsLive}
 use Rattle.flow_ways.specs.Sorted.{AreAssigned}
 use Rattle.flow_ways.proofs.LiveRuns.{length-with_values}
-use Rattle.flow_pieces.specs.Matches.{Equation, Match, gives, equations_read, is_shared, Relates}
+use Rattle.flow_model.specs.Matches.{Equation, Match}
+use Rattle.flow_pieces.specs.Matches.{gives, equations_read, is_shared, Relates}
 use Rattle.flow_pieces.specs.PieceGraphs.{equations_hold, assigned, known_at}
 use Rattle.flow_pieces.specs.PieceQuestions.{IsOfBack, IsProper, AreSortedEquations}
 use Rattle.flow_pieces.proofs.Readings.{value_agrees, holds_agrees}

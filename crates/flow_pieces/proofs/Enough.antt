@@ -5,7 +5,8 @@ use Rattle.flow_model.specs.Sorts.{State, IsState}
 use Rattle.flow_model.specs.Graphs.{Pair}
 use Rattle.flow_model.specs.Interpretations.{Interpretation}
 use Rattle.flow_ways.specs.Stops.{came_to, returned, stuck, unfinished}
-use Rattle.flow_pieces.specs.Matches.{Match, Relates, entry_match}
+use Rattle.flow_model.specs.Matches.{Match}
+use Rattle.flow_pieces.specs.Matches.{Relates, entry_match}
 use Rattle.flow_pieces.specs.Pieces.{is_matched_before, is_matched_after, AreRelatedAt, EndAlike, PieceHolds}
 use Rattle.flow_pieces.specs.PieceQuestions.{plain_match}
 use Rattle.flow_pieces.specs.Laws.{PiecesAreEnough}

@@ -7,7 +7,8 @@ use Rattle.flow_model.specs.declared.sort.Sort.TheVariants.{Number}
 use Rattle.flow_model.specs.Expressions.{number, variable, plus}
 use Rattle.flow_model.specs.Conditions.{CondTree, compared, negation}
 use Rattle.flow_model.specs.Graphs.{StatementTree, assign, JumpTree, goto, branch, return, Block, Graph, Pair}
-use Rattle.flow_pieces.specs.Matches.{Match, entry_match}
+use Rattle.flow_model.specs.Matches.{Match}
+use Rattle.flow_pieces.specs.Matches.{entry_match}
 use Rattle.flow_pieces.specs.PieceQuestions.{plain_match}
 use Rattle.flow_pieces.specs.Exits.{piece_exits, is_ambiguous}
 use Rattle.flow_pieces.specs.SameTexts.{has_same_text}

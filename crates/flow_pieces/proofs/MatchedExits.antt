@@ -14,7 +14,7 @@ use Rattle.flow_ways.specs.Sorted.{IsSortedGraph}
 use Rattle.flow_places.specs.Live.{live}
 use Rattle.flow_places.proofs.Walked.{in_range}
 use Rattle.flow_places.proofs.LiveTests.{live_exactly}
-use Rattle.flow_pieces.specs.Matches.{Match}
+use Rattle.flow_model.specs.Matches.{Match}
 use Rattle.flow_pieces.specs.PieceGraphs.{Exit, has_block}
 use Rattle.flow_pieces.specs.PieceQuestions.{matched_at, IsExit}
 use Rattle.flow_pieces.specs.SameTrees.{is_same_bool}

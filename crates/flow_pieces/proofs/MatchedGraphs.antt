@@ -6,7 +6,7 @@ use Rattle.kat_model.specs.declared.expression.Width.TheVariants.{W32}
 use Rattle.flow_model.specs.Graphs.{Pair}
 use Rattle.flow_model.specs.Agreement.{AgreeAlways}
 use Rattle.flow_ways.specs.Sorted.{IsSortedGraph}
-use Rattle.flow_pieces.specs.Matches.{Match}
+use Rattle.flow_model.specs.Matches.{Match}
 use Rattle.flow_pieces.specs.PieceGraphs.{piece_pair}
 use Rattle.flow_pieces.specs.PieceQuestions.{IsAgreed, HasSameText}
 use Rattle.flow_pieces.specs.Exits.{piece_exits}

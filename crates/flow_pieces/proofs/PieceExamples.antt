@@ -8,7 +8,8 @@ use Rattle.flow_model.specs.Conditions.{CondTree, always, compared}
 use Rattle.flow_model.specs.Graphs.{StatementTree, assign, JumpTree, goto, branch, return, Block, Graph, Pair}
 use Rattle.flow_model.specs.Interpretations.{Interpretation}
 use Rattle.flow_model.specs.Runs.{run_from, returned, stuck}
-use Rattle.flow_pieces.specs.Matches.{Equation, Match, entry_match}
+use Rattle.flow_model.specs.Matches.{Equation, Match}
+use Rattle.flow_pieces.specs.Matches.{entry_match}
 use Rattle.flow_pieces.specs.PieceGraphs.{Exit, side_before, side_blocks, piece_pair}
 
 abbrev no_functions : Interpretation

@@ -6,7 +6,8 @@ use Rattle.flow_model.specs.Graphs.{Pair}
 use Rattle.flow_model.specs.Interpretations.{Interpretation}
 use Rattle.flow_ways.specs.Sorted.{IsSortedGraph}
 use Rattle.flow_ways.specs.Stops.{Stop}
-use Rattle.flow_pieces.specs.Matches.{Match, is_shared, Relates, entry_match}
+use Rattle.flow_model.specs.Matches.{Match}
+use Rattle.flow_pieces.specs.Matches.{is_shared, Relates, entry_match}
 use Rattle.flow_pieces.specs.Pieces.{is_matched_before, is_matched_after, AreRelatedAt}
 use Rattle.flow_pieces.specs.PieceQuestions.{IsProper, IsAgreed, HasSameText}
 use Rattle.flow_pieces.specs.Laws.{AgreedPiecesAreEnough}

@@ -7,7 +7,7 @@ use Rattle.flow_model.specs.Interpretations.{Interpretation, value, holds}
 use Rattle.flow_model.specs.Runs.{after_statements}
 use Rattle.flow_ways.specs.Sorted.{IsSortedGraph}
 use Rattle.flow_ways.specs.Stops.{Stop, came_to, returned, stuck, unfinished, jump_stop, jump_stop_if, block_stop, stop_from, IsSettled}
-use Rattle.flow_pieces.specs.Matches.{Match}
+use Rattle.flow_model.specs.Matches.{Match}
 use Rattle.flow_pieces.specs.Pieces.{is_matched_before, is_matched_after, AreRelatedAt}
 use Rattle.flow_pieces.specs.PieceQuestions.{plain_match, LeadAlike, JumpAlike, AreAlike, HasSameText}
 use Rattle.flow_pieces.proofs.Followed.{Flipped, AreStops, stops_flipped, Follows}

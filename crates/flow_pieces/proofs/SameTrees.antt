@@ -12,7 +12,7 @@ use Rattle.flow_model.specs.Conditions.{CondTree, always, never, compared, compa
 use Rattle.flow_model.specs.Graphs.{StatementTree, assign, claim}
 use Rattle.flow_forms.specs.Conversions.{is_same_width}
 use Rattle.flow_forms.proofs.ConvertedValues.{same_bits}
-use Rattle.flow_pieces.specs.Matches.{Equation, Match}
+use Rattle.flow_model.specs.Matches.{Equation, Match}
 use Rattle.flow_pieces.specs.PieceQuestions.{matched_at}
 use Rattle.flow_pieces.specs.SameTrees.{is_same_bool, is_same_rel, is_same_sort, is_same_expr, is_same_cond, is_same_statement}
 use Rattle.flow_pieces.specs.Exits.{is_same_equation, have_same_parts}

@@ -16,7 +16,8 @@ use Rattle.flow_model.specs.Graphs.{Pair}
 use Rattle.flow_model.specs.Interpretations.{Interpretation, value, holds}
 use Rattle.flow_ways.specs.Stops.{Stop, came_to, returned, stuck, unfinished}
 use Rattle.flow_places.proofs.Walked.{among_has}
-use Rattle.flow_pieces.specs.Matches.{Equation, Match, is_shared, Relates}
+use Rattle.flow_model.specs.Matches.{Equation, Match}
+use Rattle.flow_pieces.specs.Matches.{is_shared, Relates}
 use Rattle.flow_pieces.specs.Pieces.{AreRelatedAt}
 use Rattle.flow_pieces.specs.PieceGraphs.{Leave, Exit, equations_hold, shared_variables, live_equations, results_before, results_after, lost_before_mark, lost_after_mark, leaves_from, has_block, leave_before, leave_after, side_before, side_after}
 use Rattle.flow_pieces.specs.PieceQuestions.{matched_at, IsExit}

@@ -7,7 +7,7 @@ use Rattle.kat_model.specs.Members.{Has, IsSubset}
 use Rattle.kat_model.proofs.Filters.{has_filter, filter_has}
 use Rattle.kat_model.proofs.Lists.{has_left, has_right, has_any, any_has}
 use Rattle.flow_model.specs.Graphs.{JumpTree, goto, branch, return, abort, Block, Pair}
-use Rattle.flow_pieces.specs.Matches.{Match}
+use Rattle.flow_model.specs.Matches.{Match}
 use Rattle.flow_pieces.specs.Pieces.{is_matched_before, is_matched_after}
 use Rattle.flow_pieces.specs.PieceQuestions.{plain_match, LeadAlike, JumpAlike, AreAlike, HasSameText}
 use Rattle.flow_pieces.specs.SameTrees.{is_same_expr, is_same_cond, is_same_statement}

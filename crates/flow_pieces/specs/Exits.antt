@@ -6,7 +6,7 @@ use Rattle.kat_model.specs.UniqueRows.{with_all_new}
 use Rattle.flow_model.specs.Graphs.{Pair}
 use Rattle.flow_places.specs.Walks.{blocks_from}
 use Rattle.flow_places.specs.Live.{live}
-use Rattle.flow_pieces.specs.Matches.{Equation, Match}
+use Rattle.flow_model.specs.Matches.{Equation, Match}
 use Rattle.flow_pieces.specs.Pieces.{is_matched_before, is_matched_after}
 use Rattle.flow_pieces.specs.PieceGraphs.{arrivals_of, Exit, has_block}
 use Rattle.flow_pieces.specs.SameTrees.{is_same_bool, is_same_expr, is_same_cond}

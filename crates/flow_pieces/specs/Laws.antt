@@ -5,7 +5,8 @@ use Rattle.kat_model.specs.declared.expression.Width.TheVariants.{W32}
 use Rattle.kat_model.specs.Members.{Has}
 use Rattle.flow_model.specs.Graphs.{Pair}
 use Rattle.flow_model.specs.Agreement.{AgreeAlways}
-use Rattle.flow_pieces.specs.Matches.{Match, entry_match}
+use Rattle.flow_model.specs.Matches.{Match}
+use Rattle.flow_pieces.specs.Matches.{entry_match}
 use Rattle.flow_ways.specs.Sorted.{IsSortedGraph}
 use Rattle.flow_pieces.specs.Pieces.{PieceHolds}
 use Rattle.flow_pieces.specs.PieceGraphs.{piece_pair}

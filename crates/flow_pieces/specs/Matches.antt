@@ -1,28 +1,13 @@
--- Matched places of two graphs: pairs of blocks, and how the states there are related.
+-- Matched places of two graphs: how the states there are related.
 use Rattle.std.specs.Prelude.{◌≡◌, ℕ, Bool, true, false, not, ◌&&◌, ◌||◌, nat_eq, List, [], ◌∷◌, slice_index_or}
 use Rattle.kat_model.specs.Members.{Has}
 use Rattle.flow_model.specs.Sorts.{State, IsState}
 use Rattle.flow_model.specs.Expressions.{ExprTree}
 use Rattle.flow_model.specs.Conditions.{CondTree, always}
 use Rattle.flow_model.specs.Graphs.{Pair}
+use Rattle.flow_model.specs.Matches.{Equation, Match}
 use Rattle.flow_model.specs.Interpretations.{Interpretation, value, holds}
 use Rattle.flow_ways.specs.Liveness.{reads, IsLive}
-
--- a variable, and an expression for its value
-pub record Equation : Type 0 where
-  pub variable : ℕ
-  pub expression : ExprTree
-
--- A match of a block of each graph. States there are related by equations of three kinds: `forth` gives variables of the
--- second graph over the state of the first, `back` variables of the first over the state of the second, and `keeping`
--- variables of the first over its own state, which also satisfies the condition.
-pub record Match : Type 0 where
-  pub before : ℕ
-  pub after : ℕ
-  pub forth : List Equation
-  pub back : List Equation
-  pub keeping : List Equation
-  pub condition : CondTree
 
 -- some of the equations gives the variable
 abbrev pub gives : List Equation → ℕ → Bool

@@ -10,7 +10,8 @@ use Rattle.flow_model.specs.Conditions.{CondTree, always, compared, both}
 use Rattle.flow_model.specs.Graphs.{StatementTree, assign, claim, JumpTree, goto, branch, return, abort, Block, Graph, Pair}
 use Rattle.flow_places.specs.Loops.{targets}
 use Rattle.flow_places.specs.Walks.{blocks_from}
-use Rattle.flow_pieces.specs.Matches.{Equation, Match, is_shared}
+use Rattle.flow_model.specs.Matches.{Equation, Match}
+use Rattle.flow_pieces.specs.Matches.{is_shared}
 use Rattle.flow_pieces.specs.Pieces.{is_matched_before, is_matched_after}
 
 -- ---- blocks of a piece

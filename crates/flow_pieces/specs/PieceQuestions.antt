@@ -10,7 +10,8 @@ use Rattle.flow_model.specs.Agreement.{AgreeAlways}
 use Rattle.flow_forms.specs.Expressions.{sort_of, IsSorted}
 use Rattle.flow_ways.specs.Conditions.{IsSortedCond}
 use Rattle.flow_ways.specs.Liveness.{cond_reads, IsLive}
-use Rattle.flow_pieces.specs.Matches.{Equation, Match, gives, equations_read}
+use Rattle.flow_model.specs.Matches.{Equation, Match}
+use Rattle.flow_pieces.specs.Matches.{gives, equations_read}
 use Rattle.flow_pieces.specs.Pieces.{is_matched_before, is_matched_after}
 use Rattle.flow_pieces.specs.PieceGraphs.{Exit, piece_pair}
 

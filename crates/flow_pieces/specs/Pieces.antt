@@ -6,7 +6,8 @@ use Rattle.flow_model.specs.Sorts.{State}
 use Rattle.flow_model.specs.Graphs.{Graph, Pair}
 use Rattle.flow_model.specs.Interpretations.{Interpretation}
 use Rattle.flow_ways.specs.Stops.{Stop, came_to, returned, stop_from}
-use Rattle.flow_pieces.specs.Matches.{Match, Relates}
+use Rattle.flow_model.specs.Matches.{Match}
+use Rattle.flow_pieces.specs.Matches.{Relates}
 
 -- whether a block of the first graph, or of the second, is matched
 abbrev pub is_matched_before : List Match → ℕ → Bool

@@ -1,12 +1,14 @@
 -- What is live before statements and jumps.
-use Rattle.std.proofs.Common.{◌≡◌, ℕ, Bool, true, false, not, ◌&&◌, ◌||◌, List, [], ◌∷◌, refl, sym, ◌∙◌, ap}
+use Rattle.std.proofs.Common.{◌≡◌, ℕ, Bool, true, false, not, ◌&&◌, ◌||◌, List, [], ◌∷◌, ◌++◌, map, refl, sym, ◌∙◌, ap}
 use mathlib.Core.Path.{ap₂}
+use Rattle.std.proofs.lemmas.List.{map_push}
 use Rattle.std.specs.Prelude.{Vec}
 use Rattle.std.specs.declared.alloc.Global.{Global}
 use Rattle.flow_model.specs.declared.graph.ExprNode.{ExprNode}
+use Rattle.flow_model.specs.declared.graph.Statement.{Statement}
 use Rattle.flow_model.specs.Conditions.{CondTree}
 use Rattle.flow_model.specs.Graphs.{StatementTree, assign, claim, goto, branch, return}
-use Rattle.flow_model.specs.Polish.{values_of}
+use Rattle.flow_model.specs.Polish.{values_of, statement_of}
 use Rattle.flow_ways.specs.Liveness.{any_reads, cond_reads, is_target, live_before}
 use Rattle.flow_places.specs.Reads.{values_read}
 use Rattle.flow_places.specs.Live.{live_at_jump}
@@ -16,10 +18,16 @@ or_false : (b : Bool) → (b || false) ≡ b
 or_false true = refl
 or_false false = refl
 
--- statements one after the other
-pub first_before : (x : ℕ) (s : StatementTree) (rest : List StatementTree) (old mid new : Bool) → mid ≡ live_before x rest old → new ≡ live_before x (s ∷ []) mid → new ≡ live_before x (s ∷ rest) old
-first_before x (assign ks es) rest old mid new e f = f ∙ ap (λ b. any_reads x es || (not (is_target x ks) && b)) e
-first_before x (claim c) rest old mid new e f = f ∙ ap (λ b. cond_reads x c || b) e
+-- statements, from the last one to the first
+
+last_before : (x : ℕ) (ss : List StatementTree) (s : StatementTree) (b : Bool) → live_before x (ss ++ s ∷ []) b ≡ live_before x ss (live_before x (s ∷ []) b)
+last_before x [] s b = refl
+last_before x (assign ks es ∷ rest) s b = ap (λ a. any_reads x es || (not (is_target x ks) && a)) (last_before x rest s b)
+last_before x (claim c ∷ rest) s b = ap (λ a. cond_reads x c || a) (last_before x rest s b)
+
+pub left_before : (x : ℕ) (all left : List Statement) (s : Statement) (old new : Bool) → all ≡ left ++ s ∷ [] → new ≡ live_before x (statement_of s ∷ []) old → live_before x (map statement_of left) new ≡ live_before x (map statement_of all) old
+left_before x all left s old new e f =
+    rw (e, map_push statement_of left s, last_before x (map statement_of left) (statement_of s) old, f) refl
 
 pub at_goto : (x k : ℕ) (at : ℕ → Bool) (old new : Bool) → old ≡ false → new ≡ (old || at k) → new ≡ live_at_jump x at (goto k)
 at_goto x k at old new e f = f ∙ ap (λ b. b || at k) e ∙ sym (or_false (at k))

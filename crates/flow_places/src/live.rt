@@ -64,23 +64,15 @@ fn mark_statement(statement: &Statement, live: &mut [bool])
 }
 
 // Marks what is live before statements, where what is live after them is marked.
-#[cycle(mark_statements)]
+#[tactic(auto, using(crate::proofs::LiveRows::left_before))]
 fn mark_statements(statements: &[Statement], live: &mut [bool])
     ensures { Becomes live.old live.new (live_over statements.now live.old) }
 {
-    match statements {
-        [] => {}
-        [statement, rest @ ..] => mark_statements_from(statement, rest, live),
+    let mut rest = statements;
+    'statements: while let [others @ .., statement] = rest {
+        mark_statement(statement, live);
+        rest = others;
     }
-}
-
-#[cycle(mark_statements)]
-#[tactic(auto, using(crate::proofs::LiveRows::first_before))]
-fn mark_statements_from(statement: &Statement, rest: &[Statement], live: &mut [bool])
-    ensures { Becomes live.old live.new (live_over (statement.now ∷ rest.now) live.old) }
-{
-    mark_statements(rest, live);
-    mark_statement(statement, live);
 }
 
 // Marks what is live at a block.

@@ -13,11 +13,11 @@ use Rattle.flow_syntax.specs.declared.written.Block.{Block}
 use Rattle.flow_syntax.specs.SyntaxViews.{cond_syntax, equation_syntax, equations_syntax, blocks_syntax}
 use Rattle.flow_syntax.specs.Syntax.{CondSyntax}
 use Rattle.flow_syntax.proofs.Stacked.{cond_none, equations_push, blocks_push}
-use Rattle.flow_text.specs.declared.matches.Equation.{Equation}
-use Rattle.flow_text.specs.declared.matches.Match.{Match}
+use Rattle.flow_model.specs.declared.block_match.Equation.{Equation}
+use Rattle.flow_text.specs.declared.matches.FileMatch.{FileMatch as AFileMatch}
 use Rattle.flow_text.specs.declared.known.WrittenMatch.{WrittenMatch}
 use Rattle.flow_text.specs.declared.known.WrittenGraph.{WrittenGraph}
-use Rattle.flow_text.specs.Matches as parts
+use Rattle.flow_model.specs.Matches as parts
 use Rattle.flow_text.specs.Matches.{FileMatch}
 use Rattle.flow_text.specs.MatchViews.{equation_parts, equations_of, match_parts}
 use Rattle.flow_text.specs.KnownViews.{graph_syntax, given_match_of}
@@ -32,9 +32,9 @@ pub given_seen : (k : ℕ) (qs : List Equation) → list_any (λ (q : parts.Equa
 given_seen k [] = refl
 given_seen k (q ∷ qs) = ap (λ b. nat_eq q.variable k || b) (given_seen k qs)
 
-pub matched_seen : (k l : ℕ) (ms : List Match) → list_any (λ (m : FileMatch). nat_eq m.before k && nat_eq m.after l) (map match_parts ms) ≡ list_any (λ (m : Match). nat_eq m.before k && nat_eq m.after l) ms
+pub matched_seen : (k l : ℕ) (ms : List AFileMatch) → list_any (λ (m : FileMatch). nat_eq m.blocks.before k && nat_eq m.blocks.after l) (map match_parts ms) ≡ list_any (λ (m : AFileMatch). nat_eq m.blocks.before k && nat_eq m.blocks.after l) ms
 matched_seen k l [] = refl
-matched_seen k l (m ∷ ms) = ap (λ b. (nat_eq m.before k && nat_eq m.after l) || b) (matched_seen k l ms)
+matched_seen k l (m ∷ ms) = ap (λ b. (nat_eq m.blocks.before k && nat_eq m.blocks.after l) || b) (matched_seen k l ms)
 
 -- ---- equations
 

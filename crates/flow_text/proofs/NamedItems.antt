@@ -24,7 +24,8 @@ use Rattle.flow_syntax.specs.Syntax.{NodeSyntax, numeral, named, called, convert
 use Rattle.flow_text.specs.Scopes.{FunctionParts, function_parts, ScopeParts, meaning, meaning_in, may_declare, with_sort, with_variable, sorts_declared, variables_declared, sort_meant, sort_or_width, sort_named, width_named, few_parameters, next_parameter, parameters_after, same_sort, may_have_function, may_have_graph, scope_before}
 use Rattle.flow_text.specs.Resolving.{Expected, operand, second_operand, number_of_width, number_in, with_expected_sort, variable_in, application_of, function_in, conversion_in, sort_or_u64, sort_of_first, sort_of_sides, node_in, sort_expected, next_node, nodes_after, expression_of, relation_on, rel_named, width_of_sort, comparison_of, signed_comparison_of, part_of, parts_after, condition_of}
 use Rattle.flow_syntax.specs.Sizes.{nodes_with, nodes_with_match}
-use Rattle.flow_text.specs.Matches.{Equation, FileMatch}
+use Rattle.flow_model.specs.Matches.{Equation}
+use Rattle.flow_text.specs.Matches.{FileMatch}
 use Rattle.flow_text.specs.Checking.{is_set, target_of, target_meant, next_target, targets_after, expressions_after, expressions_of, seconds, assigned, statement_of, statements_after, block_or_fault, found, block_names, block_name, returned, jump_of, may_have_block, block_of, next_block, blocks_after, graph_of, GraphSyntax, a_graph, GivenMatch, given_match, Known, nothing_known, graph_meant, at_most_once, with_nodes, with_match, few_rounds, is_given_by, equation_for, next_equation, equations_after, condition_or_always, rounds_given, is_matched, may_match, blocks_matched, resolved_match, with_name, with_names, with_blocks, next_matches, matches_after, blocks_or_none, matches_of, item_known, items_known, sorts_returned, shared_sorts, whole_graph, next_graph, graphs_after, with_goal, file_of}
 
 -- ---- names

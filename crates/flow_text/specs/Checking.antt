@@ -22,7 +22,8 @@ use Rattle.flow_text.specs.Scopes.{ScopeParts, Counts, no_names, meaning, meanin
 use Rattle.flow_text.specs.DeclaredNames.{variable_names, function_names}
 use Rattle.flow_text.specs.Resolving.{sort_of_first, sort_or_u64, expression_of, condition_of}
 use Rattle.flow_syntax.specs.Sizes.{nodes_with, nodes_with_match}
-use Rattle.flow_text.specs.Matches.{Equation, FileMatch}
+use Rattle.flow_model.specs.Matches.{Equation, Match}
+use Rattle.flow_text.specs.Matches.{FileMatch}
 
 -- the number of the first of some names that is the text
 abbrev pub found : List (List ℕ × ℕ) → List ℕ → Option ℕ
@@ -274,7 +275,7 @@ rounds_given (Some t) = few_rounds t (spelled_number t) >>= λ n. Ok (Some n)
 
 -- whether the blocks are matched: the entries always are
 abbrev pub is_matched : List FileMatch → ℕ → ℕ → Bool
-is_matched ms k l = (nat_eq k 0 && nat_eq l 0) || list_any (λ m. nat_eq m.before k && nat_eq m.after l) ms
+is_matched ms k l = (nat_eq k 0 && nat_eq l 0) || list_any (λ m. nat_eq m.blocks.before k && nat_eq m.blocks.after l) ms
 
 -- the blocks may be matched: they are not yet, and with them and the entries there are few matches
 abbrev pub may_match : List FileMatch → ℕ → ℕ → TokenParts → Result (Unit {0}) TextFault
@@ -290,7 +291,12 @@ blocks_matched ms t u i j =
 
 abbrev pub file_match : ℕ × ℕ → List Equation → List Equation → List Equation → CondTree → Option ℕ → Bool → ℕ → FileMatch
 file_match blocks forth back keeping condition n splits at =
-    record { before = blocks.0; after = blocks.1; forth = forth; back = back; keeping = keeping; condition = condition; rounds = n; splits = splits; at = at }
+    record {
+      blocks = record { before = blocks.0; after = blocks.1; forth = forth; back = back; keeping = keeping; condition = condition };
+      rounds = n;
+      splits = splits;
+      at = at;
+    }
 
 -- what relates the states at matched blocks, and what is said of their question
 abbrev pub resolved_match : ScopeParts → ℕ × ℕ → ℕ → BlockMatchSyntax → Result FileMatch TextFault

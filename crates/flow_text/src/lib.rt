@@ -25,6 +25,6 @@ pub use laws::have_one_answer;
 pub use limits::{
     MAX_BLOCKS, MAX_FUNCTIONS, MAX_MATCHES, MAX_PARAMETERS, MAX_SORTS, MAX_VARIABLES,
 };
-pub use matches::{Equation, Match};
+pub use matches::FileMatch;
 pub use meaning::Meaning;
 pub use reading::{FlowFile, read};

@@ -25,51 +25,27 @@ use crate::resolve_expr::resolve_expr;
 use crate::results::sight_before;
 use crate::scope::Scope;
 use crate::visible_names::VisibleNames;
-use flow_model::{CondNode, ExprNode};
-use flow_syntax::{Block, BlockMatch, spelled_number};
+use flow_model::{BlockMatch, CondNode, Equation};
+use flow_syntax::{Block, spelled_number};
 use kat_model::{NoMemory, append};
 use std::alloc::Global;
 use std::collections::BTreeMap;
 use text_parser::{TextFault, Token};
 
-/// A variable, by its number, and an expression for its value.
-pub struct Equation {
-    pub variable: usize,
-    pub value: Vec<ExprNode>,
-}
-
-impl Drop for Equation {
-    fn drop(self) {
-        let Equation {
-            variable: _,
-            value: _value,
-        } = self;
-    }
-}
-
-/// A match of a block of each graph of the goal: the equations of `where`, of `back` and of `keeping`, and the condition.
-/// The rounds and `split` are of the question of these blocks; the place is that of the keyword.
-pub struct Match {
-    pub before: usize,
-    pub after: usize,
-    pub forth: Vec<Equation>,
-    pub back: Vec<Equation>,
-    pub keeping: Vec<Equation>,
-    pub condition: Vec<CondNode>,
+/// A match of a block of each graph of the goal. The rounds, if they are given, and `split` are of the question of these
+/// blocks; the place is that of the keyword.
+pub struct FileMatch {
+    pub blocks: BlockMatch,
     pub rounds: Option<u64>,
     pub splits: bool,
     pub at: usize,
 }
 
-impl Drop for Match {
+// Explicit, so that it is proved once and not at each end of each function that owns one.
+impl Drop for FileMatch {
     fn drop(self) {
-        let Match {
-            before: _,
-            after: _,
-            forth: _forth,
-            back: _back,
-            keeping: _keeping,
-            condition: _condition,
+        let FileMatch {
+            blocks: _blocks,
             rounds: _,
             splits: _,
             at: _,
@@ -96,8 +72,8 @@ fn next_equation(
     if is_given_by(before, variable) {
         return repeat_fault(&equation.variable);
     }
-    let value = resolve_expr(alloc, visible_names, sort, &equation.value)?;
-    Ok(Equation { variable, value })
+    let expression = resolve_expr(alloc, visible_names, sort, &equation.value)?;
+    Ok(Equation { variable, expression })
 }
 
 #[tactic(auto, using(flow_syntax::proofs::Stacked::pushes, crate::proofs::LastTaken::last))]
@@ -151,22 +127,22 @@ fn rounds_given(token: Option<Token>) -> Result<Option<u64>, TextFault>
     }
 }
 
-fn is_listed(matches: &[Match], k: usize, l: usize) -> bool
-    ensures { result ≡ list_any (λ m. nat_eq m.before k && nat_eq m.after l) (matches_parts matches.now) }
+fn is_listed(matches: &[FileMatch], k: usize, l: usize) -> bool
+    ensures { result ≡ list_any (λ m. nat_eq m.blocks.before k && nat_eq m.blocks.after l) (matches_parts matches.now) }
 {
     matches
         .iter()
-        .any(|matched| matched.before == k && matched.after == l)
+        .any(|matched| matched.blocks.before == k && matched.blocks.after == l)
 }
 
-fn is_matched(matches: &[Match], k: usize, l: usize) -> bool
+fn is_matched(matches: &[FileMatch], k: usize, l: usize) -> bool
     ensures { result ≡ is_matched (matches_parts matches.now) k l }
 {
     (k == 0 && l == 0) || is_listed(matches, k, l)
 }
 
 // Checks that the blocks are not matched yet, and that there may be another match.
-fn may_match(matches: &[Match], k: usize, l: usize, token: &Token) -> Result<(), TextFault>
+fn may_match(matches: &[FileMatch], k: usize, l: usize, token: &Token) -> Result<(), TextFault>
     ensures { result ≡ may_match (matches_parts matches.now) k l (parts_of_token token.now) }
 {
     if is_matched(matches, k, l) {
@@ -180,7 +156,7 @@ fn may_match(matches: &[Match], k: usize, l: usize, token: &Token) -> Result<(),
 
 // Returns the numbers of the blocks that a match names.
 fn blocks_matched(
-    matches: &[Match],
+    matches: &[FileMatch],
     before: &BTreeMap<String, usize>,
     after: &BTreeMap<String, usize>,
     name: &Token,
@@ -200,8 +176,8 @@ fn resolved_match(
     visible_names: &VisibleNames,
     blocks: (usize, usize),
     at: usize,
-    written: &BlockMatch,
-) -> Result<Match, TextFault>
+    written: &flow_syntax::BlockMatch,
+) -> Result<FileMatch, TextFault>
     ensures { Makes (Unit {0}) match_parts result (resolved_match (sight_parts visible_names.now) blocks at (block_match_syntax written.now)) }
 {
     let forth = equations(alloc, visible_names, &written.forth)?;
@@ -209,13 +185,16 @@ fn resolved_match(
     let keeping = equations(alloc, visible_names, &written.keeping)?;
     let condition = condition_or_always(alloc, visible_names, &written.condition)?;
     let rounds = rounds_given(written.rounds)?;
-    Ok(Match {
+    let blocks = BlockMatch {
         before: blocks.0,
         after: blocks.1,
         forth,
         back,
         keeping,
         condition,
+    };
+    Ok(FileMatch {
+        blocks,
         rounds,
         splits: written.splits,
         at,
@@ -223,17 +202,20 @@ fn resolved_match(
 }
 
 // Returns the match of two blocks that says no more.
-fn plain_match(alloc: Global, blocks: (usize, usize), at: usize) -> Result<Match, NoMemory>
+fn plain_match(alloc: Global, blocks: (usize, usize), at: usize) -> Result<FileMatch, NoMemory>
     ensures { IfOk result (λ m. match_parts m ≡ file_match blocks [] [] [] always None false at) }
 {
     let condition = always(alloc)?;
-    Ok(Match {
+    let blocks = BlockMatch {
         before: blocks.0,
         after: blocks.1,
         forth: Vec::new(alloc),
         back: Vec::new(alloc),
         keeping: Vec::new(alloc),
         condition,
+    };
+    Ok(FileMatch {
+        blocks,
         rounds: None,
         splits: false,
         at,
@@ -243,7 +225,7 @@ fn plain_match(alloc: Global, blocks: (usize, usize), at: usize) -> Result<Match
 // Adds the match of two blocks of the same name, if there is the second, unless they are the entries.
 fn add_name(
     alloc: Global,
-    matches: &mut Vec<Match>,
+    matches: &mut Vec<FileMatch>,
     word: &Token,
     k: usize,
     other: Option<usize>,
@@ -266,7 +248,7 @@ fn add_name(
 #[tactic(auto, using(flow_syntax::proofs::Stacked::pushes, crate::proofs::LastTaken::last))]
 fn add_names(
     alloc: Global,
-    matches: &mut Vec<Match>,
+    matches: &mut Vec<FileMatch>,
     after: &BTreeMap<String, usize>,
     word: &Token,
     blocks: &[Block],
@@ -288,9 +270,9 @@ fn add_blocks(
     visible_names: &VisibleNames,
     first: &BTreeMap<String, usize>,
     second: &BTreeMap<String, usize>,
-    matches: &mut Vec<Match>,
+    matches: &mut Vec<FileMatch>,
     word: &Token,
-    written: &BlockMatch,
+    written: &flow_syntax::BlockMatch,
 ) -> Result<(), TextFault>
     ensures { Does (Unit {0}) result (matches_parts matches.new.items) (with_blocks (sight_parts visible_names.now) (get_by_text first.now) (get_by_text second.now) (matches_parts matches.old.items) (parts_of_token word.now) (block_match_syntax written.now)) }
 {
@@ -307,7 +289,7 @@ fn add_matches(
     blocks: &[Block],
     first: &BTreeMap<String, usize>,
     second: &BTreeMap<String, usize>,
-    matches: &mut Vec<Match>,
+    matches: &mut Vec<FileMatch>,
     written: &WrittenMatch,
 ) -> Result<(), TextFault>
     ensures { Does (Unit {0}) result (matches_parts matches.new.items) (next_matches (scope_parts scope.now) (block_names 0 (blocks_syntax blocks.now)) (get_by_text first.now) (get_by_text second.now) (matches_parts matches.old.items) (given_match_of written.now)) }
@@ -342,7 +324,7 @@ fn matches_between(
     blocks: &[Block],
     others: &[Block],
     written: &[WrittenMatch],
-) -> Result<Vec<Match>, TextFault>
+) -> Result<Vec<FileMatch>, TextFault>
     ensures { Makes (Unit {0}) (λ v. matches_parts v.items) result (matches_between (scope_parts scope.now) (blocks_syntax blocks.now) (blocks_syntax others.now) (map given_match_of written.now)) }
 {
     let first = block_names(alloc, blocks)?;
@@ -368,7 +350,7 @@ fn matches_with(
     known: &Known,
     blocks: &[Block],
     k: usize,
-) -> Result<Vec<Match>, TextFault>
+) -> Result<Vec<FileMatch>, TextFault>
     ensures { Makes (Unit {0}) (λ v. matches_parts v.items) result (matches_between (scope_parts known.now.scope) (blocks_syntax blocks.now) (blocks_or_none (slice_get (map graph_syntax known.now.graphs.items) k)) (map given_match_of known.now.matches.items)) }
 {
     match known.graphs.get(k) {
@@ -382,7 +364,7 @@ pub(crate) fn file_matches(
     alloc: Global,
     known: &Known,
     goal: (usize, usize),
-) -> Result<Vec<Match>, TextFault>
+) -> Result<Vec<FileMatch>, TextFault>
     ensures { Makes (Unit {0}) (λ v. matches_parts v.items) result (matches_of (known_parts known.now) goal) }
 {
     match known.graphs.get(goal.0) {

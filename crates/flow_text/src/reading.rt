@@ -14,7 +14,7 @@ ghost use Rattle.flow_text.specs.Texts.{IsFlowText, Answers};
 use crate::check_blocks::check_graph;
 use crate::declared_names::{DeclaredNames, declared_names};
 use crate::known::{Known, WrittenGraph, check_items};
-use crate::matches::{Match, file_matches};
+use crate::matches::{FileMatch, file_matches};
 use crate::results::{Results, sight_of};
 use crate::scope::Scope;
 use flow_model::{Block, Sort};
@@ -33,7 +33,7 @@ pub struct FlowFile {
     /// The numbers of the graphs of the goal.
     pub before: usize,
     pub after: usize,
-    pub matches: Vec<Match>,
+    pub matches: Vec<FileMatch>,
     pub rounds: u64,
     pub splits: bool,
     /// The names of the variables and of the functions, in the order of their declarations.

@@ -8,12 +8,12 @@ use Rattle.flow_model.specs.declared.graph.ExprNode.{ExprNode}
 use Rattle.flow_model.specs.Expressions.{ExprTree}
 use Rattle.flow_model.specs.Polish.{values_of}
 use Rattle.flow_model.specs.Graphs.{Graph}
-use Rattle.flow_pieces.specs.Matches.{Match}
+use Rattle.flow_model.specs.Matches.{Match}
 use Rattle.flow_pieces.specs.PieceGraphs.{Exit, arrivals_of, has_block}
 use Rattle.flow_pieces.specs.Exits.{have_same_parts, share_column, is_ambiguous}
 use Rattle.flow_places.specs.Tables.{noted}
 use Rattle.flow_matches.specs.declared.tables.MatchTables.{MatchTables}
-use Rattle.flow_matches.specs.declared.block_match.BlockMatch.{BlockMatch}
+use Rattle.flow_model.specs.declared.block_match.BlockMatch.{BlockMatch}
 use Rattle.flow_matches.specs.declared.exits.Exit.{Exit as AnExit}
 use Rattle.flow_matches.specs.declared.exits.Arrivals.{Arrivals}
 use Rattle.flow_matches.specs.MatchViews.{match_at}

@@ -2,7 +2,7 @@
 use Rattle.std.specs.Prelude.{◌≡◌, ◌↔◌, ℕ, suc, Bool, true, false, List, [], ◌∷◌, ◌++◌, reverse, vec_len, Option, Some, None, slice_get}
 use Rattle.kat_model.specs.Members.{Has}
 use Rattle.flow_model.specs.Graphs.{Pair}
-use Rattle.flow_pieces.specs.Matches.{Match}
+use Rattle.flow_model.specs.Matches.{Match}
 use Rattle.flow_pieces.specs.SameTexts.{walk_pairs}
 use Rattle.flow_matches.specs.declared.text.TextWalk.{TextWalk}
 

@@ -1,6 +1,6 @@
 use Rattle.std.proofs.Common.{inl, inr, sym}
 use Rattle.flow_pieces.specs.Exits.{is_same_equation}
-use Rattle.flow_matches.specs.MatchViews.{equation_of}
+use Rattle.flow_model.specs.Matches.{equation_of}
 use Rattle.flow_matches.proofs.SameLists.{unlike_lengths, item_differs, item_same, lengths_kept, none_left, none_right}
 use Rattle.flow_matches.proofs.same_lists.are_same_equations.Goals as goal
 

@@ -1,7 +1,7 @@
 use Rattle.std.proofs.Common.{◌≡◌, length, map}
 use Rattle.std.specs.Cmp.Lexicographic.{pointwise}
 use Rattle.flow_pieces.specs.Exits.{is_same_equation}
-use Rattle.flow_matches.specs.MatchViews.{equation_of}
+use Rattle.flow_model.specs.Matches.{equation_of}
 use Rattle.flow_matches.proofs.same_lists.are_same_equations.Given as goal
 
 -- the remaining items decide

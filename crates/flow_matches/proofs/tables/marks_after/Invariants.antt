@@ -1,5 +1,5 @@
 use Rattle.std.proofs.Common.{length, take}
-use Rattle.flow_matches.specs.declared.block_match.BlockMatch.{BlockMatch}
+use Rattle.flow_model.specs.declared.block_match.BlockMatch.{BlockMatch}
 use Rattle.flow_matches.proofs.MarkedBlocks.{AreSet}
 use Rattle.flow_matches.proofs.tables.marks_after.Given as goal
 

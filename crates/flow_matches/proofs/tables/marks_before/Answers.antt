@@ -1,6 +1,6 @@
 use Rattle.std.proofs.Common.{length, ap, refl, subst, take_all}
-use Rattle.flow_pieces.specs.Matches.{Match}
-use Rattle.flow_matches.specs.declared.block_match.BlockMatch.{BlockMatch}
+use Rattle.flow_model.specs.Matches.{Match}
+use Rattle.flow_model.specs.declared.block_match.BlockMatch.{BlockMatch}
 use Rattle.flow_matches.proofs.MarkedBlocks.{AreSet, set_next, all_set}
 use Rattle.flow_matches.proofs.tables.marks_before.Goals as goal
 

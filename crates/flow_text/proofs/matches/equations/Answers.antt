@@ -3,7 +3,7 @@ use Rattle.std.specs.Prelude.{Vec}
 use Rattle.std.specs.declared.alloc.Global.{Global}
 use Rattle.std.proofs.lemmas.Result.{err_from_is_err_and}
 use Rattle.text_parser.specs.declared.fault.TextFault.{TextFault}
-use Rattle.flow_text.specs.declared.matches.Equation.{Equation}
+use Rattle.flow_model.specs.declared.block_match.Equation.{Equation}
 use Rattle.flow_text.specs.Checking.{next_equation, equations_after}
 use Rattle.flow_text.specs.MatchViews.{equation_parts, equations_of}
 use Rattle.flow_text.specs.ScopeViews.{sight_parts}

@@ -1,7 +1,7 @@
 use Rattle.std.proofs.Common.{nat_eq, rules, tests, sym, ◌∙◌}
 use Rattle.std.proofs.lemmas.Iterator.{YieldsList-from_slice}
 use Rattle.std.proofs.lemmas.Iterator.Search.{any_from_yields_List}
-use Rattle.flow_text.specs.declared.matches.Equation.{Equation}
+use Rattle.flow_model.specs.declared.block_match.Equation.{Equation}
 use Rattle.flow_text.proofs.MatchSteps.{given_seen}
 use Rattle.flow_text.proofs.matches.is_given_by.Goals as goal
 

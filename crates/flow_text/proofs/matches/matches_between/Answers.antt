@@ -4,7 +4,7 @@ use Rattle.std.specs.declared.alloc.Global.{Global}
 use Rattle.std.specs.BTreeMap.{get_by_text}
 use Rattle.std.proofs.lemmas.Result.{err_from_is_err_and}
 use Rattle.text_parser.specs.declared.fault.TextFault.{TextFault}
-use Rattle.flow_text.specs.declared.matches.Match.{Match}
+use Rattle.flow_text.specs.declared.matches.FileMatch.{FileMatch as AFileMatch}
 use Rattle.flow_text.specs.Matches.{FileMatch}
 use Rattle.flow_text.specs.Checking.{found, block_names, next_matches, matches_between}
 use Rattle.flow_text.specs.MatchViews.{matches_parts}
@@ -44,7 +44,7 @@ returns-in_err-add_matches c =
     let fault = c.in_err-add_matches.field-0.0 in
     let whole = matches_between s bs cs (map given_match_of c.args.written.now) in
     let answer = err_from_is_err_and c.from_residual-in_err-add_matches.result c.from_residual-in_err-add_matches.ensures.1 in
-    fault_given (List FileMatch) (Unit {0}) (λ (v : Vec Match Global). matches_parts v.items) now c.from_residual-in_err-add_matches.result fault (next_matches s names first second made (given_match_of x)) whole (answer.1 ∙ ap (λ (f : TextFault). Err f) answer.2) c.in_err-add_matches.ensures
+    fault_given (List FileMatch) (Unit {0}) (λ (v : Vec AFileMatch Global). matches_parts v.items) now c.from_residual-in_err-add_matches.result fault (next_matches s names first second made (given_match_of x)) whole (answer.1 ∙ ap (λ (f : TextFault). Err f) answer.2) c.in_err-add_matches.ensures
     (λ fails. matches_fault s names (found names) (found (block_names 0 cs)) made c.args.written.now c.loop-item.item-index x fault whole c.loop-item-test.true c.item-item.is c.loop-item.invariant
     (ap (λ (f : List ℕ → Option ℕ). next_matches s names f (found (block_names 0 cs)) made (given_match_of x)) (sym c.in_ok-first.ensures)
     ∙ ap (λ (f : List ℕ → Option ℕ). next_matches s names first f made (given_match_of x)) (sym c.in_ok-second.ensures) ∙ fails))

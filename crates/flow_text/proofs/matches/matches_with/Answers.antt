@@ -5,7 +5,7 @@ use Rattle.text_parser.specs.declared.fault.TextFault.{TextFault}
 use Rattle.text_parser.specs.Parsed.{Makes}
 use Rattle.flow_text.specs.declared.known.WrittenGraph.{WrittenGraph}
 use Rattle.flow_text.specs.declared.known.WrittenMatch.{WrittenMatch}
-use Rattle.flow_text.specs.declared.matches.Match.{Match}
+use Rattle.flow_text.specs.declared.matches.FileMatch.{FileMatch as AFileMatch}
 use Rattle.flow_text.specs.Matches.{FileMatch}
 use Rattle.flow_text.specs.Checking.{blocks_or_none, matches_between}
 use Rattle.flow_text.specs.MatchViews.{matches_parts}
@@ -23,7 +23,7 @@ returns-in-None c =
     let bs = blocks_syntax c.args.blocks.now in
     let graphs = c.args.known.now.graphs.items in
     let past : length graphs ≤ c.args.k = subst (λ (gs : List WrittenGraph). length gs ≤ c.args.k) c.deref.ensures.value c.in-None.ensures.lookup.3 in
-    subst (λ (m : Result (List FileMatch) TextFault). Makes (Unit {0}) (λ (v : Vec Match Global). matches_parts v.items) c.matches_between-in-None.result m)
+    subst (λ (m : Result (List FileMatch) TextFault). Makes (Unit {0}) (λ (v : Vec AFileMatch Global). matches_parts v.items) c.matches_between-in-None.result m)
     (ap (λ (cs : List BlockSyntax). matches_between s bs cs (map given_match_of c.deref-in-None.result.now)) (blocks_none ∙ no_blocks_at graphs c.args.k past)
     ∙ ap (λ (ms : List WrittenMatch). matches_between s bs (blocks_or_none (slice_get (map graph_syntax graphs) c.args.k)) (map given_match_of ms)) c.deref-in-None.ensures.value)
     c.matches_between-in-None.ensures

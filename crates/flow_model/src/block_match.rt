@@ -1,12 +1,21 @@
 //! Matches of blocks of two graphs, as programs hold them.
 
-use flow_model::{CondNode, ExprNode};
+use crate::graph::{CondNode, ExprNode};
 
 /// A variable, by its number, and an expression for its value.
-#[derive(Drop)]
 pub struct Equation {
     pub variable: usize,
     pub expression: Vec<ExprNode>,
+}
+
+// Explicit, so that it is proved once and not at each end of each function that owns one.
+impl Drop for Equation {
+    fn drop(self) {
+        let Equation {
+            variable: _,
+            expression: _expression,
+        } = self;
+    }
 }
 
 /// A match of a block of each graph, by their numbers. States there are related by equations of three kinds: `forth`
