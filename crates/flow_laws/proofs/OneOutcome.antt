@@ -11,7 +11,7 @@ use Rattle.flow_model.specs.Polish.{cond_of, values_of, statement_of, jump_of, b
 use Rattle.flow_ways.specs.Conditions.{FlowCondTree, opposite_cond}
 use Rattle.flow_ways.specs.Ways.{SymbolicRun, with_test, condition_on, after_statements, first_course}
 use Rattle.flow_ways.specs.Outcomes.{Outcome, together, if_fits, outcome_if, one_way, placed_way, branch_outcome, jump_outcome, block_outcome, outcome_from}
-use Rattle.flow_laws.specs.WholeGraphs.{is_whole_statement, is_whole_jump, is_whole_block, are_whole_blocks}
+use Rattle.flow_model.specs.WholeGraphs.{is_whole_statement, is_whole_jump, is_whole_block, are_whole_blocks}
 use Rattle.flow_laws.specs.GraphOutcomes.{result_way, jump_tree_outcome, block_tree_outcome, graph_outcome_from}
 use Rattle.flow_laws.specs.Laws.{WholeOutcomes}
 use Rattle.flow_laws.proofs.TreeFits.{both_true, values_whole, cond_whole, statements_whole}

@@ -23,7 +23,7 @@ use Rattle.flow_ways.specs.Sorted.{AreSorted, AreAssigned, AreSortedStatements, 
 use Rattle.flow_text.specs.Trees as read
 use Rattle.flow_text.specs.Trees.{only_expr, only_cond}
 use Rattle.flow_laws.proofs.SortedGraphs.{IsPart, AreParts, AreConds}
-use Rattle.flow_laws.specs.WholeGraphs.{is_whole_expr, are_whole_exprs, has_whole_sides, is_whole_cond, is_whole_statement, is_whole_jump, is_whole_block, are_whole_blocks}
+use Rattle.flow_model.specs.WholeGraphs.{is_whole_expr, are_whole_exprs, has_whole_sides, is_whole_cond, is_whole_statement, is_whole_jump, is_whole_block, are_whole_blocks}
 
 pub both : (a b : Bool) → a ≡ true → b ≡ true → (a && b) ≡ true
 both a b g h = rw (g, h) refl

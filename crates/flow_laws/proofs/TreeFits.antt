@@ -22,7 +22,7 @@ use Rattle.flow_ways.specs.Conditions.{compared_values}
 use Rattle.flow_ways.specs.CondForms.{literal_is_small, cond_node_fits, cond_nodes_fit}
 use Rattle.flow_ways.specs.Ways.{SymbolicRun}
 use Rattle.flow_ways.specs.Outcomes.{values_fit, statement_fits, after_statement, fits_if, statements_fit}
-use Rattle.flow_laws.specs.WholeGraphs.{is_whole_expr, are_whole_exprs, has_whole_sides, is_whole_cond, is_whole_statement}
+use Rattle.flow_model.specs.WholeGraphs.{is_whole_expr, are_whole_exprs, has_whole_sides, is_whole_cond, is_whole_statement}
 use Rattle.flow_laws.specs.GraphOutcomes.{cond_fits, tree_fits, trees_fit}
 
 -- ---- Booleans

@@ -14,9 +14,9 @@ use Rattle.flow_text.specs.MatchViews.{equations_of, blocks_parts, matches_parts
 use Rattle.flow_text.specs.Checking.{FlowFileParts, pair_of}
 use Rattle.flow_text.specs.FileViews.{graphs_of, file_parts}
 use Rattle.flow_text.specs.Texts.{IsFlowText}
-use Rattle.flow_laws.specs.WholeGraphs.{is_whole_expr, is_whole_cond, IsWholeGraph}
+use Rattle.flow_model.specs.WholeGraphs.{is_whole_expr, is_whole_cond, IsWholeGraph}
 use Rattle.flow_laws.specs.SortedMatches.{AreSortedEquations, IsSortedMatch, IsMatchOf}
-use Rattle.flow_laws.specs.WholeMatches.{are_whole_equations, IsWholeMatch}
+use Rattle.flow_model.specs.WholeMatches.{are_whole_equations, IsWholeMatch}
 use Rattle.flow_laws.proofs.ReadGraphs.{both, expr_whole, cond_whole, graph_whole}
 use Rattle.flow_laws.proofs.SortedMatches.{AreMatches}
 use Rattle.flow_laws.proofs.SortedFiles.{AreGood, flow_graphs_good, flow_matches_sorted}

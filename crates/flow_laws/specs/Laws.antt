@@ -4,7 +4,7 @@ use Rattle.flow_model.specs.declared.sort.Sort.{Sort}
 use Rattle.flow_model.specs.declared.graph.Block.{Block}
 use Rattle.flow_model.specs.Polish.{graph_of}
 use Rattle.flow_ways.specs.Outcomes.{all_ways}
-use Rattle.flow_laws.specs.WholeGraphs.{are_whole_blocks}
+use Rattle.flow_model.specs.WholeGraphs.{are_whole_blocks}
 use Rattle.flow_laws.specs.GraphOutcomes.{graph_outcome}
 
 -- the ways of a whole graph are those of its trees

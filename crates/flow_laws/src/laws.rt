@@ -6,8 +6,8 @@ ghost use Rattle.flow_text.specs.Texts.{IsFlowText};
 ghost use Rattle.flow_text.specs.FileViews.{file_parts};
 ghost use Rattle.flow_text.specs.declared.reading.FlowFile.{FlowFile};
 ghost use Rattle.flow_laws.specs.SortedMatches.{IsMatchOf};
-ghost use Rattle.flow_laws.specs.WholeGraphs.{IsWholeGraph};
-ghost use Rattle.flow_laws.specs.WholeMatches.{IsWholeMatch};
+ghost use Rattle.flow_model.specs.WholeGraphs.{IsWholeGraph};
+ghost use Rattle.flow_model.specs.WholeMatches.{IsWholeMatch};
 ghost use Rattle.flow_problem.specs.PlacedProblems.{IsFlowPair};
 ghost use Rattle.flow_laws.specs.Laws.{WholeOutcomes};
 

@@ -7,4 +7,6 @@ pub mod Interpretations
 pub mod SignedOrder
 pub mod Runs
 pub mod Matches
+pub mod WholeGraphs
+pub mod WholeMatches
 pub mod Agreement

@@ -7,7 +7,7 @@ use Rattle.flow_ways.specs.Sorted.{IsSortedGraph}
 use Rattle.flow_text.specs.Trees as read
 use Rattle.flow_text.specs.Checking.{FlowFileParts, graph_or_none, pair_of}
 use Rattle.flow_laws.proofs.ReadGraphs.{graph_whole}
-use Rattle.flow_laws.specs.WholeGraphs.{are_whole_blocks}
+use Rattle.flow_model.specs.WholeGraphs.{are_whole_blocks}
 use Rattle.flow_abstraction.specs.HypothesisViews.{flow_rule}
 use Rattle.flow_problem.specs.FlowProblems.{FlowQuestion}
 use Rattle.flow_problem.specs.PlacedProblems.{IsFlowPair, IsFlowProblem}

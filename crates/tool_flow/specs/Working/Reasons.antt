@@ -6,7 +6,7 @@ use Rattle.flow_model.specs.Graphs.{Graph}
 use Rattle.flow_model.specs.Polish.{graph_of}
 use Rattle.flow_ways.specs.declared.limits.TheConstants.{MAX_WAYS}
 use Rattle.flow_ways.specs.Outcomes.{Outcome}
-use Rattle.flow_laws.specs.WholeGraphs.{are_whole_blocks}
+use Rattle.flow_model.specs.WholeGraphs.{are_whole_blocks}
 use Rattle.flow_laws.proofs.OneOutcome.{whole_outcomes}
 use Rattle.flow_places.specs.Places.{is_place}
 use Rattle.flow_problem.specs.FlowProblems.{FlowQuestion}

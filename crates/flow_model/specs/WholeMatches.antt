@@ -3,7 +3,7 @@ use Rattle.std.specs.Prelude.{◌≡◌, Bool, true, ◌&&◌, List}
 use Rattle.std.specs.List.{list_all}
 use Rattle.flow_model.specs.declared.block_match.Equation.{Equation}
 use Rattle.flow_model.specs.declared.block_match.BlockMatch.{BlockMatch}
-use Rattle.flow_laws.specs.WholeGraphs.{is_whole_expr, is_whole_cond}
+use Rattle.flow_model.specs.WholeGraphs.{is_whole_expr, is_whole_cond}
 
 abbrev pub are_whole_equations : List Equation → Bool
 are_whole_equations qs = list_all (λ q. is_whole_expr q.expression.items) qs
