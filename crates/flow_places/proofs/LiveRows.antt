@@ -1,7 +1,7 @@
 -- What is live before statements and jumps.
-use Rattle.std.proofs.Common.{◌≡◌, ℕ, Bool, true, false, not, ◌&&◌, ◌||◌, List, [], ◌∷◌, ◌++◌, map, refl, sym, ◌∙◌, ap}
+use Rattle.std.proofs.Common.{◌≡◌, ℕ, Bool, true, false, not, ◌&&◌, ◌||◌, ◌+◌, ◌-◌, List, [], ◌∷◌, ◌++◌, length, map, take, refl, sym, ◌∙◌, ap, arith, length-append}
 use mathlib.Core.Path.{ap₂}
-use Rattle.std.proofs.lemmas.List.{map_push}
+use Rattle.std.proofs.lemmas.List.{map_push, nil_from_length, take_at}
 use Rattle.std.specs.Prelude.{Vec}
 use Rattle.std.specs.declared.alloc.Global.{Global}
 use Rattle.flow_model.specs.declared.graph.ExprNode.{ExprNode}
@@ -25,9 +25,20 @@ last_before x [] s b = refl
 last_before x (assign ks es ∷ rest) s b = ap (λ a. any_reads x es || (not (is_target x ks) && a)) (last_before x rest s b)
 last_before x (claim c ∷ rest) s b = ap (λ a. cond_reads x c || a) (last_before x rest s b)
 
-pub left_before : (x : ℕ) (all left : List Statement) (s : Statement) (old new : Bool) → all ≡ left ++ s ∷ [] → new ≡ live_before x (statement_of s ∷ []) old → live_before x (map statement_of left) new ≡ live_before x (map statement_of all) old
-left_before x all left s old new e f =
-    rw (e, map_push statement_of left s, last_before x (map statement_of left) (statement_of s) old, f) refl
+without_last : (left before : List Statement) (s : Statement) → left ≡ before ++ s ∷ [] → take (length left - 1) left ≡ before
+without_last left before s is =
+    let long : length left ≡ length before + 1 = ap length is ∙ length-append before (s ∷ []) in
+    ap (take (length left - 1)) is ∙ take_at before (s ∷ []) (length left - 1) (omega (arith, long))
+
+pub left_before : (x : ℕ) (left before : List Statement) (s : Statement) (old new all : Bool) → left ≡ before ++ s ∷ [] → new ≡ live_before x (statement_of s ∷ []) old → live_before x (map statement_of left) old ≡ all → live_before x (map statement_of (take (length left - 1) left)) new ≡ all
+left_before x left before s old new all is made so_far =
+    ap₂ (λ ss b. live_before x (map statement_of ss) b) (without_last left before s is) made
+    ∙ sym (last_before x (map statement_of before) (statement_of s) old)
+    ∙ sym (ap (λ ss. live_before x ss old) (ap (map statement_of) is ∙ map_push statement_of before s))
+    ∙ so_far
+
+pub none_left : (x : ℕ) (left : List Statement) (b all : Bool) → length left ≡ 0 → live_before x (map statement_of left) b ≡ all → b ≡ all
+none_left x left b all e so_far = sym (ap (λ ss. live_before x (map statement_of ss) b) (nil_from_length left e)) ∙ so_far
 
 pub at_goto : (x k : ℕ) (at : ℕ → Bool) (old new : Bool) → old ≡ false → new ≡ (old || at k) → new ≡ live_at_jump x at (goto k)
 at_goto x k at old new e f = f ∙ ap (λ b. b || at k) e ∙ sym (or_false (at k))

@@ -64,14 +64,14 @@ fn mark_statement(statement: &Statement, live: &mut [bool])
 }
 
 // Marks what is live before statements, where what is live after them is marked.
-#[tactic(auto, using(crate::proofs::LiveRows::left_before))]
+#[tactic(auto, using(crate::proofs::LiveRows::none_left))]
 fn mark_statements(statements: &[Statement], live: &mut [bool])
     ensures { Becomes live.old live.new (live_over statements.now live.old) }
 {
     let mut rest = statements;
-    'statements: while let [others @ .., statement] = rest {
+    'statements: while let Some((statement, _)) = rest.split_last() {
         mark_statement(statement, live);
-        rest = others;
+        rest = &rest[..rest.len() - 1];
     }
 }
 
