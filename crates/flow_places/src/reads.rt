@@ -1,5 +1,5 @@
 //! Marks of the variables that expressions and conditions read.
-ghost use Rattle.std.specs.Prelude.{◌≡◌, ◌<◌, ◌∷◌, ◌||◌, false, true, slice_set};
+ghost use Rattle.std.specs.Prelude.{◌≡◌, ◌<◌, ◌∷◌, ◌||◌, ℕ, false, true, length, slice_index_or, slice_set};
 ghost use Rattle.kat_model.specs.Problems.{counted};
 ghost use Rattle.flow_model.specs.Polish.{expr_of, cond_of};
 ghost use Rattle.flow_ways.specs.Liveness.{reads, cond_reads, is_target};
