@@ -27,9 +27,9 @@
 
 /* The version of the release that this header belongs to, as CHANGELOG.md names it, and the same as one number, which is greater
  * for a later version. kat_version answers that of the library. */
-#define KAT_VERSION "0.7.0"
+#define KAT_VERSION "0.8.0"
 #define KAT_VERSION_MAJOR 0
-#define KAT_VERSION_MINOR 7
+#define KAT_VERSION_MINOR 8
 #define KAT_VERSION_PATCH 0
 #define KAT_VERSION_NUMBER (KAT_VERSION_MAJOR * 1000000 + KAT_VERSION_MINOR * 1000 + KAT_VERSION_PATCH)
 

@@ -1,7 +1,7 @@
 # SPDX-License-Identifier: MIT OR Apache-2.0
 # Whether this version serves `find_package(kat VERSION)`: one with the same first number, which is that of libkat.so.0, that is
 # not older. The library is for x86-64 alone.
-set(PACKAGE_VERSION "0.7.0")
+set(PACKAGE_VERSION "0.8.0")
 if(PACKAGE_FIND_VERSION VERSION_EQUAL PACKAGE_VERSION)
     set(PACKAGE_VERSION_EXACT TRUE)
 endif()
