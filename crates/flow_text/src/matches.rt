@@ -73,7 +73,10 @@ fn next_equation(
         return repeat_fault(&equation.variable);
     }
     let expression = resolve_expr(alloc, visible_names, sort, &equation.value)?;
-    Ok(Equation { variable, expression })
+    Ok(Equation {
+        variable,
+        expression,
+    })
 }
 
 #[tactic(auto, using(flow_syntax::proofs::Stacked::pushes, crate::proofs::LastTaken::last))]
@@ -130,9 +133,7 @@ fn rounds_given(token: Option<Token>) -> Result<Option<u64>, TextFault>
 fn is_listed(matches: &[FileMatch], k: usize, l: usize) -> bool
     ensures { result ≡ list_any (λ m. nat_eq m.blocks.before k && nat_eq m.blocks.after l) (matches_parts matches.now) }
 {
-    matches
-        .iter()
-        .any(|matched| matched.blocks.before == k && matched.blocks.after == l)
+    matches.iter().any(|matched| matched.blocks.before == k && matched.blocks.after == l)
 }
 
 fn is_matched(matches: &[FileMatch], k: usize, l: usize) -> bool
