@@ -1,0 +1,4 @@
+pub mod CutLines
+pub mod SpelledRead
+pub mod ReadSpelled
+pub mod ReadSteps

@@ -1,0 +1,5 @@
+pub mod Sections
+pub mod Faults
+pub mod Readings
+pub mod Laws
+pub mod Working
