@@ -1,0 +1,5 @@
+//! Tests of evidence for pieces.
+#![tactic(auto)]
+
+#[cfg(test)]
+mod evidence;
