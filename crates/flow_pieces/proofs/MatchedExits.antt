@@ -23,7 +23,7 @@ use Rattle.flow_pieces.proofs.SameTrees.{numbers_same, parts_same}
 use Rattle.flow_pieces.proofs.SortedReads.{live_has_sort}
 
 -- the exits were there already, or are those of matches
-exits_all : (P : Exit → Type 0) (p : Pair) (cs rest : List Match) (es : List Exit) → ((c : Match) → Has rest c → P (exit_of p cs c)) → ((e : Exit) → Has es e → P e) → (e : Exit) → Has (exits_from p cs rest es) e → P e
+pub exits_all : (P : Exit → Type 0) (p : Pair) (cs rest : List Match) (es : List Exit) → ((c : Match) → Has rest c → P (exit_of p cs c)) → ((e : Exit) → Has es e → P e) → (e : Exit) → Has (exits_from p cs rest es) e → P e
 exits_all P p cs [] es f g e h = g e h
 exits_all P p cs (c ∷ rest) es f g e h =
     by_test (list_any (λ d. has_match d c) es) (λ next there i. exits_all P p cs rest next (λ d k. f d (inr k)) there e i) h
