@@ -25,3 +25,11 @@ weakened P Q (Err e) h g = tt
 
 pub value_holds : {V : Type 0} (P : V → Type 0) (m : Result V TextFault) (x : V) → Holds P m → m ≡ Ok x → P x
 value_holds P m x h e = subst (Holds P) e h
+
+pub both_hold : {V : Type 0} (P Q : V → Type 0) (m : Result V TextFault) → Holds P m → Holds Q m → Holds (λ x. P x × Q x) m
+both_hold P Q (Ok x) h k = (h, k)
+both_hold P Q (Err e) h k = tt
+
+pub all_hold : {I V : Type 0} (P : I → V → Type 0) (m : Result V TextFault) → ((i : I) → Holds (P i) m) → Holds (λ x. (i : I) → P i x) m
+all_hold P (Ok x) h = h
+all_hold P (Err e) h = tt

@@ -2,6 +2,9 @@ pub mod TreeFits
 pub mod OneOutcome
 pub mod Holding
 pub mod SortedNodes
+pub mod TreeReads
+pub mod NamedReads
+pub mod NamedMatches
 pub mod SortedGraphs
 pub mod SortedMatches
 pub mod SortedFiles

@@ -1,4 +1,4 @@
--- Matches of whole items are sorted where they have no fault, and their blocks exist.
+-- Matches of whole items are sorted where they have no fault, their blocks exist, and their names are read.
 use Rattle.std.proofs.Common.{◌≡◌, ◌<◌, ◌≤◌, ℕ, ◌+◌, List, [], ◌∷◌, ◌++◌, length, Bool, true, false, ◌&&◌, if◌then◌else◌, nat_eq, Option, Some, None, Ok, slice_get, refl, sym, ◌∙◌, ap, subst, arith}
 use Rattle.std.specs.Str.{bytes_eq}
 use Rattle.text_parser.specs.TokenParts.{TokenParts, place_of, bytes_of}
@@ -12,17 +12,22 @@ use Rattle.flow_text.specs.Scopes.{ScopeParts, counts, meaning_in, scope_before}
 use Rattle.flow_text.specs.Resolving.{expression_of}
 use Rattle.flow_model.specs.Matches.{Equation}
 use Rattle.flow_text.specs.Matches.{FileMatch}
+use Rattle.flow_text.specs.MatchNames.{names_of_match}
 use Rattle.flow_text.specs.Checking.{next_target, found, block_or_fault, block_names, GivenMatch, given_match, is_given_by, equation_for, next_equation, equations_after, condition_or_always, rounds_given, may_match, blocks_matched, file_match, resolved_match, with_name, with_names, next_matches, matches_after, matches_between}
 use Rattle.flow_laws.specs.SortedMatches.{IsSortedEquation, AreSortedEquations, IsSortedMatch}
-use Rattle.flow_laws.proofs.Holding.{Holds, any_holds, then_holds, if_holds}
+use Rattle.flow_laws.proofs.Holding.{Holds, any_holds, then_holds, if_holds, both_hold}
 use Rattle.flow_laws.proofs.SortedNodes.{IsAt, expression_good}
 use Rattle.flow_laws.proofs.SortedGraphs.{IsTarget, meant_good, condition_good, taken_declared}
+use Rattle.flow_laws.proofs.NamedMatches.{AreNamesRead, plain_named, names_read}
+
+abbrev pub IsGoodMatch : List Sort → ℕ → ℕ → FileMatch → Type 0
+IsGoodMatch sorts n m x = IsSortedMatch sorts n m x.blocks × AreNamesRead x
 
 abbrev pub AreMatches : List Sort → ℕ → ℕ → List FileMatch → Type 0
 AreMatches sorts n m [] = Unit {0}
-AreMatches sorts n m (x ∷ xs) = IsSortedMatch sorts n m x.blocks × AreMatches sorts n m xs
+AreMatches sorts n m (x ∷ xs) = IsGoodMatch sorts n m x × AreMatches sorts n m xs
 
-matches_more : (sorts : List Sort) (n m : ℕ) (xs : List FileMatch) (x : FileMatch) → AreMatches sorts n m xs → IsSortedMatch sorts n m x.blocks → AreMatches sorts n m (xs ++ x ∷ [])
+matches_more : (sorts : List Sort) (n m : ℕ) (xs : List FileMatch) (x : FileMatch) → AreMatches sorts n m xs → IsGoodMatch sorts n m x → AreMatches sorts n m (xs ++ x ∷ [])
 matches_more sorts n m [] x h k = (k, tt)
 matches_more sorts n m (y ∷ ys) x h k = (h.0, matches_more sorts n m ys x h.1 k)
 
@@ -87,7 +92,7 @@ module _ (s : ScopeParts) (sorts : List Sort) (declared : (k : ℕ) (sort : Sort
       then_holds (AreSortedEquations sorts) (λ (x : FileMatch). IsSortedMatch sorts n m x.blocks) (equations_after s [] b.back) _ (equations_good b.back [] h.1 tt) (λ g back.
       then_holds (AreSortedEquations sorts) (λ (x : FileMatch). IsSortedMatch sorts n m x.blocks) (equations_after s [] b.keeping) _ (equations_good b.keeping [] h.2 tt) (λ q keeping.
       then_holds (IsSortedCond sorts) (λ (x : FileMatch). IsSortedMatch sorts n m x.blocks) (condition_or_always s b.condition) _ (given_condition_good b.condition h.3) (λ c condition.
-      then_holds (λ r. Unit {0}) (λ (x : FileMatch). IsSortedMatch sorts n m x.blocks) (rounds_given b.rounds) (λ r. Ok (file_match blocks f g q c r b.splits at)) (any_holds (rounds_given b.rounds)) (λ r u.
+      then_holds (λ r. Unit {0}) (λ (x : FileMatch). IsSortedMatch sorts n m x.blocks) (rounds_given b.rounds) (λ r. Ok (file_match blocks f g q c r b.splits at (names_of_match s b))) (any_holds (rounds_given b.rounds)) (λ r u.
       record { before_exists = below; after_exists = others; forth_sorted = forth; back_sorted = back; keeping_sorted = keeping; condition_sorted = condition })))))
 
 -- ---- matches; `first` and `second` give numbers of blocks of two graphs, which have `n` and `m`
@@ -107,10 +112,10 @@ module _ (s : ScopeParts) (n m : ℕ) (first second : List ℕ → Option ℕ) (
   name_good : (before : List FileMatch) (word : TokenParts) (k : ℕ) (o : Option ℕ) → k < n → ((l : ℕ) → o ≡ Some l → l < m) → AreMatches s.variables n m before → Holds (AreMatches s.variables n m) (with_name before word k o)
   name_good before word k None h below a = a
   name_good before word k (Some l) h below a =
-      let x = file_match (k, l) [] [] [] always None false (place_of word) in
+      let x = file_match (k, l) [] [] [] always None false (place_of word) [] in
       if_holds (AreMatches s.variables n m) (nat_eq k 0 && nat_eq l 0) (Ok before) (may_match before k l word >>= λ u. Ok (before ++ x ∷ [])) (λ entries. a)
       (then_holds (λ u. Unit {0}) (AreMatches s.variables n m) (may_match before k l word) (λ u. Ok (before ++ x ∷ [])) (any_holds (may_match before k l word)) (λ u v.
-      matches_more s.variables n m before x a (record { before_exists = h; after_exists = below l refl; forth_sorted = tt; back_sorted = tt; keeping_sorted = tt; condition_sorted = tt })))
+      matches_more s.variables n m before x a (record { before_exists = h; after_exists = below l refl; forth_sorted = tt; back_sorted = tt; keeping_sorted = tt; condition_sorted = tt }, plain_named (k, l) (place_of word))))
 
   names_good : (before : List FileMatch) (word : TokenParts) (names : List (List ℕ × ℕ)) → AreNumbered n names → AreMatches s.variables n m before → Holds (AreMatches s.variables n m) (with_names second word before names)
   names_good before word [] h a = a
@@ -129,8 +134,8 @@ module _ (s : ScopeParts) (n m : ℕ) (first second : List ℕ → Option ℕ) (
   item_good names before (given_match (counts i j v g) word (two_blocks b)) numbered h a =
       let t = scope_before s (counts i j v g) in
       then_holds (AreBelow n m) (AreMatches s.variables n m) (blocks_matched before b.before b.after (first (bytes_of b.before)) (second (bytes_of b.after))) _ (blocks_exist before b.before b.after) (λ blocks exist.
-      then_holds (λ (x : FileMatch). IsSortedMatch s.variables n m x.blocks) (AreMatches s.variables n m) (resolved_match t blocks (place_of word) b) (λ x. Ok (before ++ x ∷ []))
-      (match_good t s.variables (taken_declared v s.variables) n m blocks (place_of word) b h exist.0 exist.1) (λ x k.
+      then_holds (IsGoodMatch s.variables n m) (AreMatches s.variables n m) (resolved_match t blocks (place_of word) b) (λ x. Ok (before ++ x ∷ []))
+      (both_hold (λ (x : FileMatch). IsSortedMatch s.variables n m x.blocks) AreNamesRead (resolved_match t blocks (place_of word) b) (match_good t s.variables (taken_declared v s.variables) n m blocks (place_of word) b h exist.0 exist.1) (names_read t blocks (place_of word) b h)) (λ x k.
       matches_more s.variables n m before x a k))
 
   items_good : (names : List (List ℕ × ℕ)) (before : List FileMatch) (xs : List GivenMatch) → AreNumbered n names → AreWholeGiven xs → AreMatches s.variables n m before → Holds (AreMatches s.variables n m) (matches_after s names first second before xs)

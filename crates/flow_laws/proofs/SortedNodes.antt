@@ -61,7 +61,7 @@ abbrev IsLeaf : List Sort → Sort → ExprNode → Type 0
 IsLeaf sorts sort n = (ws : List Expected) (es : List ExprTree) → Fill sorts ws es → Fill sorts (operand sort ∷ ws) (with_node n es)
 
 -- a node and what is wanted after it, `n` operands among that, make the next expression
-abbrev Follows : List Sort → Expected → List Expected → ℕ → ExprNode × List Expected → Type 0
+abbrev pub Follows : List Sort → Expected → List Expected → ℕ → ExprNode × List Expected → Type 0
 Follows sorts w ws n x = (length x.1 ≡ n + length ws) × ((es : List ExprTree) → Fill sorts x.1 es → Fill sorts (w ∷ ws) (with_node x.0 es))
 
 abbrev IsCall : List Sort → Sort → ℕ → ExprNode × List Sort → Type 0
@@ -80,7 +80,7 @@ AreNodes sorts before ws out = (new : List ExprNode) × (out ≡ before ++ new) 
 abbrev pub IsAt : List Sort → Sort → ExprTree → Type 0
 IsAt sorts sort e = IsSorted sorts false e × (sort_of sorts e ≡ sort)
 
-if_node : (P : ExprNode → Type 0) (b : Bool) (x y : ExprNode) → P x → P y → P (if b then x else y)
+pub if_node : (P : ExprNode → Type 0) (b : Bool) (x y : ExprNode) → P x → P y → P (if b then x else y)
 if_node P true x y h k = h
 if_node P false x y h k = k
 
@@ -196,7 +196,7 @@ module _ (s : ScopeParts) (sorts : List Sort) (declared : (k : ℕ) (sort : Sort
   second_filled o w ws [] h = absurd h
   second_filled o w ws (e ∷ es) h = (h.0, h.1, tt, h.2)
 
-  next_good : (w : Expected) (ws : List Expected) (n : NodeSyntax) → Holds (Follows sorts w ws (operand_count n)) (next_node s w ws n)
+  pub next_good : (w : Expected) (ws : List Expected) (n : NodeSyntax) → Holds (Follows sorts w ws (operand_count n)) (next_node s w ws n)
   next_good (operand sort) ws n = node_good sort ws n
   next_good (second_operand o (Opaque k)) ws n = tt
   next_good (second_operand o (Number w)) ws n =

@@ -18,6 +18,7 @@ use Rattle.flow_model.specs.WholeGraphs.{is_whole_expr, is_whole_cond, IsWholeGr
 use Rattle.flow_laws.specs.SortedMatches.{AreSortedEquations, IsSortedMatch, IsMatchOf}
 use Rattle.flow_model.specs.WholeMatches.{are_whole_equations, IsWholeMatch}
 use Rattle.flow_laws.proofs.ReadGraphs.{both, expr_whole, cond_whole, graph_whole}
+use Rattle.flow_laws.proofs.NamedMatches.{AreNamesRead}
 use Rattle.flow_laws.proofs.SortedMatches.{AreMatches}
 use Rattle.flow_laws.proofs.SortedFiles.{AreGood, flow_graphs_good, flow_matches_sorted}
 
@@ -32,10 +33,17 @@ flow_graphs_whole text f denotes = graphs_whole f.sorts.items f.graphs.items (fl
 
 all_matches : (sorts : List Sort) (n m : ℕ) (ms : List FileMatch) → AreMatches sorts n m ms → All (λ (x : FileMatch). IsSortedMatch sorts n m x.blocks) ms
 all_matches sorts n m [] h = All-nil (λ (x : FileMatch). IsSortedMatch sorts n m x.blocks)
-all_matches sorts n m (x ∷ xs) h = All-cons (λ (x : FileMatch). IsSortedMatch sorts n m x.blocks) x xs h.0 (all_matches sorts n m xs h.1)
+all_matches sorts n m (x ∷ xs) h = All-cons (λ (x : FileMatch). IsSortedMatch sorts n m x.blocks) x xs h.0.0 (all_matches sorts n m xs h.1)
 
 pub flow_matches_of : (text : List ℕ) (f : FlowFileParts) → IsFlowText text f → All (λ (m : FileMatch). IsMatchOf (pair_of f) m.blocks) f.matches
 flow_matches_of text f h = all_matches f.sorts (length (pair_of f).before) (length (pair_of f).after) f.matches (flow_matches_sorted text f h)
+
+all_named : (sorts : List Sort) (n m : ℕ) (ms : List FileMatch) → AreMatches sorts n m ms → All AreNamesRead ms
+all_named sorts n m [] h = All-nil AreNamesRead
+all_named sorts n m (x ∷ xs) h = All-cons AreNamesRead x xs h.0.1 (all_named sorts n m xs h.1)
+
+pub flow_names_read : (text : List ℕ) (f : FlowFileParts) → IsFlowText text f → All AreNamesRead f.matches
+flow_names_read text f h = all_named f.sorts (length (pair_of f).before) (length (pair_of f).after) f.matches (flow_matches_sorted text f h)
 
 equations_whole : (sorts : List Sort) (qs : List Equation) → AreSortedEquations sorts (equations_of qs) → are_whole_equations qs ≡ true
 equations_whole sorts [] h = refl
@@ -49,7 +57,7 @@ match_whole sorts n m x h =
 
 matches_whole : (sorts : List Sort) (n m : ℕ) (ms : List AFileMatch) → AreMatches sorts n m (matches_parts ms) → All (λ (x : AFileMatch). IsWholeMatch x.blocks) ms
 matches_whole sorts n m [] h = All-nil (λ (x : AFileMatch). IsWholeMatch x.blocks)
-matches_whole sorts n m (x ∷ xs) h = All-cons (λ (x : AFileMatch). IsWholeMatch x.blocks) x xs (match_whole sorts n m x.blocks h.0) (matches_whole sorts n m xs h.1)
+matches_whole sorts n m (x ∷ xs) h = All-cons (λ (x : AFileMatch). IsWholeMatch x.blocks) x xs (match_whole sorts n m x.blocks h.0.0) (matches_whole sorts n m xs h.1)
 
 pub flow_matches_whole : (text : List ℕ) (f : FlowFile) → IsFlowText text (file_parts f) → All (λ (x : AFileMatch). IsWholeMatch x.blocks) f.matches.items
 flow_matches_whole text f denotes =

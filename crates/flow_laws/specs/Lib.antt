@@ -1,3 +1,4 @@
 pub mod SortedMatches
+pub mod MatchNames
 pub mod GraphOutcomes
 pub mod Laws

@@ -6,6 +6,7 @@ ghost use Rattle.flow_text.specs.Texts.{IsFlowText};
 ghost use Rattle.flow_text.specs.FileViews.{file_parts};
 ghost use Rattle.flow_text.specs.declared.reading.FlowFile.{FlowFile};
 ghost use Rattle.flow_laws.specs.SortedMatches.{IsMatchOf};
+ghost use Rattle.flow_laws.specs.MatchNames.{NamesAreRead};
 ghost use Rattle.flow_model.specs.WholeGraphs.{IsWholeGraph};
 ghost use Rattle.flow_model.specs.WholeMatches.{IsWholeMatch};
 ghost use Rattle.flow_problem.specs.PlacedProblems.{IsFlowPair};
@@ -21,6 +22,12 @@ pub fn files_are_sorted()
 /// place requires.
 pub fn matches_are_sorted()
     ensures { (text : List ℕ) (f : FlowFileParts) → IsFlowText text f → All (λ m. IsMatchOf (pair_of f) m.blocks) f.matches }
+{}
+
+/// The names of a match say what it gives and reads: some name of a part of the match sets a variable exactly if an
+/// equation of the part gives it, and some name reads it exactly if an expression of the part or the condition does.
+pub fn match_names_are_read()
+    ensures { (text : List ℕ) (f : FlowFileParts) → IsFlowText text f → All (λ m. (x : ℕ) → NamesAreRead m x) f.matches }
 {}
 
 /// The nodes of each expression and of each condition of a graph that is read are exactly one tree.

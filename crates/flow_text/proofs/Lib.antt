@@ -14,6 +14,7 @@ pub mod KnownSteps
 pub mod ResultSteps
 pub mod NameSteps
 pub mod FileSteps
+pub mod MatchNameSteps
 pub mod MatchSteps
 pub mod NamedItems
 pub mod OneAnswer

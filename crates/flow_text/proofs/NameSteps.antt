@@ -21,7 +21,7 @@ abbrev pub with_functions : List (String Global) → List ItemSyntax → List (L
 with_functions made xs = map string_bytes made ++ function_names xs
 
 -- a list with `x` more at its end before `ys`, and with `x` more at the front of `ys`
-moved_over : (now made x ys : List (List ℕ)) → now ≡ made ++ x → made ++ (x ++ ys) ≡ now ++ ys
+pub moved_over : {X : Type 0} (now made x ys : List X) → now ≡ made ++ x → made ++ (x ++ ys) ≡ now ++ ys
 moved_over now made x ys e = sym (append_assoc made x ys) ∙ ap (λ l. l ++ ys) (sym e)
 
 pub name_step : (made now : List (String Global)) (before : List Token) (t : Token) → map string_bytes now ≡ map string_bytes made ++ t.text.now ∷ [] → with_names made (tokens_syntax (before ++ t ∷ [])) ≡ with_names now (tokens_syntax before)
@@ -40,5 +40,5 @@ functions_step made now before x e =
     ∙ moved_over (map string_bytes now) (map string_bytes made) (functions_in (item_syntax x)) (function_names (items_syntax before)) e
 
 -- nothing more
-pub none_more : (xs : List (List ℕ)) → xs ≡ xs ++ []
+pub none_more : {X : Type 0} (xs : List X) → xs ≡ xs ++ []
 none_more xs = sym (append-nil xs)

@@ -23,7 +23,8 @@ use Rattle.flow_text.specs.DeclaredNames.{variable_names, function_names}
 use Rattle.flow_text.specs.Resolving.{sort_of_first, sort_or_u64, expression_of, condition_of}
 use Rattle.flow_syntax.specs.Sizes.{nodes_with, nodes_with_match}
 use Rattle.flow_model.specs.Matches.{Equation, Match}
-use Rattle.flow_text.specs.Matches.{FileMatch}
+use Rattle.flow_text.specs.Matches.{MatchName, FileMatch}
+use Rattle.flow_text.specs.MatchNames.{names_of_match}
 
 -- the number of the first of some names that is the text
 abbrev pub found : List (List ℕ × ℕ) → List ℕ → Option ℕ
@@ -289,27 +290,28 @@ abbrev pub blocks_matched : List FileMatch → TokenParts → TokenParts → Opt
 blocks_matched ms t u i j =
     block_or_fault t i >>= λ k. block_or_fault u j >>= λ l. may_match ms k l t >>= λ v. Ok (k, l)
 
-abbrev pub file_match : ℕ × ℕ → List Equation → List Equation → List Equation → CondTree → Option ℕ → Bool → ℕ → FileMatch
-file_match blocks forth back keeping condition n splits at =
+abbrev pub file_match : ℕ × ℕ → List Equation → List Equation → List Equation → CondTree → Option ℕ → Bool → ℕ → List MatchName → FileMatch
+file_match blocks forth back keeping condition n splits at names =
     record {
       blocks = record { before = blocks.0; after = blocks.1; forth = forth; back = back; keeping = keeping; condition = condition };
       rounds = n;
       splits = splits;
       at = at;
+      names = names;
     }
 
--- what relates the states at matched blocks, and what is said of their question
+-- what relates the states at matched blocks, what is said of their question, and the variables that are named there
 abbrev pub resolved_match : ScopeParts → ℕ × ℕ → ℕ → BlockMatchSyntax → Result FileMatch TextFault
 resolved_match s blocks at m =
     equations_after s [] m.forth >>= λ f. equations_after s [] m.back >>= λ g. equations_after s [] m.keeping
-    >>= λ q. condition_or_always s m.condition >>= λ c. rounds_given m.rounds >>= λ n. Ok (file_match blocks f g q c n m.splits at)
+    >>= λ q. condition_or_always s m.condition >>= λ c. rounds_given m.rounds >>= λ n. Ok (file_match blocks f g q c n m.splits at (names_of_match s m))
 
 -- the matches before, and one of blocks of the same name
 abbrev pub with_name : List FileMatch → TokenParts → ℕ → Option ℕ → Result (List FileMatch) TextFault
 with_name before word k None = Ok before
 with_name before word k (Some l) =
     if nat_eq k 0 && nat_eq l 0 then Ok before
-    else (may_match before k l word >>= λ u. Ok (before ++ file_match (k, l) [] [] [] always None false (place_of word) ∷ []))
+    else (may_match before k l word >>= λ u. Ok (before ++ file_match (k, l) [] [] [] always None false (place_of word) [] ∷ []))
 
 -- likewise for each of some names of blocks of the first graph, where `find` gives the number of a block of the second
 abbrev pub with_names : (List ℕ → Option ℕ) → TokenParts → List FileMatch → List (List ℕ × ℕ) → Result (List FileMatch) TextFault

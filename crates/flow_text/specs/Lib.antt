@@ -4,6 +4,7 @@ pub mod DeclaredNames
 pub mod Trees
 pub mod Matches
 pub mod MatchViews
+pub mod MatchNames
 pub mod Resolving
 pub mod Checking
 pub mod KnownViews

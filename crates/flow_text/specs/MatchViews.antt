@@ -3,8 +3,9 @@ use Rattle.std.specs.Prelude.{List, map}
 use Rattle.flow_model.specs.declared.block_match.Equation.{Equation as AnEquation}
 use Rattle.flow_model.specs.declared.block_match.BlockMatch.{BlockMatch}
 use Rattle.flow_model.specs.Matches.{Equation, Match}
+use Rattle.flow_text.specs.declared.match_names.MatchName.{MatchName as AMatchName}
 use Rattle.flow_text.specs.declared.matches.FileMatch.{FileMatch as AFileMatch}
-use Rattle.flow_text.specs.Matches.{FileMatch}
+use Rattle.flow_text.specs.Matches.{MatchName, FileMatch}
 use Rattle.flow_text.specs.Trees.{expr_of, cond_of}
 
 abbrev pub equation_parts : AnEquation → Equation
@@ -23,8 +24,14 @@ blocks_parts m = record {
   condition = cond_of m.condition.items;
 }
 
+abbrev pub name_parts : AMatchName → MatchName
+name_parts n = record { variable = n.variable; part = n.part; is_set = n.is_set; at = n.at }
+
+abbrev pub names_parts : List AMatchName → List MatchName
+names_parts ns = map name_parts ns
+
 abbrev pub match_parts : AFileMatch → FileMatch
-match_parts m = record { blocks = blocks_parts m.blocks; rounds = m.rounds; splits = m.splits; at = m.at }
+match_parts m = record { blocks = blocks_parts m.blocks; rounds = m.rounds; splits = m.splits; at = m.at; names = names_parts m.names.items }
 
 abbrev pub matches_parts : List AFileMatch → List FileMatch
 matches_parts ms = map match_parts ms

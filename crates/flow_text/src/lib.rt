@@ -10,6 +10,7 @@ mod faults;
 mod known;
 mod laws;
 mod limits;
+mod match_names;
 mod matches;
 mod meaning;
 mod names;
@@ -25,6 +26,7 @@ pub use laws::have_one_answer;
 pub use limits::{
     MAX_BLOCKS, MAX_FUNCTIONS, MAX_MATCHES, MAX_PARAMETERS, MAX_SORTS, MAX_VARIABLES,
 };
+pub use match_names::{MatchName, MatchPart};
 pub use matches::FileMatch;
 pub use meaning::Meaning;
 pub use reading::{FlowFile, read};

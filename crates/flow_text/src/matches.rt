@@ -20,6 +20,7 @@ use crate::check_blocks::{block_named, block_names, number_of};
 use crate::faults::{limit_fault, repeat_fault};
 use crate::known::{Known, WrittenMatch, few_rounds};
 use crate::limits::MAX_MATCHES;
+use crate::match_names::{MatchName, names_of_match};
 use crate::resolve_cond::resolve_cond;
 use crate::resolve_expr::resolve_expr;
 use crate::results::sight_before;
@@ -33,12 +34,14 @@ use std::collections::BTreeMap;
 use text_parser::{TextFault, Token};
 
 /// A match of a block of each graph of the goal. The rounds, if they are given, and `split` are of the question of these
-/// blocks; the place is that of the keyword.
+/// blocks; the place is that of the keyword. A match by `match names` names no variable.
 pub struct FileMatch {
     pub blocks: BlockMatch,
     pub rounds: Option<u64>,
     pub splits: bool,
     pub at: usize,
+    /// The variables that the item names, in the order of the text.
+    pub names: Vec<MatchName>,
 }
 
 // Explicit, so that it is proved once and not at each end of each function that owns one.
@@ -49,6 +52,7 @@ impl Drop for FileMatch {
             rounds: _,
             splits: _,
             at: _,
+            names: _names,
         } = self;
     }
 }
@@ -186,6 +190,7 @@ fn resolved_match(
     let keeping = equations(alloc, visible_names, &written.keeping)?;
     let condition = condition_or_always(alloc, visible_names, &written.condition)?;
     let rounds = rounds_given(written.rounds)?;
+    let names = names_of_match(alloc, visible_names, written)?;
     let blocks = BlockMatch {
         before: blocks.0,
         after: blocks.1,
@@ -199,12 +204,13 @@ fn resolved_match(
         rounds,
         splits: written.splits,
         at,
+        names,
     })
 }
 
 // Returns the match of two blocks that says no more.
 fn plain_match(alloc: Global, blocks: (usize, usize), at: usize) -> Result<FileMatch, NoMemory>
-    ensures { IfOk result (λ m. match_parts m ≡ file_match blocks [] [] [] always None false at) }
+    ensures { IfOk result (λ m. match_parts m ≡ file_match blocks [] [] [] always None false at []) }
 {
     let condition = always(alloc)?;
     let blocks = BlockMatch {
@@ -220,6 +226,7 @@ fn plain_match(alloc: Global, blocks: (usize, usize), at: usize) -> Result<FileM
         rounds: None,
         splits: false,
         at,
+        names: Vec::new(alloc),
     })
 }
 

@@ -1,5 +1,5 @@
 //! Flow files and their faults.
-use flow_text::{FlowFile, read};
+use flow_text::{FlowFile, MatchName, MatchPart, read};
 use std::alloc::Global;
 use std::test::Fail;
 use text_parser::TextFault;
@@ -152,5 +152,58 @@ const MATCHES: &[(&str, Result<usize, TextFault>)] = &[
 fn matches_are_read(rt: HostRuntime) {
     for (item, expected) in MATCHES {
         assert!(rt; matches_of(rt.alloc(), item) == *expected, "in {item}");
+    }
+}
+
+// Whether these are the names of the first match of a file with this match.
+fn has_names(alloc: Global, item: &str, expected: &[MatchName]) -> Result<bool, TextFault> {
+    let Ok(text) = format!(in alloc; "{MATCH_START}{item}") else {
+        return Err(TextFault::NoMemory);
+    };
+    let file = read(alloc, text.as_bytes())?;
+    match file.matches.get(0) {
+        Some(matched) => Ok(matched.names.as_slice() == expected),
+        None => Ok(false),
+    }
+}
+
+const fn name(variable: usize, part: MatchPart, is_set: bool, at: usize) -> MatchName {
+    MatchName {
+        variable,
+        part,
+        is_set,
+        at,
+    }
+}
+
+// `x` is variable 0, `y` 1 and `match` 2.
+const NAMES: &[(&str, &[MatchName])] = &[
+    ("match names;", &[]),
+    ("match l, l;", &[]),
+    (
+        "match l, l where x := y + x, y := 1 back match := match * 2 keeping x := y if x < 3 && !(y == x) split;",
+        &[
+            name(0, MatchPart::Where, true, 230),
+            name(1, MatchPart::Where, false, 235),
+            name(0, MatchPart::Where, false, 239),
+            name(1, MatchPart::Where, true, 242),
+            name(2, MatchPart::Back, true, 254),
+            name(2, MatchPart::Back, false, 263),
+            name(0, MatchPart::Keeping, true, 281),
+            name(1, MatchPart::Keeping, false, 286),
+            name(0, MatchPart::If, false, 291),
+            name(1, MatchPart::If, false, 302),
+            name(0, MatchPart::If, false, 307),
+        ],
+    ),
+];
+
+#[test]
+fn names_of_matches_are_kept(rt: HostRuntime) {
+    for (item, expected) in NAMES {
+        assert!(rt;
+            has_names(rt.alloc(), item, expected) == Ok(true),
+            "in {item}"
+        );
     }
 }
