@@ -3,7 +3,7 @@ use Rattle.std.proofs.Common.{◌≡◌, ◌≤◌, ℕ, zero, suc, ◌+◌, Lis
 use Rattle.std.specs.List.{list_any}
 use Rattle.std.proofs.lemmas.List.{append-nil}
 use Rattle.std.proofs.lemmas.List.Folds.{list_any-append}
-use Rattle.std.proofs.Math.Bool.{or-false, and-false, and-or_distrib_left}
+use Rattle.std.proofs.Math.Bool.{or-false, or_assoc, and-false, and-or_distrib_left}
 use Rattle.text_parser.specs.TokenParts.{TokenParts, bytes_of}
 use Rattle.text_parser.specs.Parsed.{◌>>=◌}
 use Rattle.flow_model.specs.declared.sort.Sort.{Sort}
@@ -136,11 +136,13 @@ module _ (s : ScopeParts) (p : MatchPart) (x : ℕ) where
 -- ---- matches
 
 -- what some names of four parts are, one part after the other
-any_of_four : (f : MatchName → Bool) (es fs gs hs : List MatchName) (a b c d : Bool) → a ≡ list_any f es → b ≡ list_any f fs → c ≡ list_any f gs → d ≡ list_any f hs → list_any f (es ++ (fs ++ (gs ++ hs))) ≡ (a || (b || (c || d)))
+any_of_four : (f : MatchName → Bool) (es fs gs hs : List MatchName) (a b c d : Bool) → a ≡ list_any f es → b ≡ list_any f fs → c ≡ list_any f gs → d ≡ list_any f hs → list_any f (((es ++ fs) ++ gs) ++ hs) ≡ (a || (b || (c || d)))
 any_of_four f es fs gs hs a b c d h k l m =
-    let first = list_any-append f es (fs ++ (gs ++ hs)) in
-    let second = list_any-append f fs (gs ++ hs) in
-    let third = list_any-append f gs hs in
+    let last = list_any-append f ((es ++ fs) ++ gs) hs in
+    let third = list_any-append f (es ++ fs) gs in
+    let second = list_any-append f es fs in
+    let outer = or_assoc (a || b) c d in
+    let inner = or_assoc a b (c || d) in
     cc
 
 module _ (s : ScopeParts) (x : ℕ) where

@@ -51,8 +51,7 @@ reads_more (f ∷ es) e x = ap (λ b. reads x f.expression || b) (reads_more es 
 or_moved : (b g v a r : Bool) → (b && v) ≡ a → ((b && (g || v)) || r) ≡ ((b && g) || (a || r))
 or_moved b g v a r e = ap (λ c. c || r) (and-or_distrib_left b g v) ∙ or_assoc (b && g) (b && v) r ∙ ap (λ c. (b && g) || (c || r)) e
 
--- ---- names in the part `q`, of which those in the part `p` of variable x are asked for: `here` is whether these are the
--- same part
+-- ---- names in the part `q`, tested for names of variable x in the part `p`: `here` is whether the parts are the same
 
 module _ (s : ScopeParts) (p q : MatchPart) (x : ℕ) where
   abbrev pub here : Bool
@@ -157,7 +156,7 @@ module _ (s : ScopeParts) (p q : MatchPart) (x : ℕ) where
 
   -- ---- expressions
 
-  -- the nodes before, and those of as many expressions as are wanted, which read what the names read
+  -- the nodes before, and those of an expression for each operand that is wanted, which read what the names read
   abbrev AreRead : List ExprNode → List Expected → List MatchName → List ExprNode → Type 0
   AreRead before ws names out =
       (new : List ExprNode) × (out ≡ before ++ new) × (length (exprs_of new) ≡ length ws) × ((here && any_reads x (exprs_of new)) ≡ some_read names)

@@ -16,9 +16,9 @@ use Rattle.flow_text.specs.FileViews.{graphs_of, file_parts}
 use Rattle.flow_text.specs.Texts.{IsFlowText}
 use Rattle.flow_model.specs.WholeGraphs.{is_whole_expr, is_whole_cond, IsWholeGraph}
 use Rattle.flow_laws.specs.SortedMatches.{AreSortedEquations, IsSortedMatch, IsMatchOf}
+use Rattle.flow_laws.specs.MatchNames.{NamesAreRead}
 use Rattle.flow_model.specs.WholeMatches.{are_whole_equations, IsWholeMatch}
 use Rattle.flow_laws.proofs.ReadGraphs.{both, expr_whole, cond_whole, graph_whole}
-use Rattle.flow_laws.proofs.NamedMatches.{AreNamesRead}
 use Rattle.flow_laws.proofs.SortedMatches.{AreMatches}
 use Rattle.flow_laws.proofs.SortedFiles.{AreGood, flow_graphs_good, flow_matches_sorted}
 
@@ -38,11 +38,11 @@ all_matches sorts n m (x ∷ xs) h = All-cons (λ (x : FileMatch). IsSortedMatch
 pub flow_matches_of : (text : List ℕ) (f : FlowFileParts) → IsFlowText text f → All (λ (m : FileMatch). IsMatchOf (pair_of f) m.blocks) f.matches
 flow_matches_of text f h = all_matches f.sorts (length (pair_of f).before) (length (pair_of f).after) f.matches (flow_matches_sorted text f h)
 
-all_named : (sorts : List Sort) (n m : ℕ) (ms : List FileMatch) → AreMatches sorts n m ms → All AreNamesRead ms
-all_named sorts n m [] h = All-nil AreNamesRead
-all_named sorts n m (x ∷ xs) h = All-cons AreNamesRead x xs h.0.1 (all_named sorts n m xs h.1)
+all_named : (sorts : List Sort) (n m : ℕ) (ms : List FileMatch) → AreMatches sorts n m ms → All (λ (x : FileMatch). (v : ℕ) → NamesAreRead x v) ms
+all_named sorts n m [] h = All-nil (λ (x : FileMatch). (v : ℕ) → NamesAreRead x v)
+all_named sorts n m (x ∷ xs) h = All-cons (λ (x : FileMatch). (v : ℕ) → NamesAreRead x v) x xs h.0.1 (all_named sorts n m xs h.1)
 
-pub flow_names_read : (text : List ℕ) (f : FlowFileParts) → IsFlowText text f → All AreNamesRead f.matches
+pub flow_names_read : (text : List ℕ) (f : FlowFileParts) → IsFlowText text f → All (λ (x : FileMatch). (v : ℕ) → NamesAreRead x v) f.matches
 flow_names_read text f h = all_named f.sorts (length (pair_of f).before) (length (pair_of f).after) f.matches (flow_matches_sorted text f h)
 
 equations_whole : (sorts : List Sort) (qs : List Equation) → AreSortedEquations sorts (equations_of qs) → are_whole_equations qs ≡ true

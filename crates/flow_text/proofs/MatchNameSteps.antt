@@ -42,3 +42,7 @@ cond_node_step s made now before n e =
 -- names added in two steps
 pub both_added : {X : Type 0} (made middle now x y : List X) → middle ≡ made ++ x → now ≡ middle ++ y → now ≡ made ++ (x ++ y)
 both_added made middle now x y e f = f ∙ ap (λ l. l ++ y) e ∙ append_assoc made x y
+
+-- names added to none
+pub none_before : (none : List AMatchName) (names : List MatchName) → none ≡ [] → (names_parts none ++ names) ≡ names
+none_before none names e = ap (λ l. names_parts l ++ names) e

@@ -44,5 +44,5 @@ names_of_condition s (n ∷ ns) = names_of_cond_node s n ++ names_of_condition s
 
 abbrev pub names_of_match : ScopeParts → BlockMatchSyntax → List MatchName
 names_of_match s m =
-    names_of_equations s Where m.forth
-    ++ (names_of_equations s Back m.back ++ (names_of_equations s Keeping m.keeping ++ names_of_condition s m.condition))
+    ((names_of_equations s Where m.forth ++ names_of_equations s Back m.back) ++ names_of_equations s Keeping m.keeping)
+    ++ names_of_condition s m.condition

@@ -1,3 +1,4 @@
 pub mod Wanting
 pub mod Assigning
 pub mod Words
+pub mod AddedNames

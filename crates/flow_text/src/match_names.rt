@@ -1,11 +1,7 @@
 //! The variables that a match names.
-ghost use Rattle.std.specs.Prelude.{◌≡◌, ◌++◌, map, true, false, IfOk, OnOk};
-ghost use Rattle.text_parser.specs.TokenParts.{parts_of_token};
-ghost use Rattle.flow_syntax.specs.SyntaxViews.{node_syntax, expr_syntax, cond_node_syntax, cond_syntax, equation_syntax, equations_syntax, block_match_syntax};
-ghost use Rattle.flow_text.specs.declared.match_names.MatchPart.TheVariants as parts;
-ghost use Rattle.flow_text.specs.MatchNames.{names_of_token, names_of_node, names_of_expression, names_of_equation, names_of_equations, names_of_cond_node, names_of_condition, names_of_match};
+ghost use Rattle.std.specs.Prelude.{◌≡◌, IfOk};
 ghost use Rattle.flow_text.specs.MatchViews.{names_parts};
-ghost use Rattle.flow_text.specs.ScopeViews.{sight_parts};
+ghost use Rattle.flow_text.specs.Working.AddedNames.{AddsNames, meant_names, token_names, node_names, expression_names, equation_names, equations_names, names_of_sides, cond_node_names, condition_names, match_names};
 
 use crate::meaning::Meaning;
 use crate::visible_names::VisibleNames;
@@ -35,30 +31,28 @@ pub struct MatchName {
     pub at: usize,
 }
 
-// Adds a name, if it is that of a variable.
-fn push_token(
+// Adds a name with this meaning, if it is that of a variable.
+fn push_meant(
     names: &mut Vec<MatchName>,
-    visible_names: &VisibleNames,
     part: MatchPart,
     is_set: bool,
     token: &Token,
+    meaning: Option<Meaning>,
 ) -> Result<(), NoMemory>
-    ensures { OnOk result (names_parts names.new.items ≡ names_parts names.old.items ++ names_of_token (sight_parts visible_names.now) part is_set (parts_of_token token.now)) }
+    ensures { AddsNames result names.old names.new (meant_names part is_set token.now meaning) }
 {
-    match visible_names.meaning(token) {
+    match meaning {
         None => Ok(()),
         Some(meaning) => match meaning {
             Meaning::Variable(variable) => {
                 let at = token.at;
-                append(
-                    names,
-                    MatchName {
-                        variable,
-                        part,
-                        is_set,
-                        at,
-                    },
-                )
+                let name = MatchName {
+                    variable,
+                    part,
+                    is_set,
+                    at,
+                };
+                append(names, name)
             }
             Meaning::SortName(_) => Ok(()),
             Meaning::Function(_) => Ok(()),
@@ -67,17 +61,31 @@ fn push_token(
     }
 }
 
+// Adds a name, if it is that of a variable.
+fn push_token(
+    names: &mut Vec<MatchName>,
+    visible: &VisibleNames,
+    part: MatchPart,
+    is_set: bool,
+    token: &Token,
+) -> Result<(), NoMemory>
+    ensures { AddsNames result names.old names.new (token_names visible.now part is_set token.now) }
+{
+    let meaning = visible.meaning(token);
+    push_meant(names, part, is_set, token, meaning)
+}
+
 // Adds the name of a node, if it is a variable.
 fn push_node(
     names: &mut Vec<MatchName>,
-    visible_names: &VisibleNames,
+    visible: &VisibleNames,
     part: MatchPart,
     node: &Node,
 ) -> Result<(), NoMemory>
-    ensures { OnOk result (names_parts names.new.items ≡ names_parts names.old.items ++ names_of_node (sight_parts visible_names.now) part (node_syntax node.now)) }
+    ensures { AddsNames result names.old names.new (node_names visible.now part node.now) }
 {
     match node {
-        Node::Named(name) => push_token(names, visible_names, part, false, name),
+        Node::Named(name) => push_token(names, visible, part, false, name),
         Node::Numeral(_) => Ok(()),
         Node::Called(_, _) => Ok(()),
         Node::Converted(_, _) => Ok(()),
@@ -88,15 +96,15 @@ fn push_node(
 // Adds the names in an expression, whose nodes are from the last to the first.
 fn push_expression(
     names: &mut Vec<MatchName>,
-    visible_names: &VisibleNames,
+    visible: &VisibleNames,
     part: MatchPart,
     expr: &[Node],
 ) -> Result<(), NoMemory>
-    ensures { OnOk result (names_parts names.new.items ≡ names_parts names.old.items ++ names_of_expression (sight_parts visible_names.now) part (expr_syntax expr.now)) }
+    ensures { AddsNames result names.old names.new (expression_names visible.now part expr.now) }
 {
     let mut rest = expr;
     'nodes: while let Some((node, _)) = rest.split_last() {
-        push_node(names, visible_names, part, node)?;
+        push_node(names, visible, part, node)?;
         rest = &rest[..rest.len() - 1];
     }
     Ok(())
@@ -105,28 +113,29 @@ fn push_expression(
 // Adds the names in an equation: its variable, then those in its expression.
 fn push_equation(
     names: &mut Vec<MatchName>,
-    visible_names: &VisibleNames,
+    visible: &VisibleNames,
     part: MatchPart,
     equation: &Equation,
 ) -> Result<(), NoMemory>
-    ensures { OnOk result (names_parts names.new.items ≡ names_parts names.old.items ++ names_of_equation (sight_parts visible_names.now) part (equation_syntax equation.now)) }
+    ensures { AddsNames result names.old names.new (equation_names visible.now part equation.now) }
 {
-    push_token(names, visible_names, part, true, &equation.variable)?;
-    push_expression(names, visible_names, part, &equation.value)
+    push_token(names, visible, part, true, &equation.variable)?;
+    push_expression(names, visible, part, &equation.value)?;
+    Ok(())
 }
 
 // Adds the names in equations, which are from the last to the first.
 fn push_equations(
     names: &mut Vec<MatchName>,
-    visible_names: &VisibleNames,
+    visible: &VisibleNames,
     part: MatchPart,
     equations: &[Equation],
 ) -> Result<(), NoMemory>
-    ensures { OnOk result (names_parts names.new.items ≡ names_parts names.old.items ++ names_of_equations (sight_parts visible_names.now) part (equations_syntax equations.now)) }
+    ensures { AddsNames result names.old names.new (equations_names visible.now part equations.now) }
 {
     let mut rest = equations;
     'written: while let Some((equation, _)) = rest.split_last() {
-        push_equation(names, visible_names, part, equation)?;
+        push_equation(names, visible, part, equation)?;
         rest = &rest[..rest.len() - 1];
     }
     Ok(())
@@ -135,27 +144,28 @@ fn push_equations(
 // Adds the names in both sides of a comparison.
 fn push_sides(
     names: &mut Vec<MatchName>,
-    visible_names: &VisibleNames,
+    visible: &VisibleNames,
     left: &[Node],
     right: &[Node],
 ) -> Result<(), NoMemory>
-    ensures { OnOk result (names_parts names.new.items ≡ names_parts names.old.items ++ (names_of_expression (sight_parts visible_names.now) parts.If (expr_syntax left.now) ++ names_of_expression (sight_parts visible_names.now) parts.If (expr_syntax right.now))) }
+    ensures { AddsNames result names.old names.new (names_of_sides visible.now left.now right.now) }
 {
-    push_expression(names, visible_names, MatchPart::If, left)?;
-    push_expression(names, visible_names, MatchPart::If, right)
+    push_expression(names, visible, MatchPart::If, left)?;
+    push_expression(names, visible, MatchPart::If, right)?;
+    Ok(())
 }
 
 // Adds the names in a node of a condition.
 fn push_cond_node(
     names: &mut Vec<MatchName>,
-    visible_names: &VisibleNames,
+    visible: &VisibleNames,
     node: &CondNode,
 ) -> Result<(), NoMemory>
-    ensures { OnOk result (names_parts names.new.items ≡ names_parts names.old.items ++ names_of_cond_node (sight_parts visible_names.now) (cond_node_syntax node.now)) }
+    ensures { AddsNames result names.old names.new (cond_node_names visible.now node.now) }
 {
     match node {
-        CondNode::Compared(_, left, right) => push_sides(names, visible_names, left, right),
-        CondNode::ComparedSigned(_, left, right) => push_sides(names, visible_names, left, right),
+        CondNode::Compared(_, left, right) => push_sides(names, visible, left, right),
+        CondNode::ComparedSigned(_, left, right) => push_sides(names, visible, left, right),
         CondNode::Always => Ok(()),
         CondNode::Never => Ok(()),
         CondNode::Negation => Ok(()),
@@ -167,36 +177,32 @@ fn push_cond_node(
 // Adds the names in a condition, whose nodes are from the last to the first.
 fn push_condition(
     names: &mut Vec<MatchName>,
-    visible_names: &VisibleNames,
+    visible: &VisibleNames,
     cond: &[CondNode],
 ) -> Result<(), NoMemory>
-    ensures { OnOk result (names_parts names.new.items ≡ names_parts names.old.items ++ names_of_condition (sight_parts visible_names.now) (cond_syntax cond.now)) }
+    ensures { AddsNames result names.old names.new (condition_names visible.now cond.now) }
 {
     let mut rest = cond;
     'nodes: while let Some((node, _)) = rest.split_last() {
-        push_cond_node(names, visible_names, node)?;
+        push_cond_node(names, visible, node)?;
         rest = &rest[..rest.len() - 1];
     }
     Ok(())
 }
 
 /// Returns the variables that a match names, in the order of the text.
+#[tactic(auto, using(crate::proofs::MatchNameSteps::none_before))]
 pub(crate) fn names_of_match(
     alloc: Global,
-    visible_names: &VisibleNames,
+    visible: &VisibleNames,
     written: &BlockMatch,
 ) -> Result<Vec<MatchName>, NoMemory>
-    ensures { IfOk result (λ v. names_parts v.items ≡ names_of_match (sight_parts visible_names.now) (block_match_syntax written.now)) }
+    ensures { IfOk result (λ v. names_parts v.items ≡ match_names visible.now written.now) }
 {
     let mut names = Vec::new(alloc);
-    push_equations(&mut names, visible_names, MatchPart::Where, &written.forth)?;
-    push_equations(&mut names, visible_names, MatchPart::Back, &written.back)?;
-    push_equations(
-        &mut names,
-        visible_names,
-        MatchPart::Keeping,
-        &written.keeping,
-    )?;
-    push_condition(&mut names, visible_names, &written.condition)?;
+    push_equations(&mut names, visible, MatchPart::Where, &written.forth)?;
+    push_equations(&mut names, visible, MatchPart::Back, &written.back)?;
+    push_equations(&mut names, visible, MatchPart::Keeping, &written.keeping)?;
+    push_condition(&mut names, visible, &written.condition)?;
     Ok(names)
 }

@@ -10,7 +10,7 @@ use Rattle.flow_text.proofs.match_names.push_condition.Goals as goal
 
 pub nodes-preserved : goal.nodes-preserved
 nodes-preserved c =
-    let s = sight_parts c.args.visible_names.now in
+    let s = sight_parts c.args.visible.now in
     let before = c.in-Some.field-0-1.now in
     let x = c.in-Some.node.now in
     let now = c.push_cond_node.new.names.items in
@@ -19,6 +19,6 @@ nodes-preserved c =
 
 pub returns : goal.returns
 returns c =
-    let s = sight_parts c.args.visible_names.now in
+    let s = sight_parts c.args.visible.now in
     none_more (names_parts c.nodes.names.items)
     ∙ sym (ended (with_cond_nodes s) cond_syntax c.nodes.names.items c.nodes.rest.now (with_cond_nodes s c.args.names.now.items (cond_syntax c.args.cond.now)) c.in_default.ensures.cases cond_none c.nodes.invariant)

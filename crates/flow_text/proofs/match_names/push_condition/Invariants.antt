@@ -6,7 +6,7 @@ use Rattle.flow_text.proofs.match_names.push_condition.Given as goal
 
 -- the names so far, and those of the nodes that are left
 abbrev pub invariant-nodes : goal.invariant-nodes
-invariant-nodes l = with_cond_nodes (sight_parts l.visible_names) l.names.items (cond_syntax l.rest) ≡ with_cond_nodes (sight_parts l.visible_names) l.initial.names.items (cond_syntax l.fn.cond)
+invariant-nodes l = with_cond_nodes (sight_parts l.visible) l.names.items (cond_syntax l.rest) ≡ with_cond_nodes (sight_parts l.visible) l.initial.names.items (cond_syntax l.fn.cond)
 
 abbrev pub decreases-nodes : goal.decreases-nodes
 decreases-nodes l = length l.rest

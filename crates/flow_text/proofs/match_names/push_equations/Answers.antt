@@ -10,7 +10,7 @@ use Rattle.flow_text.proofs.match_names.push_equations.Goals as goal
 
 pub written-preserved : goal.written-preserved
 written-preserved c =
-    let s = sight_parts c.args.visible_names.now in
+    let s = sight_parts c.args.visible.now in
     let before = c.in-Some.field-0-1.now in
     let x = c.in-Some.equation.now in
     let now = c.push_equation.new.names.items in
@@ -19,6 +19,6 @@ written-preserved c =
 
 pub returns : goal.returns
 returns c =
-    let s = sight_parts c.args.visible_names.now in
+    let s = sight_parts c.args.visible.now in
     none_more (names_parts c.written.names.items)
     ∙ sym (ended (with_equations s c.args.part) equations_syntax c.written.names.items c.written.rest.now (with_equations s c.args.part c.args.names.now.items (equations_syntax c.args.equations.now)) c.in_default.ensures.cases equations_none c.written.invariant)

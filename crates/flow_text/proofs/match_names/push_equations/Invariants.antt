@@ -6,7 +6,7 @@ use Rattle.flow_text.proofs.match_names.push_equations.Given as goal
 
 -- the names so far, and those of the equations that are left
 abbrev pub invariant-written : goal.invariant-written
-invariant-written l = with_equations (sight_parts l.visible_names) l.part l.names.items (equations_syntax l.rest) ≡ with_equations (sight_parts l.visible_names) l.part l.initial.names.items (equations_syntax l.fn.equations)
+invariant-written l = with_equations (sight_parts l.visible) l.part l.names.items (equations_syntax l.rest) ≡ with_equations (sight_parts l.visible) l.part l.initial.names.items (equations_syntax l.fn.equations)
 
 abbrev pub decreases-written : goal.decreases-written
 decreases-written l = length l.rest

@@ -10,7 +10,7 @@ use Rattle.flow_text.proofs.match_names.push_expression.Goals as goal
 
 pub nodes-preserved : goal.nodes-preserved
 nodes-preserved c =
-    let s = sight_parts c.args.visible_names.now in
+    let s = sight_parts c.args.visible.now in
     let before = c.in-Some.field-0-1.now in
     let x = c.in-Some.node.now in
     let now = c.push_node.new.names.items in
@@ -19,6 +19,6 @@ nodes-preserved c =
 
 pub returns : goal.returns
 returns c =
-    let s = sight_parts c.args.visible_names.now in
+    let s = sight_parts c.args.visible.now in
     none_more (names_parts c.nodes.names.items)
     ∙ sym (ended (with_nodes s c.args.part) expr_syntax c.nodes.names.items c.nodes.rest.now (with_nodes s c.args.part c.args.names.now.items (expr_syntax c.args.expr.now)) c.in_default.ensures.cases expr_none c.nodes.invariant)
