@@ -3,3 +3,8 @@ pub mod SameCondNodes
 pub mod SameLists
 pub mod MappedLists
 pub mod MarkedBlocks
+pub mod LiveLists
+pub mod MetBlocks
+pub mod ChosenMatches
+pub mod PieceExits
+pub mod SharedColumns

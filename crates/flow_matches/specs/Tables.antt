@@ -20,10 +20,11 @@ pub record AreMarked (tables : MatchTables) (ms : List BlockMatch) : Type 0 wher
   pub before : AreMarks tables.stops_before.items (is_matched_before (matches_of ms))
   pub after : AreMarks tables.stops_after.items (is_matched_after (matches_of ms))
 
--- the matched blocks are marked, and the variables that are live at each block of the second graph
+-- the matched blocks are marked, and the variables that are live at each block
 pub record AreTables (tables : MatchTables) (sorts : List Sort) (before after : List ABlock) (ms : List BlockMatch) : Type 0 where
   pub marked : AreMarked tables ms
-  pub live_sets : (k x : ℕ) → x < length sorts → noted tables.live.items x k ≡ live (graph_of after) k x
+  pub live_before : (k x : ℕ) → x < length sorts → noted tables.live_before.items x k ≡ live (graph_of before) k x
+  pub live_after : (k x : ℕ) → x < length sorts → noted tables.live_after.items x k ≡ live (graph_of after) k x
 
 -- each of the numbers is less than n
 abbrev pub AreBelow : ℕ → List ℕ → Type 0

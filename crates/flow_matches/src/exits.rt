@@ -1,5 +1,5 @@
 //! The exits of a piece.
-ghost use Rattle.std.specs.Prelude.{◌≡◌, ◌<◌, ◌&&◌, false, IfOk, OnOk, List, [], ◌∷◌, length, map, filter, nat_eq, slice_index_or};
+ghost use Rattle.std.specs.Prelude.{◌≡◌, ◌<◌, ◌&&◌, false, IfOk, OnOk, List, [], ◌∷◌, length, vec_len, map, filter, nat_eq, slice_index_or};
 ghost use Rattle.kat_model.specs.UniqueRows.{with_new};
 ghost use Rattle.std.specs.List.{list_any, list_all};
 ghost use Rattle.std.specs.Cmp.Lexicographic.{pointwise};
@@ -8,21 +8,19 @@ ghost use Rattle.flow_model.specs.declared.graph.Block.{Block as ABlock};
 ghost use Rattle.flow_model.specs.Polish.{jump_of, graph_of};
 ghost use Rattle.flow_ways.specs.Liveness.{jump_targets};
 ghost use Rattle.flow_places.specs.Walks.{blocks_from as inside_from};
-ghost use Rattle.flow_places.specs.Tables.{noted};
 ghost use Rattle.flow_pieces.specs.SameTrees.{is_same_bool};
 ghost use Rattle.flow_pieces.specs.PieceGraphs.{arrivals_of, has_block as has_number};
-ghost use Rattle.flow_pieces.specs.Exits.{have_same_parts as same_parts, rows_with as rows_of, columns_with as columns_of, exit_of as exit_at, has_match as exit_has, exits_from, piece_exits as exits_of_piece};
+ghost use Rattle.flow_pieces.specs.Exits.{have_same_parts as same_parts, rows_with as rows_of, columns_with as columns_of, exit_of as exit_at, has_match as exit_has, share_column, exits_from, piece_exits as exits_of_piece};
 ghost use Rattle.flow_model.specs.declared.block_match.BlockMatch.{BlockMatch as ABlockMatch};
 ghost use Rattle.flow_model.specs.Matches.{match_of, matches_of};
 ghost use Rattle.flow_matches.specs.MatchViews.{match_at, pair_of};
 ghost use Rattle.flow_matches.specs.Tables.{AreBelow, AreTables, AreInside};
-ghost use Rattle.flow_matches.specs.Working.ExitViews.{exit_tree, exit_trees, chosen, IsMarkedList, with_arrivals, AreArrivals, noted_at, like_by, has_like_by, FirstWith, FirstShared};
+ghost use Rattle.flow_matches.specs.Working.ExitViews.{exit_tree, exit_trees, IsExitOf, AreExitsOf, chosen, IsMarkedList, with_arrivals, AreArrivals, noted_at, like_by, has_like_by, FirstWith, FirstShared};
 
-use flow_model::{BlockMatch};
 use crate::same::is_same_cond;
 use crate::same_lists::are_same_equations;
-use crate::tables::{MatchTables, has_mark};
-use flow_model::{Block, Jump};
+use crate::tables::{MatchTables, has_mark, is_live_after};
+use flow_model::{Block, BlockMatch, Jump};
 use flow_places::blocks_from;
 use kat_model::NoMemory;
 use std::alloc::Global;
@@ -46,7 +44,9 @@ pub(crate) struct Arrivals {
 
 // Adds a block, if it is matched and new.
 fn arrive(stops: &[bool], block: usize, arrivals: &mut Arrivals) -> Result<(), NoMemory>
-    requires { IsMarkedList arrivals.old }
+    requires marked { IsMarkedList arrivals.old }
+    requires long { vec_len arrivals.old.marks ≡ length stops.now }
+    ensures long { vec_len arrivals.new.marks ≡ vec_len arrivals.old.marks }
     ensures marked { OnOk result (IsMarkedList arrivals.new) }
     ensures added { OnOk result (arrivals.new.blocks.items ≡ with_arrivals (λ k. slice_index_or stops.now k false) arrivals.old.blocks.items (block ∷ [])) }
 {
@@ -59,7 +59,9 @@ fn arrive(stops: &[bool], block: usize, arrivals: &mut Arrivals) -> Result<(), N
 
 // Adds the targets of a jump that are matched and new.
 fn arrive_by(stops: &[bool], jump: &Jump, arrivals: &mut Arrivals) -> Result<(), NoMemory>
-    requires { IsMarkedList arrivals.old }
+    requires marked { IsMarkedList arrivals.old }
+    requires long { vec_len arrivals.old.marks ≡ length stops.now }
+    ensures long { vec_len arrivals.new.marks ≡ vec_len arrivals.old.marks }
     ensures marked { OnOk result (IsMarkedList arrivals.new) }
     ensures added { OnOk result (arrivals.new.blocks.items ≡ with_arrivals (λ k. slice_index_or stops.now k false) arrivals.old.blocks.items (jump_targets (jump_of jump.now))) }
 {
@@ -84,7 +86,7 @@ pub(crate) fn arrivals_from(
 {
     let mut arrivals = Arrivals {
         blocks: Vec::new(alloc),
-        marks: vec![in alloc; false; blocks.len()]?,
+        marks: vec![in alloc; false; stops.len()]?,
     };
     for block in inside {
         if let Some(found) = blocks.get(*block) {
@@ -185,21 +187,12 @@ fn have_same_parts(one: &BlockMatch, other: &BlockMatch) -> bool
         && is_same_cond(&one.condition, &other.condition)
 }
 
-fn is_live(tables: &MatchTables, block: usize, variable: usize) -> bool
-    ensures { result ≡ noted tables.now.live.items variable block }
-{
-    match tables.live.get(block) {
-        Some(row) => has_mark(row, variable),
-        None => false,
-    }
-}
-
 // Returns whether the same variables are live at two blocks of the second graph.
 fn have_same_live(tables: &MatchTables, variables: usize, one: usize, other: usize) -> bool
     ensures { result ≡ pointwise nat_eq (noted_at tables.now variables one) (noted_at tables.now variables other) }
 {
     for variable in 0..variables {
-        if is_live(tables, one, variable) != is_live(tables, other, variable) {
+        if is_live_after(tables, one, variable) != is_live_after(tables, other, variable) {
             return false;
         }
     }
@@ -213,11 +206,12 @@ fn live_at(
     variables: usize,
     block: usize,
 ) -> Result<Vec<usize>, NoMemory>
-    ensures { IfOk result (λ live. live.items ≡ noted_at tables.now variables block) }
+    ensures bounds { IfOk result (λ live. AreBelow variables live.items) }
+    ensures live { IfOk result (λ live. live.items ≡ noted_at tables.now variables block) }
 {
     let mut live = Vec::new(alloc);
     for variable in 0..variables {
-        if is_live(tables, block, variable) {
+        if is_live_after(tables, block, variable) {
             live.push(variable)?;
         }
     }
@@ -324,7 +318,8 @@ fn exit_of(
 ) -> Result<Exit, NoMemory>
     requires numbers { AreBelow (length matches.now) candidates.now }
     requires number { number < length matches.now }
-    ensures { IfOk result (λ exit. (sorts : List Sort) → length sorts ≡ variables → (before after : List ABlock) → AreTables tables.now sorts before after matches.now → exit_tree matches.now exit ≡ exit_at (pair_of sorts before after) (chosen matches.now candidates.now) (match_at matches.now number)) }
+    ensures bounds { IfOk result (λ exit. IsExitOf (length matches.now) variables exit) }
+    ensures exit { IfOk result (λ exit. (sorts : List Sort) → length sorts ≡ variables → (before after : List ABlock) → AreTables tables.now sorts before after matches.now → exit_tree matches.now exit ≡ exit_at (pair_of sorts before after) (chosen matches.now candidates.now) (match_at matches.now number)) }
 {
     let own = &matches[number];
     let live = live_at(alloc, tables, variables, own.after)?;
@@ -367,7 +362,7 @@ fn exits_of(
     candidates: &[usize],
 ) -> Result<Vec<Exit>, NoMemory>
     requires { AreBelow (length matches.now) candidates.now }
-    ensures numbers { IfOk result (λ exits. AreBelow (length matches.now) (map (λ e. e.number) exits.items)) }
+    ensures bounds { IfOk result (λ exits. AreExitsOf (length matches.now) variables exits.items) }
     ensures exits { IfOk result (λ exits. (sorts : List Sort) → length sorts ≡ variables → (before after : List ABlock) → AreTables tables.now sorts before after matches.now → exit_trees matches.now exits.items ≡ exits_from (pair_of sorts before after) (chosen matches.now candidates.now) (chosen matches.now candidates.now) []) }
 {
     let mut exits = Vec::new(alloc);
@@ -391,7 +386,8 @@ pub(crate) fn piece_exits(
 ) -> Result<Vec<Exit>, NoMemory>
     requires inside { AreInside before.now after.now matches.now }
     requires number { number < length matches.now }
-    ensures { IfOk result (λ exits. (sorts : List Sort) → length sorts ≡ variables → AreTables tables.now sorts before.now after.now matches.now → exit_trees matches.now exits.items ≡ exits_of_piece (pair_of sorts before.now after.now) (matches_of matches.now) (match_at matches.now number)) }
+    ensures bounds { IfOk result (λ exits. AreExitsOf (length matches.now) variables exits.items) }
+    ensures exits { IfOk result (λ exits. (sorts : List Sort) → length sorts ≡ variables → AreTables tables.now sorts before.now after.now matches.now → exit_trees matches.now exits.items ≡ exits_of_piece (pair_of sorts before.now after.now) (matches_of matches.now) (match_at matches.now number)) }
 {
     let own = &matches[number];
     let first = piece_arrivals(alloc, before, &tables.stops_before, own.before)?;
@@ -400,17 +396,30 @@ pub(crate) fn piece_exits(
     exits_of(alloc, tables, variables, matches, &candidates)
 }
 
+fn has_block(blocks: &[usize], block: usize) -> bool
+    ensures { result ≡ has_number blocks.now block }
+{
+    blocks.contains(&block)
+}
+
+// Returns whether some block is a column of both exits.
+fn have_shared_column(one: &Exit, other: &Exit) -> bool
+    ensures { (matches : List ABlockMatch) → result ≡ share_column (exit_tree matches one.now) (exit_tree matches other.now) }
+{
+    for column in &one.columns {
+        if has_block(&other.columns, *column) {
+            return true;
+        }
+    }
+    false
+}
+
 // Returns the place of the first exit from a place on that shares a column with an exit.
 fn shared_with(exits: &[Exit], own: &Exit, from: usize) -> Option<usize>
     ensures { (matches : List ABlockMatch) → FirstWith result matches own.now exits.now from }
 {
     for place in from..exits.len() {
-        let other = &exits[place];
-        if own
-            .columns
-            .iter()
-            .any(|column| other.columns.contains(column))
-        {
+        if have_shared_column(own, &exits[place]) {
             return Some(place);
         }
     }

@@ -18,4 +18,4 @@ mod text;
 
 pub use fault::MatchFault;
 pub use piece::{Piece, piece_of};
-pub use tables::{MatchTables, match_tables};
+pub use tables::{MatchTables, is_live_after, is_live_before, match_tables};

@@ -6,9 +6,8 @@ ghost use Rattle.flow_pieces.specs.SameTrees.{is_same_expr as same_expr, is_same
 ghost use Rattle.flow_pieces.specs.Exits.{is_same_equation as same_equation};
 ghost use Rattle.flow_model.specs.Matches.{equation_of};
 
-use flow_model::{Equation};
 use crate::same::{is_same_cond, is_same_expr};
-use flow_model::{ExprNode, Statement};
+use flow_model::{Equation, ExprNode, Statement};
 
 /// Returns whether expressions are the same in turn.
 pub(crate) fn are_same_exprs(left: &[Vec<ExprNode>], right: &[Vec<ExprNode>]) -> bool

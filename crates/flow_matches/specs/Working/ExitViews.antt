@@ -2,6 +2,7 @@
 use Rattle.std.specs.Prelude.{◌≡◌, ◌<◌, ◌≤◌, ◌&&◌, ◌||◌, ◌++◌, ℕ, Bool, true, false, List, length, slice_index_or, Vec, drop, filter, map, nat_eq, Option, Some, None, slice_get}
 use Rattle.std.specs.List.{list_any, range_with_len}
 use Rattle.std.specs.Cmp.Lexicographic.{pointwise}
+use Rattle.kat_model.specs.Members.{Has}
 use Rattle.kat_model.specs.UniqueRows.{with_all_new}
 use Rattle.std.specs.declared.alloc.Global.{Global}
 use Rattle.flow_model.specs.declared.graph.ExprNode.{ExprNode}
@@ -17,7 +18,7 @@ use Rattle.flow_model.specs.declared.block_match.BlockMatch.{BlockMatch}
 use Rattle.flow_matches.specs.declared.exits.Exit.{Exit as AnExit}
 use Rattle.flow_matches.specs.declared.exits.Arrivals.{Arrivals}
 use Rattle.flow_matches.specs.MatchViews.{match_at}
-use Rattle.flow_matches.specs.Tables.{AreMarks}
+use Rattle.flow_matches.specs.Tables.{AreMarks, AreBelow}
 
 -- an exit with its match
 abbrev pub exit_with : Match → AnExit → Exit
@@ -28,6 +29,13 @@ exit_tree ms e = exit_with (match_at ms e.number) e
 
 abbrev pub exit_trees : List BlockMatch → List AnExit → List Exit
 exit_trees ms es = map (exit_tree ms) es
+
+-- the exit is of a match that there is, and of variables that there are
+abbrev pub IsExitOf : ℕ → ℕ → AnExit → Type 0
+IsExitOf n variables e = (e.number < n) × AreBelow variables e.live.items
+
+abbrev pub AreExitsOf : ℕ → ℕ → List AnExit → Type 0
+AreExitsOf n variables es = (e : AnExit) → Has es e → IsExitOf n variables e
 
 -- the matches of these numbers
 abbrev pub chosen : List BlockMatch → List ℕ → List Match
@@ -41,9 +49,9 @@ IsMarkedList arrivals = AreMarks arrivals.marks.items (has_block arrivals.blocks
 abbrev pub with_arrivals : (ℕ → Bool) → List ℕ → List ℕ → List ℕ
 with_arrivals is_matched found ks = with_all_new nat_eq found (filter is_matched ks)
 
--- the variables that a table notes as live at a block
+-- the variables that the tables note as live at a block of the second graph
 abbrev pub noted_at : MatchTables → ℕ → ℕ → List ℕ
-noted_at tables n l = filter (λ x. noted tables.live.items x l) (range_with_len 0 n)
+noted_at tables n l = filter (λ x. noted tables.live_after.items x l) (range_with_len 0 n)
 
 -- two matches have the same parts, and the same variables are live at their blocks of the second graph
 abbrev pub like_by : (ℕ → List ℕ) → Match → Match → Bool
