@@ -4,7 +4,9 @@ pub mod SameLists
 pub mod MappedLists
 pub mod MarkedBlocks
 pub mod LiveLists
+pub mod PartnerTables
 pub mod MetBlocks
 pub mod ChosenMatches
 pub mod PieceExits
 pub mod SharedColumns
+pub mod TextSteps

@@ -8,13 +8,12 @@ ghost use Rattle.flow_pieces.specs.SameTexts.{is_plain as plain_match, are_match
 ghost use Rattle.flow_model.specs.Matches.{match_of, matches_of};
 ghost use Rattle.flow_matches.specs.MatchViews.{match_at, pair_of};
 ghost use Rattle.flow_matches.specs.Tables.{AreMarked, AreInside};
-ghost use Rattle.flow_matches.specs.Working.TextWalks.{Pairs, waiting_of, HasMet, SameLengths, AddsPairs, Visits};
+ghost use Rattle.flow_matches.specs.Working.TextWalks.{Pairs, waiting_of, HasMet, SamePartners, SameLengths, AddsPairs, Visits};
 
-use flow_model::{BlockMatch};
 use crate::same::is_same_cond;
 use crate::same_lists::{are_same_exprs, are_same_statements};
 use crate::tables::{MatchTables, has_mark};
-use flow_model::{Block, CondNode, Jump};
+use flow_model::{Block, BlockMatch, CondNode, Jump};
 use kat_model::NoMemory;
 use std::alloc::Global;
 
@@ -57,7 +56,8 @@ fn are_matched_plainly(matches: &[BlockMatch], before: usize, after: usize) -> b
 
 // Adds the pairs to which two jumps lead. Returns whether they do the same.
 fn push_jumps(first: &Jump, second: &Jump, walk: &mut TextWalk) -> Result<bool, NoMemory>
-    ensures { IfOk result (λ same. AddsPairs same (jump_pairs (jump_of first.now) (jump_of second.now)) walk.old walk.new) }
+    ensures partners { SamePartners walk.old walk.new }
+    ensures pairs { IfOk result (λ same. AddsPairs same (jump_pairs (jump_of first.now) (jump_of second.now)) walk.old walk.new) }
 {
     match (first, second) {
         (Jump::Goto(k), Jump::Goto(l)) => {
@@ -83,7 +83,8 @@ fn push_blocks(
     second: usize,
     walk: &mut TextWalk,
 ) -> Result<bool, NoMemory>
-    ensures { IfOk result (λ same. AddsPairs same (block_pairs (slice_get (graph_of before.now) first) (slice_get (graph_of after.now) second)) walk.old walk.new) }
+    ensures partners { SamePartners walk.old walk.new }
+    ensures pairs { IfOk result (λ same. AddsPairs same (block_pairs (slice_get (graph_of before.now) first) (slice_get (graph_of after.now) second)) walk.old walk.new) }
 {
     match (before.get(first), after.get(second)) {
         (Some(one), Some(other)) => {
@@ -100,6 +101,7 @@ fn push_blocks(
 // Pairs two blocks of which none has a partner.
 fn pair_up(first: usize, second: usize, walk: &mut TextWalk)
     ensures waiting { walk.new.waiting ≡ walk.old.waiting }
+    ensures lengths { SameLengths walk.old walk.new }
     ensures met { first < vec_len walk.old.before → second < vec_len walk.old.after → (met : Pairs) → HasMet walk.old met → is_paired met first second ≡ false → HasMet walk.new ((first, second) ∷ met) }
 {
     if first < walk.before.len() && second < walk.after.len() {

@@ -1,5 +1,5 @@
 -- The tables of the walk of both graphs in step, as the lists of the definitions.
-use Rattle.std.specs.Prelude.{◌≡◌, ◌↔◌, ℕ, suc, Bool, true, false, List, [], ◌∷◌, ◌++◌, reverse, vec_len, Option, Some, None, slice_get}
+use Rattle.std.specs.Prelude.{◌≡◌, ◌↔◌, ℕ, suc, Bool, true, false, List, ◌∷◌, ◌++◌, reverse, vec_len, Option, Some, None, slice_get}
 use Rattle.kat_model.specs.Members.{Has}
 use Rattle.flow_model.specs.Graphs.{Pair}
 use Rattle.flow_model.specs.Matches.{Match}
@@ -29,7 +29,7 @@ pub record SameLengths (old new : TextWalk) : Type 0 where
 
 -- where there are next pairs, they wait before the others; else the answer is `false`
 abbrev pub AddsPairs : Bool → Option Pairs → TextWalk → TextWalk → Type 0
-AddsPairs true (Some next) old new = (waiting_of new ≡ next ++ waiting_of old) × SamePartners old new
+AddsPairs true (Some next) old new = waiting_of new ≡ next ++ waiting_of old
 AddsPairs false None old new = Unit {0}
 AddsPairs same o old new = ⊥
 
