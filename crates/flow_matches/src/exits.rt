@@ -1,5 +1,5 @@
 //! The exits of a piece.
-ghost use Rattle.std.specs.Prelude.{◌≡◌, ◌<◌, ◌&&◌, false, IfOk, OnOk, List, [], ◌∷◌, length, vec_len, map, filter, nat_eq, slice_index_or};
+ghost use Rattle.std.specs.Prelude.{◌≡◌, ◌<◌, ◌&&◌, false, IfOk, OnOk, List, [], ◌∷◌, length, vec_len, filter, nat_eq, slice_index_or};
 ghost use Rattle.kat_model.specs.UniqueRows.{with_new};
 ghost use Rattle.std.specs.List.{list_any, list_all};
 ghost use Rattle.std.specs.Cmp.Lexicographic.{pointwise};
@@ -9,7 +9,7 @@ ghost use Rattle.flow_model.specs.Polish.{jump_of, graph_of};
 ghost use Rattle.flow_ways.specs.Liveness.{jump_targets};
 ghost use Rattle.flow_places.specs.Walks.{blocks_from as inside_from};
 ghost use Rattle.flow_pieces.specs.SameTrees.{is_same_bool};
-ghost use Rattle.flow_pieces.specs.PieceGraphs.{arrivals_of, has_block as has_number};
+ghost use Rattle.flow_pieces.specs.PieceGraphs.{has_block as has_number};
 ghost use Rattle.flow_pieces.specs.Exits.{have_same_parts as same_parts, rows_with as rows_of, columns_with as columns_of, exit_of as exit_at, has_match as exit_has, share_column, exits_from, piece_exits as exits_of_piece};
 ghost use Rattle.flow_model.specs.declared.block_match.BlockMatch.{BlockMatch as ABlockMatch};
 ghost use Rattle.flow_model.specs.Matches.{match_of, matches_of};
