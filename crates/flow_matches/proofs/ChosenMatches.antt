@@ -45,7 +45,7 @@ module _ (ms : List BlockMatch) (ns : List ℕ) (below : AreBelow (length ms) ns
   pub chosen_rest : chosen ms (drop i ns) ≡ match_of one ∷ chosen ms (drop (i + 1) ns)
   chosen_rest = ap (chosen ms) (drop_more ns i 0 lt) ∙ ap (λ m. m ∷ chosen ms (drop (i + 1) ns)) here
 
--- one element more, which passes or fails a test
+-- lists with a further element, which passes or fails a test
 module _ {X : Type 0} (p : X → Bool) where
   pub none_more : (xs ys : List X) (x : X) → ys ≡ xs ++ x ∷ [] → list_any p xs ≡ false → p x ≡ false → list_any p ys ≡ false
   none_more xs ys x is so_far fails =
@@ -86,7 +86,7 @@ module _ (p : Match → Bool) (ms : List BlockMatch) (n : ℕ) (lt : n < length 
   candidate_left fails =
       so_far ∙ sym (filter_next ∙ ap (λ b. filter p (matches_of (take n ms)) ++ (if b then match_of one ∷ [] else [])) fails ∙ append-nil (filter p (matches_of (take n ms))))
 
--- truth values that a comparison tells apart
+-- truth values that a comparison finds equal or different
 pub bools_differ : (b c : Bool) → not (beq b c) ≡ true → is_same_bool b c ≡ false
 bools_differ true true e = absurd (false≢true e)
 bools_differ true false e = refl

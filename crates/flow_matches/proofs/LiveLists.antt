@@ -14,7 +14,7 @@ use Rattle.flow_pieces.proofs.SameTrees.{numbers_same}
 abbrev pub passing : (ℕ → Bool) → ℕ → List ℕ
 passing p n = filter p (range_with_len 0 n)
 
--- one number more
+-- the list with a further number
 passing_more : (p : ℕ → Bool) (n : ℕ) → passing p (n + 1) ≡ passing p n ++ cond (p n) (n ∷ []) []
 passing_more p n =
     let next : n + 1 ≡ suc n = omega arith in

@@ -76,7 +76,7 @@ module _ (is_matched : ℕ → Bool) where
   arrivals-append found ks ls =
       ap (with_all_new nat_eq found) (filter-append is_matched ks ls) ∙ all_new-append found (filter is_matched ks) (filter is_matched ls)
 
-  -- the targets of one block more
+  -- the targets of a further block
   pub arrivals_more : (targets : ℕ → List ℕ) (ks : List ℕ) (i : ℕ) → i < length ks →
       with_arrivals is_matched [] (flat_map targets (take (i + 1) ks)) ≡ with_arrivals is_matched (with_arrivals is_matched [] (flat_map targets (take i ks))) (targets (get_or ks i 0))
   arrivals_more targets ks i lt =

@@ -65,7 +65,7 @@ none_paired met k l first second = false_from_ne_true (is_paired met k l) found
         (λ s. second q.0 (subst (λ j. Has {X = ℕ × ℕ} met (q.0, j)) (eqb-true q.1 l s) pair.1))
         (or_cases (nat_eq q.0 k) (nat_eq q.1 l) pair.2)
 
--- a pair more
+-- tables with a further pair
 
 module _ (met : Pairs) (k l : ℕ) (new : is_paired met k l ≡ false) where
   other_first : (i j : ℕ) → Has {X = ℕ × ℕ} met (i, j) → i ≡ k → ⊥

@@ -20,14 +20,14 @@ loop-block-preserved c =
         marked = w.in_ok-arrive_by.ensures.marked;
         long = w.arrive_by.ensures.long ∙ c.loop-block.invariant.long;
         found =
-            targets_met (λ k. slice_index_or c.args.stops.now k false) c.args.blocks.now c.args.inside.now c.loop-block.block-index c.loop-block-test.true c.loop-block.arrivals.blocks.items c.loop-block.invariant.found
+            targets_met (λ k. slice_index_or c.args.stops.now k false) c.args.blocks.now c.args.inside.now c.loop-block.block-index c.loop-block-test.true _ c.loop-block.invariant.found
             w.in-Some.found.now w.arrive_by.new.arrivals.blocks.items (ltb-true (get_or c.args.inside.now c.loop-block.block-index 0) (length c.args.blocks.now) (sym w.in-Some.ensures.lookup.0)) w.in-Some.ensures.lookup.1 w.in_ok-arrive_by.ensures.added;
       })
       | in_default w ↦ rw w.arrivals-is (record {
         marked = c.loop-block.invariant.marked;
         long = c.loop-block.invariant.long;
         found =
-            nothing_met (λ k. slice_index_or c.args.stops.now k false) c.args.blocks.now c.args.inside.now c.loop-block.block-index c.loop-block-test.true c.loop-block.arrivals.blocks.items c.loop-block.invariant.found
+            nothing_met (λ k. slice_index_or c.args.stops.now k false) c.args.blocks.now c.args.inside.now c.loop-block.block-index c.loop-block-test.true _ c.loop-block.invariant.found
             (ltb-false (get_or c.args.inside.now c.loop-block.block-index 0) (length c.args.blocks.now) (sym w.in_default.ensures.lookup.0));
       })
     ]
