@@ -10,3 +10,13 @@ pub mod ChosenMatches
 pub mod PieceExits
 pub mod SharedColumns
 pub mod TextSteps
+pub mod DistinctBlocks
+pub mod PointPlaces
+pub mod SideTargets
+pub mod ArrivalBlocks
+pub mod PushedLists
+pub mod EquationLists
+pub mod SideSteps
+pub mod PieceParts
+pub mod SideGraphs
+pub mod ExitSteps

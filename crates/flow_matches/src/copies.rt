@@ -12,6 +12,19 @@ pub(crate) fn copy_expr(nodes: &Vec<ExprNode>) -> Result<Vec<ExprNode>, NoMemory
     Ok(nodes.clone()?)
 }
 
+/// Adds copies of expressions to a list.
+pub(crate) fn push_exprs(
+    values: &[Vec<ExprNode>],
+    list: &mut Vec<Vec<ExprNode>>,
+) -> Result<(), NoMemory>
+    ensures { OnOk result (values_of list.new.items ≡ values_of list.old.items ++ values_of values.now) }
+{
+    for value in values {
+        append(list, copy_expr(value)?)?;
+    }
+    Ok(())
+}
+
 pub(crate) fn copy_exprs(
     alloc: Global,
     values: &[Vec<ExprNode>],
@@ -19,9 +32,7 @@ pub(crate) fn copy_exprs(
     ensures { IfOk result (λ copy. values_of copy.items ≡ values_of values.now) }
 {
     let mut copies = Vec::new(alloc);
-    for value in values {
-        append(&mut copies, copy_expr(value)?)?;
-    }
+    push_exprs(values, &mut copies)?;
     Ok(copies)
 }
 

@@ -1,19 +1,20 @@
 //! What both sides of a piece know at its match, and return at its exits.
-ghost use Rattle.std.specs.Prelude.{◌≡◌, ◌+◌, ◌<◌, ◌^◌, ◌∷◌, ◌++◌, IfOk, OnOk, [], map};
+ghost use Rattle.std.specs.Prelude.{◌≡◌, ◌+◌, ◌<◌, ◌^◌, ◌∷◌, ◌++◌, ℕ, false, not, IfOk, OnOk, [], map, filter, replicate, slice_index_or};
 ghost use Rattle.flow_model.specs.Expressions.{variable as a_variable};
-ghost use Rattle.flow_model.specs.Polish.{expr_of, cond_of, values_of, statement_of};
-ghost use Rattle.flow_pieces.specs.Matches.{gives, equations_read};
-ghost use Rattle.flow_pieces.specs.PieceGraphs.{mark as a_mark, equations_hold, assigned, known_at, exit_mark as mark_of, shared_variables, results_before as first_results, results_after as second_results};
+ghost use Rattle.flow_model.specs.Polish.{expr_of, cond_of, cond_part, values_of, statement_of};
+ghost use Rattle.flow_pieces.specs.Matches.{gives, equations_read, is_shared};
+ghost use Rattle.flow_pieces.specs.PieceGraphs.{mark as a_mark, has_block as has_number, equations_hold, assigned, known_at, exit_mark as mark_of, shared_variables, results_before as first_results, results_after as second_results};
 ghost use Rattle.flow_model.specs.Matches.{equation_of, match_of};
 ghost use Rattle.flow_matches.specs.Tables.{AreBelow};
-ghost use Rattle.flow_matches.specs.Working.ExitViews.{exit_with, AddsTrees, AddsMarks};
+ghost use Rattle.flow_matches.specs.Working.ExitViews.{exit_with, AddsTrees};
+ghost use Rattle.flow_matches.specs.Working.SideViews.{HasMarks, equation_parts};
 
-use flow_model::{BlockMatch, Equation};
 use crate::copies::{copy_expr, push_cond};
 use crate::exits::Exit;
-use flow_model::{CondNode, ExprNode, Statement};
+use crate::tables::{has_mark, mark as mark_block};
+use flow_model::{BlockMatch, CondNode, Equation, ExprNode, Statement};
 use flow_places::mark_expr;
-use kat_model::{NoMemory, Rel, Width};
+use kat_model::{NoMemory, Rel, Width, append};
 use std::alloc::Global;
 
 /// Returns the expression of a variable.
@@ -30,6 +31,20 @@ pub(crate) fn mark(alloc: Global, number: u64) -> Result<Vec<ExprNode>, NoMemory
     Ok(vec![in alloc; ExprNode::Number(Width::W32, number); 1]?)
 }
 
+// Adds the nodes of the condition that an equation holds and the next condition too.
+fn push_equation(
+    alloc: Global,
+    equation: &Equation,
+    nodes: &mut Vec<CondNode>,
+) -> Result<(), NoMemory>
+    ensures { OnOk result (map cond_part nodes.new.items ≡ map cond_part nodes.old.items ++ equation_parts (equation_of equation.now)) }
+{
+    let left = variable(alloc, equation.variable)?;
+    let right = copy_expr(&equation.expression)?;
+    append(nodes, CondNode::Both)?;
+    append(nodes, CondNode::Compared(Rel::Eq, left, right))
+}
+
 /// Returns the condition that equations hold, and another condition.
 pub(crate) fn holding(
     alloc: Global,
@@ -40,10 +55,7 @@ pub(crate) fn holding(
 {
     let mut nodes = Vec::new(alloc);
     for equation in equations {
-        nodes.push(CondNode::Both)?;
-        let left = variable(alloc, equation.variable)?;
-        let right = copy_expr(&equation.expression)?;
-        nodes.push(CondNode::Compared(Rel::Eq, left, right))?;
+        push_equation(alloc, equation, &mut nodes)?;
     }
     push_cond(cond, &mut nodes)?;
     Ok(nodes)
@@ -58,7 +70,7 @@ fn push_variables(
     ensures { OnOk result (AddsTrees values.old values.new (map (λ e. a_variable e.variable) (map equation_of equations.now))) }
 {
     for equation in equations {
-        values.push(variable(alloc, equation.variable)?)?;
+        append(values, variable(alloc, equation.variable)?)?;
     }
     Ok(())
 }
@@ -68,7 +80,7 @@ fn push_expressions(equations: &[Equation], values: &mut Vec<Vec<ExprNode>>) -> 
     ensures { OnOk result (AddsTrees values.old values.new (map (λ e. e.expression) (map equation_of equations.now))) }
 {
     for equation in equations {
-        values.push(copy_expr(&equation.expression)?)?;
+        append(values, copy_expr(&equation.expression)?)?;
     }
     Ok(())
 }
@@ -103,23 +115,38 @@ pub(crate) fn opening(
 }
 
 // Marks the variables that equations give.
-fn mark_given(equations: &[Equation], marks: &mut [bool])
-    ensures { AddsMarks (gives (map equation_of equations.now)) marks.old marks.new }
+fn mark_given(equations: &[Equation], marks: &mut Vec<bool>)
+    ensures { HasMarks (gives (map equation_of equations.now)) marks.old.items marks.new.items }
 {
     for equation in equations {
-        if equation.variable < marks.len() {
-            marks[equation.variable] = true;
-        }
+        mark_block(marks, equation.variable);
     }
 }
 
 // Marks the variables that equations read.
-fn mark_read(equations: &[Equation], marks: &mut [bool])
-    ensures { AddsMarks (equations_read (map equation_of equations.now)) marks.old marks.new }
+fn mark_read(equations: &[Equation], marks: &mut Vec<bool>)
+    ensures { HasMarks (equations_read (map equation_of equations.now)) marks.old.items marks.new.items }
 {
     for equation in equations {
         mark_expr(&equation.expression, marks);
     }
+}
+
+fn no_marks(alloc: Global, count: usize) -> Result<Vec<bool>, NoMemory>
+    ensures { IfOk result (λ marks. marks.items ≡ replicate count false) }
+{
+    Ok(vec![in alloc; false; count]?)
+}
+
+// Marks the variables of which equations between both states speak.
+fn equation_marks(alloc: Global, variables: usize, own: &BlockMatch) -> Result<Vec<bool>, NoMemory>
+    ensures { IfOk result (λ marks. (x : ℕ) → x < variables → not (slice_index_or marks.items x false) ≡ is_shared (match_of own.now) x) }
+{
+    let mut marks = no_marks(alloc, variables)?;
+    mark_given(&own.forth, &mut marks);
+    mark_given(&own.back, &mut marks);
+    mark_read(&own.back, &mut marks);
+    Ok(marks)
 }
 
 // Adds the live variables of an exit of which no equation between both states speaks.
@@ -133,13 +160,43 @@ fn push_shared(
     requires { AreBelow variables exit.now.live.items }
     ensures { OnOk result (AddsTrees values.old values.new (map a_variable (shared_variables (exit_with (match_of own.now) exit.now)))) }
 {
-    let mut marks = vec![in alloc; false; variables]?;
-    mark_given(&own.forth, &mut marks);
-    mark_given(&own.back, &mut marks);
-    mark_read(&own.back, &mut marks);
+    let marks = equation_marks(alloc, variables, own)?;
     for number in &exit.live {
-        if !marks.get(*number).copied().unwrap_or(false) {
-            values.push(variable(alloc, *number)?)?;
+        if !has_mark(&marks, *number) {
+            append(values, variable(alloc, *number)?)?;
+        }
+    }
+    Ok(())
+}
+
+// Adds the expressions of equations whose variable is live.
+fn push_live_expressions(
+    equations: &[Equation],
+    live: &[usize],
+    values: &mut Vec<Vec<ExprNode>>,
+) -> Result<(), NoMemory>
+    ensures { OnOk result (AddsTrees values.old values.new (map (λ e. e.expression) (filter (λ e. has_number live.now e.variable) (map equation_of equations.now)))) }
+{
+    for equation in equations {
+        if live.contains(&equation.variable) {
+            append(values, copy_expr(&equation.expression)?)?;
+        }
+    }
+    Ok(())
+}
+
+// Adds the variables of equations that are live.
+fn push_live_variables(
+    alloc: Global,
+    equations: &[Equation],
+    live: &[usize],
+    values: &mut Vec<Vec<ExprNode>>,
+) -> Result<(), NoMemory>
+    ensures { OnOk result (AddsTrees values.old values.new (map (λ e. a_variable e.variable) (filter (λ e. has_number live.now e.variable) (map equation_of equations.now)))) }
+{
+    for equation in equations {
+        if live.contains(&equation.variable) {
+            append(values, variable(alloc, equation.variable)?)?;
         }
     }
     Ok(())
@@ -158,13 +215,9 @@ pub(crate) fn results_before(
     ensures { IfOk result (λ values. values_of values.items ≡ mark_of place ∷ first_results (exit_with (match_of own.now) exit.now)) }
 {
     let mut values = Vec::new(alloc);
-    values.push(mark(alloc, place as u64 + 3)?)?;
+    append(&mut values, mark(alloc, place as u64 + 3)?)?;
     push_shared(alloc, variables, exit, own, &mut values)?;
-    for equation in &own.forth {
-        if exit.live.contains(&equation.variable) {
-            values.push(copy_expr(&equation.expression)?)?;
-        }
-    }
+    push_live_expressions(&own.forth, &exit.live, &mut values)?;
     push_variables(alloc, &own.back, &mut values)?;
     Ok(values)
 }
@@ -182,13 +235,9 @@ pub(crate) fn results_after(
     ensures { IfOk result (λ values. values_of values.items ≡ mark_of place ∷ second_results (exit_with (match_of own.now) exit.now)) }
 {
     let mut values = Vec::new(alloc);
-    values.push(mark(alloc, place as u64 + 3)?)?;
+    append(&mut values, mark(alloc, place as u64 + 3)?)?;
     push_shared(alloc, variables, exit, own, &mut values)?;
-    for equation in &own.forth {
-        if exit.live.contains(&equation.variable) {
-            values.push(variable(alloc, equation.variable)?)?;
-        }
-    }
+    push_live_variables(alloc, &own.forth, &exit.live, &mut values)?;
     push_expressions(&own.back, &mut values)?;
     Ok(values)
 }

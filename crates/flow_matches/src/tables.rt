@@ -47,7 +47,7 @@ pub fn is_live_after(tables: &MatchTables, block: usize, variable: usize) -> boo
 }
 
 // Marks a block, if there is a place for its mark.
-fn mark(marks: &mut Vec<bool>, block: usize)
+pub(crate) fn mark(marks: &mut Vec<bool>, block: usize)
     ensures { marks.new.items ≡ slice_set marks.old.items block true }
 {
     if block < marks.len() {

@@ -1,5 +1,5 @@
 -- Exits of the program as those of the definitions.
-use Rattle.std.specs.Prelude.{◌≡◌, ◌<◌, ◌≤◌, ◌&&◌, ◌||◌, ◌++◌, ℕ, Bool, true, false, List, length, slice_index_or, Vec, drop, filter, map, nat_eq, Option, Some, None, slice_get}
+use Rattle.std.specs.Prelude.{◌≡◌, ◌<◌, ◌≤◌, ◌&&◌, ◌++◌, ℕ, Bool, true, false, List, Vec, drop, filter, map, nat_eq, Option, Some, None, slice_get}
 use Rattle.std.specs.List.{list_any, range_with_len}
 use Rattle.std.specs.Cmp.Lexicographic.{pointwise}
 use Rattle.kat_model.specs.Members.{Has}
@@ -88,7 +88,3 @@ FirstShared (Some (i, j)) ms es = PlacesShare (exit_trees ms es) i j
 -- the list has these trees after the others
 abbrev pub AddsTrees : Vec (Vec ExprNode Global) Global → Vec (Vec ExprNode Global) Global → List ExprTree → Type 0
 AddsTrees old new es = values_of new.items ≡ values_of old.items ++ es
-
--- the variables that pass the test are marked as well
-abbrev pub AddsMarks : (ℕ → Bool) → List Bool → List Bool → Type 0
-AddsMarks test old new = (x : ℕ) → x < length old → slice_index_or new x false ≡ (test x || slice_index_or old x false)

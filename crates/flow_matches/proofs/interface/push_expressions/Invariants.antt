@@ -1,0 +1,8 @@
+use Rattle.std.proofs.Common.{◌≡◌, ◌++◌, map, take}
+use Rattle.flow_model.specs.Polish.{expr_of, values_of}
+use Rattle.flow_model.specs.declared.block_match.Equation.{Equation}
+use Rattle.flow_matches.proofs.interface.push_expressions.Given as goal
+
+-- the expressions so far
+abbrev pub invariant-loop-equation : goal.invariant-loop-equation
+invariant-loop-equation l = values_of l.values.items ≡ values_of l.initial.values.items ++ map (λ (e : Equation). expr_of e.expression.items) (take l.equation-index l.equations)
