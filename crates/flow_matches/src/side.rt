@@ -1,12 +1,12 @@
 //! The graph of one side of a piece.
-ghost use Rattle.std.specs.Prelude.{◌≡◌, ◌∷◌, [], IfOk, OnOk, List, map, vec_len, unwrap_or, slice_get};
+ghost use Rattle.std.specs.Prelude.{◌≡◌, ◌∷◌, false, [], IfOk, OnOk, List, Some, map, length, replicate, unwrap_or, slice_get, slice_set, slice_index_or};
 ghost use Rattle.flow_model.specs.declared.graph.Block.{Block as ABlock};
-ghost use Rattle.flow_model.specs.Polish.{values_of, statement_of, jump_of, graph_of};
-ghost use Rattle.flow_pieces.specs.PieceGraphs.{Side as ASide, inside, side_blocks, block_at, jump_of as jump_of_side, mark as a_mark, side_graph as graph_of_side};
+ghost use Rattle.flow_model.specs.Polish.{values_of, statement_of, jump_of, block_of, graph_of};
+ghost use Rattle.flow_pieces.specs.PieceGraphs.{Side as ASide, inside, side_blocks, number_of, block_at, block_inside, jump_of as jump_of_side, mark as a_mark, side_graph as graph_of_side};
 ghost use Rattle.flow_matches.specs.Tables.{AreMarks};
-ghost use Rattle.flow_matches.specs.Working.SideViews.{leave_trees, side_arrivals, AddsBlocks, arrival_blocks, IsSide};
+ghost use Rattle.flow_matches.specs.Working.SideViews.{AreBelowIf, leave_tree, leave_trees, side_arrivals, AddsBlocks, leave_blocks, arrival_blocks, blocks_of_arrivals, after_arrival as number_after, after_arrivals, numbers_of_leaves, number_blocks, number_all_arrivals, IsSide};
 
-use crate::copies::{copy_cond, copy_exprs, copy_statements};
+use crate::copies::{copy_cond, copy_exprs, copy_statements, push_exprs};
 use crate::interface::mark;
 use crate::leaves::Leave;
 use crate::tables::has_mark;
@@ -32,18 +32,31 @@ pub(crate) struct Side {
     pub(crate) otherwise: u64,
 }
 
+// Sets the number of a block, if there is a place for it.
+fn set_number(block: usize, number: usize, targets: &mut Vec<usize>)
+    ensures { targets.new.items ≡ slice_set targets.old.items block number }
+{
+    if block < targets.len() {
+        targets[block] = number;
+    }
+}
+
 // Sets the number of the point of each block inside. A jump to a matched block leads to an arrival.
-fn number_inside(stops: &[bool], inside: &[usize], targets: &mut [usize]) {
+fn number_inside(stops: &[bool], inside: &[usize], targets: &mut Vec<usize>)
+    ensures { targets.new.items ≡ number_blocks (λ k. slice_index_or stops.now k false) 1 inside.now targets.old.items }
+{
     for place in 0..inside.len() {
         let block = inside[place];
-        if !has_mark(stops, block) && block < targets.len() {
-            targets[block] = place + 1;
+        if !has_mark(stops, block) {
+            set_number(block, place + 1, targets);
         }
     }
 }
 
 // Returns the number of points that an arrival with some exits has, after others.
-fn after_arrival(number: usize, leaves: usize) -> Result<usize, NoMemory> {
+fn after_arrival(number: usize, leaves: usize) -> Result<usize, NoMemory>
+    ensures { IfOk result (λ n. n ≡ number_after number leaves) }
+{
     match number.checked_add(leaves) {
         Some(half) => match half.checked_add(leaves) {
             Some(all) => all.checked_add(1).ok_or(NoMemory),
@@ -53,30 +66,38 @@ fn after_arrival(number: usize, leaves: usize) -> Result<usize, NoMemory> {
     }
 }
 
-// Sets the number of the first point of each arrival. Returns the number of all points.
+// Sets the number of the first point of each arrival.
 fn number_arrivals(
     first: usize,
     arrivals: &[usize],
     leaves: &[Vec<Leave>],
-    targets: &mut [usize],
-) -> Result<usize, NoMemory> {
+    targets: &mut Vec<usize>,
+) -> Result<(), NoMemory>
+    ensures { OnOk result (targets.new.items ≡ number_all_arrivals first arrivals.now (numbers_of_leaves leaves.now) targets.old.items) }
+{
     let mut number = first;
     for (block, exits) in arrivals.iter().zip(leaves) {
-        if *block < targets.len() {
-            targets[*block] = number;
-        }
+        set_number(*block, number, targets);
         number = after_arrival(number, exits.len())?;
     }
-    Ok(number)
+    Ok(())
 }
 
 // Returns the number of all points.
-fn count_points(first: usize, leaves: &[Vec<Leave>]) -> Result<usize, NoMemory> {
+fn count_points(first: usize, leaves: &[Vec<Leave>]) -> Result<usize, NoMemory>
+    ensures { IfOk result (λ n. n ≡ after_arrivals first (numbers_of_leaves leaves.now)) }
+{
     let mut number = first;
     for exits in leaves {
         number = after_arrival(number, exits.len())?;
     }
     Ok(number)
+}
+
+fn same_numbers(alloc: Global, number: usize, count: usize) -> Result<Vec<usize>, NoMemory>
+    ensures { IfOk result (λ numbers. numbers.items ≡ replicate count number) }
+{
+    Ok(vec![in alloc; number; count]?)
 }
 
 /// Returns a side with these parts, and numbers its points.
@@ -90,10 +111,11 @@ pub(crate) fn new_side(
     opening: Vec<Statement>,
     otherwise: u64,
 ) -> Result<Side, NoMemory>
+    requires { AreBelowIf (length blocks.now) (λ k. slice_index_or stops.now k false) }
     ensures { IfOk result (λ side. (s : ASide) → s.graph ≡ graph_of blocks.now → AreMarks stops.now s.is_matched → inside.items ≡ side_blocks s → arrivals.now ≡ side_arrivals s → map (λ l. leave_trees l.items) leaves.items ≡ map s.leaves (side_arrivals s) → map statement_of opening.items ≡ s.opening → s.otherwise ≡ a_mark otherwise ∷ [] → IsSide side blocks.now s) }
 {
     let count = count_points(inside.len() + 1, &leaves)?;
-    let mut targets = vec![in alloc; count; blocks.len()]?;
+    let mut targets = same_numbers(alloc, count, blocks.len())?;
     number_inside(stops, &inside, &mut targets);
     number_arrivals(inside.len() + 1, arrivals, &leaves, &mut targets)?;
     Ok(Side {
@@ -134,9 +156,7 @@ fn jump_inside(alloc: Global, side: &Side, jump: &Jump) -> Result<Jump, NoMemory
         )),
         Jump::Return(results) => {
             let mut values = one_value(alloc, 0)?;
-            for result in copy_exprs(alloc, results)? {
-                values.push(result)?;
-            }
+            push_exprs(results, &mut values)?;
             Ok(Jump::Return(values))
         }
         Jump::Abort => Ok(Jump::Abort),
@@ -159,6 +179,21 @@ fn push_block(
     Ok(())
 }
 
+// Adds a copy of a block inside, with jumps to points.
+fn push_copy(
+    alloc: Global,
+    block: &Block,
+    side: &Side,
+    list: &mut Vec<Block>,
+) -> Result<(), NoMemory>
+    ensures { OnOk result ((s : ASide) (blocks : List ABlock) → IsSide side.now blocks s → AddsBlocks list.old list.new (block_inside s (Some (block_of block.now)) ∷ [])) }
+{
+    let statements = copy_statements(alloc, &block.statements)?;
+    let jump = jump_inside(alloc, side, &block.jump)?;
+    push_block(block.is_cut, statements, jump, list)?;
+    Ok(())
+}
+
 // Adds the blocks inside.
 fn push_inside(
     alloc: Global,
@@ -170,15 +205,22 @@ fn push_inside(
 {
     for number in &side.inside {
         if let Some(block) = blocks.get(*number) {
-            let statements = copy_statements(alloc, &block.statements)?;
-            push_block(
-                block.is_cut,
-                statements,
-                jump_inside(alloc, side, &block.jump)?,
-                list,
-            )?;
+            push_copy(alloc, block, side, list)?;
         }
     }
+    Ok(())
+}
+
+// Adds the two points of an exit: the second is there only if its condition holds.
+fn push_leave(alloc: Global, leave: &Leave, list: &mut Vec<Block>) -> Result<(), NoMemory>
+    ensures { OnOk result (AddsBlocks list.old list.new (leave_blocks (length (graph_of list.old.items)) (leave_tree leave.now))) }
+{
+    let number = list.len();
+    let cond = copy_cond(alloc, &leave.condition)?;
+    let jump = Jump::Branch(cond, number + 1, number + 2);
+    push_block(false, Vec::new(alloc), jump, list)?;
+    let results = copy_exprs(alloc, &leave.results)?;
+    push_block(false, Vec::new(alloc), Jump::Return(results), list)?;
     Ok(())
 }
 
@@ -189,26 +231,35 @@ fn push_arrival(
     otherwise: u64,
     list: &mut Vec<Block>,
 ) -> Result<(), NoMemory>
-    ensures { OnOk result (AddsBlocks list.old list.new (arrival_blocks (vec_len list.old) (leave_trees leaves.now) (a_mark otherwise ∷ []))) }
+    ensures { OnOk result (AddsBlocks list.old list.new (arrival_blocks (length (graph_of list.old.items)) (leave_trees leaves.now) (a_mark otherwise ∷ []))) }
 {
     for leave in leaves {
-        let number = list.len();
-        let cond = copy_cond(alloc, &leave.condition)?;
-        push_block(
-            false,
-            Vec::new(alloc),
-            Jump::Branch(cond, number + 1, number + 2),
-            list,
-        )?;
-        let results = copy_exprs(alloc, &leave.results)?;
-        push_block(false, Vec::new(alloc), Jump::Return(results), list)?;
+        push_leave(alloc, leave, list)?;
     }
-    push_block(
-        false,
-        Vec::new(alloc),
-        Jump::Return(one_value(alloc, otherwise)?),
-        list,
-    )
+    let values = one_value(alloc, otherwise)?;
+    push_block(false, Vec::new(alloc), Jump::Return(values), list)?;
+    Ok(())
+}
+
+// Returns the number of the point of the first block.
+fn first_point(side: &Side) -> usize
+    ensures { (s : ASide) (blocks : List ABlock) → IsSide side.now blocks s → result ≡ number_of s (inside s.first) }
+{
+    if side.inside.is_empty() {
+        side.count
+    } else {
+        1
+    }
+}
+
+// Adds the blocks of all arrivals.
+fn push_arrivals(alloc: Global, side: &Side, list: &mut Vec<Block>) -> Result<(), NoMemory>
+    ensures { OnOk result (AddsBlocks list.old list.new (blocks_of_arrivals (length (graph_of list.old.items)) (map (λ l. leave_trees l.items) side.now.leaves.items) (a_mark side.now.otherwise ∷ []))) }
+{
+    for leaves in &side.leaves {
+        push_arrival(alloc, leaves, side.otherwise, list)?;
+    }
+    Ok(())
 }
 
 /// Returns the graph of a side. Fails only when out of memory.
@@ -221,15 +272,8 @@ pub(crate) fn side_graph(
 {
     let mut list = Vec::new(alloc);
     let statements = copy_statements(alloc, &side.opening)?;
-    let first = if side.inside.is_empty() {
-        side.count
-    } else {
-        1
-    };
-    push_block(false, statements, Jump::Goto(first), &mut list)?;
+    push_block(false, statements, Jump::Goto(first_point(side)), &mut list)?;
     push_inside(alloc, blocks, side, &mut list)?;
-    for leaves in &side.leaves {
-        push_arrival(alloc, leaves, side.otherwise, &mut list)?;
-    }
+    push_arrivals(alloc, side, &mut list)?;
     Ok(list)
 }
