@@ -1,14 +1,15 @@
 //! The exits of one side of a piece, at each matched block where it arrives.
-ghost use Rattle.std.specs.Prelude.{◌≡◌, IfOk};
+ghost use Rattle.std.specs.Prelude.{◌≡◌, ◌+◌, ◌<◌, ◌^◌, IfOk, length};
 ghost use Rattle.flow_pieces.specs.PieceGraphs.{leaves_from, has_block, leave_before as first_leave, leave_after as second_leave};
-ghost use Rattle.flow_matches.specs.Working.ExitViews.{exit_trees};
-ghost use Rattle.flow_matches.specs.Working.SideViews.{leave_trees};
+ghost use Rattle.flow_model.specs.Matches.{match_of};
+ghost use Rattle.flow_matches.specs.Tables.{AreBelow};
+ghost use Rattle.flow_matches.specs.Working.ExitViews.{exit_with, exit_trees, AreExitsOf};
+ghost use Rattle.flow_matches.specs.Working.SideViews.{leave_tree, leave_trees};
 
-use flow_model::{BlockMatch};
 use crate::exits::Exit;
 use crate::interface::{holding, results_after, results_before};
-use flow_model::{CondNode, ExprNode};
-use kat_model::NoMemory;
+use flow_model::{BlockMatch, CondNode, ExprNode};
+use kat_model::{NoMemory, append};
 use std::alloc::Global;
 
 /// An exit at a matched block: where the condition holds, the run returns the results.
@@ -16,6 +17,41 @@ use std::alloc::Global;
 pub(crate) struct Leave {
     pub(crate) condition: Vec<CondNode>,
     pub(crate) results: Vec<Vec<ExprNode>>,
+}
+
+// Returns an exit of the first graph.
+fn leave_before(
+    alloc: Global,
+    variables: usize,
+    exit: &Exit,
+    own: &BlockMatch,
+    place: usize,
+) -> Result<Leave, NoMemory>
+    requires place { place + 3 < 2 ^ 64 }
+    requires live { AreBelow variables exit.now.live.items }
+    ensures { IfOk result (λ leave. leave_tree leave ≡ first_leave place (exit_with (match_of own.now) exit.now)) }
+{
+    let condition = holding(alloc, &own.keeping, &own.condition)?;
+    let results = results_before(alloc, variables, exit, own, place)?;
+    Ok(Leave { condition, results })
+}
+
+// Returns an exit of the second graph.
+fn leave_after(
+    alloc: Global,
+    variables: usize,
+    exit: &Exit,
+    own: &BlockMatch,
+    place: usize,
+) -> Result<Leave, NoMemory>
+    requires place { place + 3 < 2 ^ 64 }
+    requires live { AreBelow variables exit.now.live.items }
+    ensures { IfOk result (λ leave. leave_tree leave ≡ second_leave place (exit_with (match_of own.now) exit.now)) }
+{
+    let mut condition = Vec::new(alloc);
+    append(&mut condition, CondNode::Always)?;
+    let results = results_after(alloc, variables, exit, own, place)?;
+    Ok(Leave { condition, results })
 }
 
 /// Returns the exits of the first graph at a block.
@@ -26,16 +62,18 @@ pub(crate) fn leaves_before(
     exits: &[Exit],
     block: usize,
 ) -> Result<Vec<Leave>, NoMemory>
+    requires { AreExitsOf (length matches.now) variables exits.now }
     ensures { IfOk result (λ leaves. leave_trees leaves.items ≡ leaves_from first_leave (λ e. has_block e.rows block) 0 (exit_trees matches.now exits.now)) }
 {
     let mut leaves = Vec::new(alloc);
     for place in 0..exits.len() {
         let exit = &exits[place];
-        let own = &matches[exit.number];
         if exit.rows.contains(&block) {
-            let condition = holding(alloc, &own.keeping, &own.condition)?;
-            let results = results_before(alloc, variables, exit, own, place)?;
-            leaves.push(Leave { condition, results })?;
+            let own = &matches[exit.number];
+            append(
+                &mut leaves,
+                leave_before(alloc, variables, exit, own, place)?,
+            )?;
         }
     }
     Ok(leaves)
@@ -49,17 +87,18 @@ pub(crate) fn leaves_after(
     exits: &[Exit],
     block: usize,
 ) -> Result<Vec<Leave>, NoMemory>
+    requires { AreExitsOf (length matches.now) variables exits.now }
     ensures { IfOk result (λ leaves. leave_trees leaves.items ≡ leaves_from second_leave (λ e. has_block e.columns block) 0 (exit_trees matches.now exits.now)) }
 {
     let mut leaves = Vec::new(alloc);
     for place in 0..exits.len() {
         let exit = &exits[place];
-        let own = &matches[exit.number];
         if exit.columns.contains(&block) {
-            let mut condition = Vec::new(alloc);
-            condition.push(CondNode::Always)?;
-            let results = results_after(alloc, variables, exit, own, place)?;
-            leaves.push(Leave { condition, results })?;
+            let own = &matches[exit.number];
+            append(
+                &mut leaves,
+                leave_after(alloc, variables, exit, own, place)?,
+            )?;
         }
     }
     Ok(leaves)
