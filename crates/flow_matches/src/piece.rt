@@ -6,11 +6,11 @@ ghost use Rattle.flow_model.specs.Polish.{graph_of};
 ghost use Rattle.flow_pieces.specs.PieceGraphs.{side_before as first_side, side_after as second_side, side_graph as graph_of_side};
 ghost use Rattle.flow_model.specs.Matches.{matches_of};
 ghost use Rattle.flow_matches.specs.MatchViews.{match_at, pair_of};
-ghost use Rattle.flow_matches.specs.Tables.{AreTables, AreInside};
+ghost use Rattle.flow_pieces.specs.Pieces.{is_matched_before, is_matched_after};
+ghost use Rattle.flow_matches.specs.Tables.{AreMarks, AreBelow, blocks_before, blocks_after, AreTables, AreInside};
 ghost use Rattle.flow_matches.specs.Outcomes.{IsPieceOf, IsRefusalOf};
-ghost use Rattle.flow_matches.specs.Working.ExitViews.{exit_trees};
+ghost use Rattle.flow_matches.specs.Working.ExitViews.{exit_trees, AreExitsOf};
 
-use flow_model::{BlockMatch};
 use crate::exits::{Exit, arrivals_from, piece_exits, shared_column};
 use crate::fault::MatchFault;
 use crate::interface::opening;
@@ -18,9 +18,9 @@ use crate::leaves::{leaves_after, leaves_before};
 use crate::side::{new_side, side_graph};
 use crate::tables::MatchTables;
 use crate::text::has_same_text;
-use flow_model::{Block, Sort};
+use flow_model::{Block, BlockMatch, Sort};
 use flow_places::blocks_from;
-use kat_model::NoMemory;
+use kat_model::{NoMemory, append};
 use std::alloc::Global;
 
 /// The piece of a match.
@@ -87,15 +87,21 @@ fn first_graph(
     number: usize,
     exits: &[Exit],
 ) -> Result<Vec<Block>, NoMemory>
-    requires { number < length matches.now }
-    ensures { IfOk result (λ graph. (sorts : List Sort) → length sorts ≡ variables → (after : List ABlock) → AreTables tables.now sorts blocks.now after matches.now → graph_of graph.items ≡ graph_of_side (first_side (pair_of sorts blocks.now after) (matches_of matches.now) (match_at matches.now number) (exit_trees matches.now exits.now))) }
+    requires number { number < length matches.now }
+    requires below { AreBelow (length blocks.now) (blocks_before matches.now) }
+    requires marked { AreMarks tables.now.stops_before.items (is_matched_before (matches_of matches.now)) }
+    requires exits { AreExitsOf (length matches.now) variables exits.now }
+    ensures { IfOk result (λ graph. (sorts : List Sort) (after : List ABlock) → graph_of graph.items ≡ graph_of_side (first_side (pair_of sorts blocks.now after) (matches_of matches.now) (match_at matches.now number) (exit_trees matches.now exits.now))) }
 {
     let own = &matches[number];
     let inside = blocks_from(alloc, blocks, &tables.stops_before, own.before)?;
     let arrivals = arrivals_from(alloc, blocks, &tables.stops_before, &inside)?;
     let mut leaves = Vec::new(alloc);
     for block in &arrivals.blocks {
-        leaves.push(leaves_before(alloc, variables, matches, exits, *block)?)?;
+        append(
+            &mut leaves,
+            leaves_before(alloc, variables, matches, exits, *block)?,
+        )?;
     }
     let opening = opening(alloc, own, &own.back)?;
     let stops = &tables.stops_before;
@@ -109,7 +115,8 @@ fn first_graph(
         opening,
         1,
     )?;
-    side_graph(alloc, blocks, &side)
+    let graph = side_graph(alloc, blocks, &side)?;
+    Ok(graph)
 }
 
 // Returns the graph of the second side of a piece.
@@ -122,15 +129,21 @@ fn second_graph(
     number: usize,
     exits: &[Exit],
 ) -> Result<Vec<Block>, NoMemory>
-    requires { number < length matches.now }
-    ensures { IfOk result (λ graph. (sorts : List Sort) → length sorts ≡ variables → (before : List ABlock) → AreTables tables.now sorts before blocks.now matches.now → graph_of graph.items ≡ graph_of_side (second_side (pair_of sorts before blocks.now) (matches_of matches.now) (match_at matches.now number) (exit_trees matches.now exits.now))) }
+    requires number { number < length matches.now }
+    requires below { AreBelow (length blocks.now) (blocks_after matches.now) }
+    requires marked { AreMarks tables.now.stops_after.items (is_matched_after (matches_of matches.now)) }
+    requires exits { AreExitsOf (length matches.now) variables exits.now }
+    ensures { IfOk result (λ graph. (sorts : List Sort) (before : List ABlock) → graph_of graph.items ≡ graph_of_side (second_side (pair_of sorts before blocks.now) (matches_of matches.now) (match_at matches.now number) (exit_trees matches.now exits.now))) }
 {
     let own = &matches[number];
     let inside = blocks_from(alloc, blocks, &tables.stops_after, own.after)?;
     let arrivals = arrivals_from(alloc, blocks, &tables.stops_after, &inside)?;
     let mut leaves = Vec::new(alloc);
     for block in &arrivals.blocks {
-        leaves.push(leaves_after(alloc, variables, matches, exits, *block)?)?;
+        append(
+            &mut leaves,
+            leaves_after(alloc, variables, matches, exits, *block)?,
+        )?;
     }
     let opening = opening(alloc, own, &own.forth)?;
     let stops = &tables.stops_after;
@@ -144,5 +157,6 @@ fn second_graph(
         opening,
         2,
     )?;
-    side_graph(alloc, blocks, &side)
+    let graph = side_graph(alloc, blocks, &side)?;
+    Ok(graph)
 }
