@@ -1,5 +1,0 @@
-pub mod Reasons
-pub mod SortedPieces
-pub mod SamePieces
-pub mod FoundPieces
-pub mod PieceProblemExamples
