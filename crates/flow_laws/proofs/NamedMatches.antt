@@ -1,11 +1,10 @@
 -- The names of a match are the variables that its equations give and that its equations and its condition read.
-use Rattle.std.proofs.Common.{◌≡◌, ◌≤◌, ℕ, zero, suc, ◌+◌, List, [], ◌∷◌, ◌++◌, length, append_assoc, Bool, true, false, ◌&&◌, ◌||◌, Option, None, Result, Ok, refl, sym, ◌∙◌, ap, subst, arith}
+use Rattle.std.proofs.Common.{◌≡◌, ◌≤◌, ℕ, zero, suc, ◌+◌, List, [], ◌∷◌, ◌++◌, length, append_assoc, Bool, false, ◌&&◌, ◌||◌, Option, None, Ok, refl, sym, ◌∙◌, ap, subst, arith}
 use Rattle.std.specs.List.{list_any}
 use Rattle.std.proofs.lemmas.List.{append-nil}
 use Rattle.std.proofs.lemmas.List.Folds.{list_any-append}
 use Rattle.std.proofs.Math.Bool.{or-false, or_assoc, and-false, and-or_distrib_left}
 use Rattle.text_parser.specs.TokenParts.{TokenParts, bytes_of}
-use Rattle.text_parser.specs.Parsed.{◌>>=◌}
 use Rattle.flow_model.specs.declared.sort.Sort.{Sort}
 use Rattle.flow_model.specs.declared.sort.Sort.TheVariants.{Number}
 use Rattle.flow_model.specs.Expressions.{ExprTree}
@@ -23,10 +22,10 @@ use Rattle.flow_text.specs.Matches.{MatchName, FileMatch}
 use Rattle.flow_text.specs.MatchNames.{names_of_expression, names_of_equations, names_of_cond_node, names_of_condition, names_of_match}
 use Rattle.flow_text.specs.Trees.{only_cond}
 use Rattle.flow_text.specs.Scopes.{ScopeParts}
-use Rattle.flow_text.specs.Resolving.{sort_of_sides, rel_named, signed_rel_named, relation_on, width_of_sort, comparison_of, signed_comparison_of, expression_of, part_of, parts_after, condition_of}
+use Rattle.flow_text.specs.Resolving.{sort_of_sides, rel_named, signed_rel_named, relation_on, width_of_sort, comparison_of, signed_comparison_of, expression_of, part_of, parts_after}
 use Rattle.flow_text.specs.Checking.{equations_after, condition_or_always, rounds_given, file_match, resolved_match}
 use Rattle.flow_laws.specs.MatchNames.{is_same_part, is_set_in, is_read_in, NamesAreRead}
-use Rattle.flow_laws.proofs.Holding.{Holds, any_holds, then_holds, weakened, both_hold, all_hold}
+use Rattle.flow_laws.proofs.Holding.{Holds, any_holds, then_holds, weakened, all_hold}
 use Rattle.flow_laws.proofs.TreeReads.{any_cond_reads, taken, part_reads, parts_read, part_size, only_cond_reads}
 use Rattle.flow_laws.proofs.NamedReads.{none_set, IsReadAs, expression_read, AreEquations, equations_named}
 

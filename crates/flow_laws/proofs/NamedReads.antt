@@ -1,5 +1,5 @@
 -- The names in an expression are the variables that it reads, and those in equations what they give and read.
-use Rattle.std.proofs.Common.{◌≡◌, ◌≤◌, ℕ, ◌+◌, List, [], ◌∷◌, ◌++◌, length, length-append, append_assoc, Bool, true, false, ◌&&◌, ◌||◌, if◌then◌else◌, nat_eq, nat_lt, Option, Some, None, Result, Ok, slice_get, codes, refl, sym, ◌∙◌, ap, subst, arith}
+use Rattle.std.proofs.Common.{◌≡◌, ◌≤◌, ℕ, ◌+◌, List, [], ◌∷◌, ◌++◌, length, append_assoc, Bool, true, false, ◌&&◌, ◌||◌, if◌then◌else◌, nat_eq, nat_lt, Option, Some, None, Result, Ok, slice_get, codes, refl, sym, ◌∙◌, ap, subst, arith}
 use Rattle.std.specs.Str.{bytes_eq}
 use Rattle.std.specs.List.{list_any}
 use Rattle.std.proofs.lemmas.List.{append-nil}
@@ -16,29 +16,26 @@ use Rattle.flow_model.specs.declared.sort.Sort.TheVariants.{Number, Opaque}
 use Rattle.flow_model.specs.declared.graph.ExprNode.{ExprNode}
 use Rattle.flow_model.specs.declared.graph.ExprNode.TheVariants as node
 use Rattle.flow_model.specs.Expressions.{ExprTree}
-use Rattle.flow_model.specs.Conditions as condition
-use Rattle.flow_model.specs.Conditions.{CondTree}
-use Rattle.flow_model.specs.Polish.{with_node, exprs_of, CondPart, a_condition, with_part, conds_of}
+use Rattle.flow_model.specs.Polish.{with_node, exprs_of}
 use Rattle.flow_model.specs.Matches.{Equation}
-use Rattle.flow_ways.specs.Liveness.{reads, any_reads, cond_reads}
+use Rattle.flow_ways.specs.Liveness.{reads, any_reads}
 use Rattle.flow_pieces.specs.Matches.{gives, equations_read}
-use Rattle.flow_syntax.specs.Syntax.{NodeSyntax, numeral, named, called, converted, operation, ExprSyntax, CondNodeSyntax, always, never, compared, compared_signed, negation, both, either, CondSyntax, EquationSyntax, equation, BlockMatchSyntax, two_blocks}
+use Rattle.flow_syntax.specs.Syntax.{NodeSyntax, numeral, named, called, converted, operation, ExprSyntax, EquationSyntax, equation}
 use Rattle.flow_syntax.specs.Terminals.{spelled_number}
-use Rattle.flow_syntax.proofs.WholeSyntax.{operand_count, ArePolish, IsWholeNode, condition_count, AreWholeConds, IsWholeCond, IsWholeOrNone, AreWholeEquations, IsWholeMatch}
+use Rattle.flow_syntax.proofs.WholeSyntax.{operand_count, ArePolish, AreWholeEquations}
 use Rattle.flow_text.specs.declared.meaning.Meaning.{Meaning}
 use Rattle.flow_text.specs.declared.meaning.Meaning.TheVariants.{SortName, Function, Variable, GraphName}
 use Rattle.flow_text.specs.declared.match_names.MatchPart.{MatchPart}
-use Rattle.flow_text.specs.declared.match_names.MatchPart.TheVariants.{Where, Back, Keeping, If}
-use Rattle.flow_text.specs.Matches.{MatchName, FileMatch}
-use Rattle.flow_text.specs.MatchNames.{names_meant, names_of_token, names_of_node, names_of_expression, names_of_equation, names_of_equations, names_of_cond_node, names_of_condition, names_of_match}
-use Rattle.flow_text.specs.Trees.{only_expr, expr_of, only_cond}
+use Rattle.flow_text.specs.Matches.{MatchName}
+use Rattle.flow_text.specs.MatchNames.{names_meant, names_of_token, names_of_node, names_of_expression, names_of_equation, names_of_equations}
+use Rattle.flow_text.specs.Trees.{expr_of}
 use Rattle.flow_text.specs.Scopes.{FunctionParts, function_parts, ScopeParts, meaning_in, width_named, same_sort}
-use Rattle.flow_text.specs.Resolving.{Expected, operand, second_operand, sort_or_u64, sort_of_first, sort_of_sides, rel_named, signed_rel_named, relation_on, width_of_sort, comparison_of, signed_comparison_of, number_of_width, number_in, with_expected_sort, variable_in, application_of, function_in, conversion_in, operator_on, operator_in, with_parameters, with_operand, node_in, next_node, nodes_after, resolved, expression_of, part_of, parts_after, condition_of}
-use Rattle.flow_text.specs.Checking.{target_of, target_meant, next_target, is_given_by, equation_for, next_equation, equations_after, condition_or_always, rounds_given, file_match, resolved_match}
-use Rattle.flow_laws.specs.MatchNames.{is_same_part, is_set_in, is_read_in, NamesAreRead}
-use Rattle.flow_laws.proofs.Holding.{Holds, any_holds, then_holds, if_holds, weakened, both_hold, all_hold}
+use Rattle.flow_text.specs.Resolving.{Expected, operand, second_operand, sort_or_u64, sort_of_first, number_of_width, number_in, with_expected_sort, variable_in, application_of, function_in, conversion_in, operator_on, operator_in, with_parameters, with_operand, node_in, next_node, nodes_after, resolved, expression_of}
+use Rattle.flow_text.specs.Checking.{target_of, target_meant, next_target, is_given_by, equation_for, next_equation, equations_after}
+use Rattle.flow_laws.specs.MatchNames.{is_same_part, is_set_in, is_read_in}
+use Rattle.flow_laws.proofs.Holding.{Holds, then_holds, if_holds, weakened, both_hold}
 use Rattle.flow_laws.proofs.SortedNodes.{if_node, Follows, next_good}
-use Rattle.flow_laws.proofs.TreeReads.{operands, is_variable, node_reads, node_size, only_expr_reads, any_cond_reads, taken, part_reads, parts_read, part_size, only_cond_reads}
+use Rattle.flow_laws.proofs.TreeReads.{operands, is_variable, node_reads, node_size, only_expr_reads}
 
 gives_more : (es : List Equation) (e : Equation) (x : ℕ) → gives (es ++ e ∷ []) x ≡ (gives es x || nat_eq e.variable x)
 gives_more [] e x = or-false (nat_eq e.variable x)

@@ -167,33 +167,61 @@ fn has_names(alloc: Global, item: &str, expected: &[MatchName]) -> Result<bool, 
     }
 }
 
-const fn name(variable: usize, part: MatchPart, is_set: bool, at: usize) -> MatchName {
-    MatchName {
-        variable,
-        part,
-        is_set,
-        at,
-    }
-}
-
 // `x` is variable 0, `y` 1 and `match` 2.
 const NAMES: &[(&str, &[MatchName])] = &[
     ("match names;", &[]),
     ("match l, l;", &[]),
     (
-        "match l, l where x := y + x, y := 1 back match := match * 2 keeping x := y if x < 3 && !(y == x) split;",
+        "match l, l where x := y back match := match + 1 keeping y := x if x < 3 && !(y == 2) split;",
         &[
-            name(0, MatchPart::Where, true, 230),
-            name(1, MatchPart::Where, false, 235),
-            name(0, MatchPart::Where, false, 239),
-            name(1, MatchPart::Where, true, 242),
-            name(2, MatchPart::Back, true, 254),
-            name(2, MatchPart::Back, false, 263),
-            name(0, MatchPart::Keeping, true, 281),
-            name(1, MatchPart::Keeping, false, 286),
-            name(0, MatchPart::If, false, 291),
-            name(1, MatchPart::If, false, 302),
-            name(0, MatchPart::If, false, 307),
+            MatchName {
+                variable: 0,
+                part: MatchPart::Where,
+                is_set: true,
+                at: 230,
+            },
+            MatchName {
+                variable: 1,
+                part: MatchPart::Where,
+                is_set: false,
+                at: 235,
+            },
+            MatchName {
+                variable: 2,
+                part: MatchPart::Back,
+                is_set: true,
+                at: 242,
+            },
+            MatchName {
+                variable: 2,
+                part: MatchPart::Back,
+                is_set: false,
+                at: 251,
+            },
+            MatchName {
+                variable: 1,
+                part: MatchPart::Keeping,
+                is_set: true,
+                at: 269,
+            },
+            MatchName {
+                variable: 0,
+                part: MatchPart::Keeping,
+                is_set: false,
+                at: 274,
+            },
+            MatchName {
+                variable: 0,
+                part: MatchPart::If,
+                is_set: false,
+                at: 279,
+            },
+            MatchName {
+                variable: 1,
+                part: MatchPart::If,
+                is_set: false,
+                at: 290,
+            },
         ],
     ),
 ];
