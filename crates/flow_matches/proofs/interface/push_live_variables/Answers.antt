@@ -1,4 +1,4 @@
-use Rattle.std.proofs.Common.{◌≡◌, ◌+◌, get_or, ap, sym, ◌∙◌, ◌++◌, filter, map, take_all}
+use Rattle.std.proofs.Common.{◌≡◌, get_or, ap, sym, ◌∙◌, ◌++◌, filter, map, take_all}
 use Rattle.std.specs.Prelude.{Vec}
 use Rattle.std.specs.declared.alloc.Global.{Global}
 use Rattle.flow_model.specs.declared.graph.ExprNode.{ExprNode}
