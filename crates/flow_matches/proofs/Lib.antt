@@ -20,3 +20,4 @@ pub mod SideSteps
 pub mod PieceParts
 pub mod SideGraphs
 pub mod ExitSteps
+pub mod WholeParts

@@ -3,6 +3,7 @@ use Rattle.std.specs.Prelude.{◌≡◌, ◌<◌, ℕ, true, false, List, Some, 
 use Rattle.flow_model.specs.Graphs.{Pair}
 use Rattle.flow_model.specs.Polish.{graph_of}
 use Rattle.flow_model.specs.Matches.{Match}
+use Rattle.flow_model.specs.WholeGraphs.{are_whole_blocks}
 use Rattle.flow_pieces.specs.PieceGraphs.{Exit, piece_pair}
 use Rattle.flow_pieces.specs.Exits.{piece_exits, share_column, is_ambiguous}
 use Rattle.flow_pieces.specs.SameTexts.{has_same_text}
@@ -17,6 +18,11 @@ IsPieceOf p ms m SameText = has_same_text p ms m ≡ true
 IsPieceOf p ms m (Graphs before after) =
     (has_same_text p ms m ≡ false) × (is_ambiguous (piece_exits p ms m) ≡ false)
     × (record { sorts = p.sorts; before = graph_of before.items; after = graph_of after.items } ≡ piece_pair p ms m (piece_exits p ms m))
+
+-- each expression and each condition of the graphs is one tree
+abbrev pub IsWholePiece : Piece → Type 0
+IsWholePiece SameText = Unit {0}
+IsWholePiece (Graphs before after) = (are_whole_blocks before.items ≡ true) × (are_whole_blocks after.items ≡ true)
 
 -- two exits of a list share a column, and are those of matches of these numbers
 pub record ShareColumn (ms : List Match) (exits : List Exit) (i j : ℕ) : Type 0 where

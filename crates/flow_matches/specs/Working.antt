@@ -1,4 +1,5 @@
 pub mod SameNodes
 pub mod ExitViews
 pub mod SideViews
+pub mod WholeSides
 pub mod TextWalks

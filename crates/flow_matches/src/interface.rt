@@ -1,13 +1,17 @@
 //! What both sides of a piece know at its match, and return at its exits.
-ghost use Rattle.std.specs.Prelude.{◌≡◌, ◌+◌, ◌<◌, ◌^◌, ◌∷◌, ◌++◌, ℕ, false, not, IfOk, OnOk, [], map, filter, replicate, slice_index_or};
+ghost use Rattle.std.specs.Prelude.{◌≡◌, ◌+◌, ◌<◌, ◌^◌, ◌∷◌, ◌++◌, ℕ, true, false, not, IfOk, OnOk, [], map, filter, replicate, slice_index_or};
+ghost use Rattle.std.specs.List.{list_all};
 ghost use Rattle.flow_model.specs.Expressions.{variable as a_variable};
 ghost use Rattle.flow_model.specs.Polish.{expr_of, cond_of, cond_part, values_of, statement_of};
+ghost use Rattle.flow_model.specs.WholeGraphs.{is_whole_expr, are_whole_exprs, has_whole_sides, is_whole_cond, is_whole_statement};
+ghost use Rattle.flow_model.specs.WholeMatches.{are_whole_equations, is_whole_match};
 ghost use Rattle.flow_pieces.specs.Matches.{gives, equations_read, is_shared};
 ghost use Rattle.flow_pieces.specs.PieceGraphs.{mark as a_mark, has_block as has_number, equations_hold, assigned, known_at, exit_mark as mark_of, shared_variables, results_before as first_results, results_after as second_results};
 ghost use Rattle.flow_model.specs.Matches.{equation_of, match_of};
 ghost use Rattle.flow_matches.specs.Tables.{AreBelow};
 ghost use Rattle.flow_matches.specs.Working.ExitViews.{exit_with, AddsTrees};
 ghost use Rattle.flow_matches.specs.Working.SideViews.{HasMarks, equation_parts};
+ghost use Rattle.flow_matches.specs.Working.WholeSides.{are_whole_statements, AddsWholeExprs};
 
 use crate::copies::{copy_expr, push_cond};
 use crate::exits::Exit;
@@ -19,14 +23,16 @@ use std::alloc::Global;
 
 /// Returns the expression of a variable.
 fn variable(alloc: Global, number: usize) -> Result<Vec<ExprNode>, NoMemory>
-    ensures { IfOk result (λ nodes. expr_of nodes.items ≡ a_variable number) }
+    ensures tree { IfOk result (λ nodes. expr_of nodes.items ≡ a_variable number) }
+    ensures whole { IfOk result (λ nodes. is_whole_expr nodes.items ≡ true) }
 {
     Ok(vec![in alloc; ExprNode::Variable(number); 1]?)
 }
 
 /// Returns the expression of a mark.
 pub(crate) fn mark(alloc: Global, number: u64) -> Result<Vec<ExprNode>, NoMemory>
-    ensures { IfOk result (λ nodes. expr_of nodes.items ≡ a_mark number) }
+    ensures tree { IfOk result (λ nodes. expr_of nodes.items ≡ a_mark number) }
+    ensures whole { IfOk result (λ nodes. is_whole_expr nodes.items ≡ true) }
 {
     Ok(vec![in alloc; ExprNode::Number(Width::W32, number); 1]?)
 }
@@ -37,7 +43,8 @@ fn push_equation(
     equation: &Equation,
     nodes: &mut Vec<CondNode>,
 ) -> Result<(), NoMemory>
-    ensures { OnOk result (map cond_part nodes.new.items ≡ map cond_part nodes.old.items ++ equation_parts (equation_of equation.now)) }
+    ensures parts { OnOk result (map cond_part nodes.new.items ≡ map cond_part nodes.old.items ++ equation_parts (equation_of equation.now)) }
+    ensures whole { OnOk result (is_whole_expr equation.now.expression.items ≡ true → list_all has_whole_sides nodes.old.items ≡ true → list_all has_whole_sides nodes.new.items ≡ true) }
 {
     let left = variable(alloc, equation.variable)?;
     let right = copy_expr(&equation.expression)?;
@@ -51,7 +58,8 @@ pub(crate) fn holding(
     equations: &[Equation],
     cond: &[CondNode],
 ) -> Result<Vec<CondNode>, NoMemory>
-    ensures { IfOk result (λ nodes. cond_of nodes.items ≡ equations_hold (map equation_of equations.now) (cond_of cond.now)) }
+    ensures tree { IfOk result (λ nodes. cond_of nodes.items ≡ equations_hold (map equation_of equations.now) (cond_of cond.now)) }
+    ensures whole { IfOk result (λ nodes. are_whole_equations equations.now ≡ true → is_whole_cond cond.now ≡ true → is_whole_cond nodes.items ≡ true) }
 {
     let mut nodes = Vec::new(alloc);
     for equation in equations {
@@ -67,7 +75,8 @@ fn push_variables(
     equations: &[Equation],
     values: &mut Vec<Vec<ExprNode>>,
 ) -> Result<(), NoMemory>
-    ensures { OnOk result (AddsTrees values.old values.new (map (λ e. a_variable e.variable) (map equation_of equations.now))) }
+    ensures trees { OnOk result (AddsTrees values.old values.new (map (λ e. a_variable e.variable) (map equation_of equations.now))) }
+    ensures whole { OnOk result (AddsWholeExprs values.old values.new) }
 {
     for equation in equations {
         append(values, variable(alloc, equation.variable)?)?;
@@ -77,7 +86,8 @@ fn push_variables(
 
 // Adds the expressions of equations.
 fn push_expressions(equations: &[Equation], values: &mut Vec<Vec<ExprNode>>) -> Result<(), NoMemory>
-    ensures { OnOk result (AddsTrees values.old values.new (map (λ e. e.expression) (map equation_of equations.now))) }
+    ensures trees { OnOk result (AddsTrees values.old values.new (map (λ e. e.expression) (map equation_of equations.now))) }
+    ensures whole { OnOk result (are_whole_equations equations.now ≡ true → AddsWholeExprs values.old values.new) }
 {
     for equation in equations {
         append(values, copy_expr(&equation.expression)?)?;
@@ -87,7 +97,8 @@ fn push_expressions(equations: &[Equation], values: &mut Vec<Vec<ExprNode>>) -> 
 
 // Returns the assignment of the expressions of equations to their variables.
 fn assignment(alloc: Global, equations: &[Equation]) -> Result<Statement, NoMemory>
-    ensures { IfOk result (λ statement. statement_of statement ≡ assigned (map equation_of equations.now)) }
+    ensures tree { IfOk result (λ statement. statement_of statement ≡ assigned (map equation_of equations.now)) }
+    ensures whole { IfOk result (λ statement. are_whole_equations equations.now ≡ true → is_whole_statement statement ≡ true) }
 {
     let mut targets = Vec::new(alloc);
     for equation in equations {
@@ -104,7 +115,8 @@ pub(crate) fn opening(
     own: &BlockMatch,
     equations: &[Equation],
 ) -> Result<Vec<Statement>, NoMemory>
-    ensures { IfOk result (λ list. map statement_of list.items ≡ known_at (match_of own.now) ++ assigned (map equation_of equations.now) ∷ []) }
+    ensures trees { IfOk result (λ list. map statement_of list.items ≡ known_at (match_of own.now) ++ assigned (map equation_of equations.now) ∷ []) }
+    ensures whole { IfOk result (λ list. is_whole_match own.now ≡ true → are_whole_equations equations.now ≡ true → are_whole_statements list.items ≡ true) }
 {
     let known = holding(alloc, &own.keeping, &own.condition)?;
     let mut list = Vec::new(alloc);
@@ -158,7 +170,8 @@ fn push_shared(
     values: &mut Vec<Vec<ExprNode>>,
 ) -> Result<(), NoMemory>
     requires { AreBelow variables exit.now.live.items }
-    ensures { OnOk result (AddsTrees values.old values.new (map a_variable (shared_variables (exit_with (match_of own.now) exit.now)))) }
+    ensures trees { OnOk result (AddsTrees values.old values.new (map a_variable (shared_variables (exit_with (match_of own.now) exit.now)))) }
+    ensures whole { OnOk result (AddsWholeExprs values.old values.new) }
 {
     let marks = equation_marks(alloc, variables, own)?;
     for number in &exit.live {
@@ -175,7 +188,8 @@ fn push_live_expressions(
     live: &[usize],
     values: &mut Vec<Vec<ExprNode>>,
 ) -> Result<(), NoMemory>
-    ensures { OnOk result (AddsTrees values.old values.new (map (λ e. e.expression) (filter (λ e. has_number live.now e.variable) (map equation_of equations.now)))) }
+    ensures trees { OnOk result (AddsTrees values.old values.new (map (λ e. e.expression) (filter (λ e. has_number live.now e.variable) (map equation_of equations.now)))) }
+    ensures whole { OnOk result (are_whole_equations equations.now ≡ true → AddsWholeExprs values.old values.new) }
 {
     for equation in equations {
         if live.contains(&equation.variable) {
@@ -192,7 +206,8 @@ fn push_live_variables(
     live: &[usize],
     values: &mut Vec<Vec<ExprNode>>,
 ) -> Result<(), NoMemory>
-    ensures { OnOk result (AddsTrees values.old values.new (map (λ e. a_variable e.variable) (filter (λ e. has_number live.now e.variable) (map equation_of equations.now)))) }
+    ensures trees { OnOk result (AddsTrees values.old values.new (map (λ e. a_variable e.variable) (filter (λ e. has_number live.now e.variable) (map equation_of equations.now)))) }
+    ensures whole { OnOk result (AddsWholeExprs values.old values.new) }
 {
     for equation in equations {
         if live.contains(&equation.variable) {
@@ -212,7 +227,8 @@ pub(crate) fn results_before(
 ) -> Result<Vec<Vec<ExprNode>>, NoMemory>
     requires place { place + 3 < 2 ^ 64 }
     requires live { AreBelow variables exit.now.live.items }
-    ensures { IfOk result (λ values. values_of values.items ≡ mark_of place ∷ first_results (exit_with (match_of own.now) exit.now)) }
+    ensures trees { IfOk result (λ values. values_of values.items ≡ mark_of place ∷ first_results (exit_with (match_of own.now) exit.now)) }
+    ensures whole { IfOk result (λ values. is_whole_match own.now ≡ true → are_whole_exprs values.items ≡ true) }
 {
     let mut values = Vec::new(alloc);
     append(&mut values, mark(alloc, place as u64 + 3)?)?;
@@ -232,7 +248,8 @@ pub(crate) fn results_after(
 ) -> Result<Vec<Vec<ExprNode>>, NoMemory>
     requires place { place + 3 < 2 ^ 64 }
     requires live { AreBelow variables exit.now.live.items }
-    ensures { IfOk result (λ values. values_of values.items ≡ mark_of place ∷ second_results (exit_with (match_of own.now) exit.now)) }
+    ensures trees { IfOk result (λ values. values_of values.items ≡ mark_of place ∷ second_results (exit_with (match_of own.now) exit.now)) }
+    ensures whole { IfOk result (λ values. is_whole_match own.now ≡ true → are_whole_exprs values.items ≡ true) }
 {
     let mut values = Vec::new(alloc);
     append(&mut values, mark(alloc, place as u64 + 3)?)?;

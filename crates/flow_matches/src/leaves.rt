@@ -1,10 +1,12 @@
 //! The exits of one side of a piece, at each matched block where it arrives.
-ghost use Rattle.std.specs.Prelude.{◌≡◌, ◌+◌, ◌<◌, ◌^◌, IfOk, length};
+ghost use Rattle.std.specs.Prelude.{◌≡◌, ◌+◌, ◌<◌, ◌^◌, true, All, IfOk, length};
+ghost use Rattle.flow_model.specs.WholeMatches.{is_whole_match, IsWholeMatch};
 ghost use Rattle.flow_pieces.specs.PieceGraphs.{leaves_from, has_block, leave_before as first_leave, leave_after as second_leave};
 ghost use Rattle.flow_model.specs.Matches.{match_of};
 ghost use Rattle.flow_matches.specs.Tables.{AreBelow};
 ghost use Rattle.flow_matches.specs.Working.ExitViews.{exit_with, exit_trees, AreExitsOf};
 ghost use Rattle.flow_matches.specs.Working.SideViews.{leave_tree, leave_trees};
+ghost use Rattle.flow_matches.specs.Working.WholeSides.{is_whole_leave, are_whole_leaves};
 
 use crate::exits::Exit;
 use crate::interface::{holding, results_after, results_before};
@@ -29,7 +31,8 @@ fn leave_before(
 ) -> Result<Leave, NoMemory>
     requires place { place + 3 < 2 ^ 64 }
     requires live { AreBelow variables exit.now.live.items }
-    ensures { IfOk result (λ leave. leave_tree leave ≡ first_leave place (exit_with (match_of own.now) exit.now)) }
+    ensures tree { IfOk result (λ leave. leave_tree leave ≡ first_leave place (exit_with (match_of own.now) exit.now)) }
+    ensures whole { IfOk result (λ leave. is_whole_match own.now ≡ true → is_whole_leave leave ≡ true) }
 {
     let condition = holding(alloc, &own.keeping, &own.condition)?;
     let results = results_before(alloc, variables, exit, own, place)?;
@@ -46,7 +49,8 @@ fn leave_after(
 ) -> Result<Leave, NoMemory>
     requires place { place + 3 < 2 ^ 64 }
     requires live { AreBelow variables exit.now.live.items }
-    ensures { IfOk result (λ leave. leave_tree leave ≡ second_leave place (exit_with (match_of own.now) exit.now)) }
+    ensures tree { IfOk result (λ leave. leave_tree leave ≡ second_leave place (exit_with (match_of own.now) exit.now)) }
+    ensures whole { IfOk result (λ leave. is_whole_match own.now ≡ true → is_whole_leave leave ≡ true) }
 {
     let mut condition = Vec::new(alloc);
     append(&mut condition, CondNode::Always)?;
@@ -63,7 +67,8 @@ pub(crate) fn leaves_before(
     block: usize,
 ) -> Result<Vec<Leave>, NoMemory>
     requires { AreExitsOf (length matches.now) variables exits.now }
-    ensures { IfOk result (λ leaves. leave_trees leaves.items ≡ leaves_from first_leave (λ e. has_block e.rows block) 0 (exit_trees matches.now exits.now)) }
+    ensures trees { IfOk result (λ leaves. leave_trees leaves.items ≡ leaves_from first_leave (λ e. has_block e.rows block) 0 (exit_trees matches.now exits.now)) }
+    ensures whole { IfOk result (λ leaves. All IsWholeMatch matches.now → are_whole_leaves leaves.items ≡ true) }
 {
     let mut leaves = Vec::new(alloc);
     for place in 0..exits.len() {
@@ -88,7 +93,8 @@ pub(crate) fn leaves_after(
     block: usize,
 ) -> Result<Vec<Leave>, NoMemory>
     requires { AreExitsOf (length matches.now) variables exits.now }
-    ensures { IfOk result (λ leaves. leave_trees leaves.items ≡ leaves_from second_leave (λ e. has_block e.columns block) 0 (exit_trees matches.now exits.now)) }
+    ensures trees { IfOk result (λ leaves. leave_trees leaves.items ≡ leaves_from second_leave (λ e. has_block e.columns block) 0 (exit_trees matches.now exits.now)) }
+    ensures whole { IfOk result (λ leaves. All IsWholeMatch matches.now → are_whole_leaves leaves.items ≡ true) }
 {
     let mut leaves = Vec::new(alloc);
     for place in 0..exits.len() {

@@ -1,14 +1,16 @@
 //! The piece of a match as a question.
-ghost use Rattle.std.specs.Prelude.{◌≡◌, ◌<◌, IfOk, IfErr, List, length};
+ghost use Rattle.std.specs.Prelude.{◌≡◌, ◌<◌, true, All, IfOk, IfErr, List, length};
 ghost use Rattle.flow_model.specs.declared.sort.Sort.{Sort};
 ghost use Rattle.flow_model.specs.declared.graph.Block.{Block as ABlock};
 ghost use Rattle.flow_model.specs.Polish.{graph_of};
+ghost use Rattle.flow_model.specs.WholeGraphs.{are_whole_blocks};
+ghost use Rattle.flow_model.specs.WholeMatches.{IsWholeMatch};
 ghost use Rattle.flow_pieces.specs.PieceGraphs.{side_before as first_side, side_after as second_side, side_graph as graph_of_side};
 ghost use Rattle.flow_model.specs.Matches.{matches_of};
 ghost use Rattle.flow_matches.specs.MatchViews.{match_at, pair_of};
 ghost use Rattle.flow_pieces.specs.Pieces.{is_matched_before, is_matched_after};
 ghost use Rattle.flow_matches.specs.Tables.{AreMarks, AreBelow, blocks_before, blocks_after, AreTables, AreInside};
-ghost use Rattle.flow_matches.specs.Outcomes.{IsPieceOf, IsRefusalOf};
+ghost use Rattle.flow_matches.specs.Outcomes.{IsPieceOf, IsWholePiece, IsRefusalOf};
 ghost use Rattle.flow_matches.specs.Working.ExitViews.{exit_trees, AreExitsOf};
 
 use crate::exits::{Exit, arrivals_from, piece_exits, shared_column};
@@ -57,6 +59,7 @@ pub fn piece_of(
     requires inside { AreInside before.now after.now matches.now }
     requires number { number < length matches.now }
     ensures piece { IfOk result (λ piece. IsPieceOf (pair_of sorts.now before.now after.now) (matches_of matches.now) (match_at matches.now number) piece) }
+    ensures whole { are_whole_blocks before.now ≡ true → are_whole_blocks after.now ≡ true → All IsWholeMatch matches.now → IfOk result IsWholePiece }
     ensures refused { IfErr result (λ fault. IsRefusalOf (pair_of sorts.now before.now after.now) (matches_of matches.now) (match_at matches.now number) fault) }
 {
     if has_same_text(alloc, tables, before, after, matches, number)? {
@@ -91,7 +94,8 @@ fn first_graph(
     requires below { AreBelow (length blocks.now) (blocks_before matches.now) }
     requires marked { AreMarks tables.now.stops_before.items (is_matched_before (matches_of matches.now)) }
     requires exits { AreExitsOf (length matches.now) variables exits.now }
-    ensures { IfOk result (λ graph. (sorts : List Sort) (after : List ABlock) → graph_of graph.items ≡ graph_of_side (first_side (pair_of sorts blocks.now after) (matches_of matches.now) (match_at matches.now number) (exit_trees matches.now exits.now))) }
+    ensures graph { IfOk result (λ graph. (sorts : List Sort) (after : List ABlock) → graph_of graph.items ≡ graph_of_side (first_side (pair_of sorts blocks.now after) (matches_of matches.now) (match_at matches.now number) (exit_trees matches.now exits.now))) }
+    ensures whole { IfOk result (λ graph. are_whole_blocks blocks.now ≡ true → All IsWholeMatch matches.now → are_whole_blocks graph.items ≡ true) }
 {
     let own = &matches[number];
     let inside = blocks_from(alloc, blocks, &tables.stops_before, own.before)?;
@@ -133,7 +137,8 @@ fn second_graph(
     requires below { AreBelow (length blocks.now) (blocks_after matches.now) }
     requires marked { AreMarks tables.now.stops_after.items (is_matched_after (matches_of matches.now)) }
     requires exits { AreExitsOf (length matches.now) variables exits.now }
-    ensures { IfOk result (λ graph. (sorts : List Sort) (before : List ABlock) → graph_of graph.items ≡ graph_of_side (second_side (pair_of sorts before blocks.now) (matches_of matches.now) (match_at matches.now number) (exit_trees matches.now exits.now))) }
+    ensures graph { IfOk result (λ graph. (sorts : List Sort) (before : List ABlock) → graph_of graph.items ≡ graph_of_side (second_side (pair_of sorts before blocks.now) (matches_of matches.now) (match_at matches.now number) (exit_trees matches.now exits.now))) }
+    ensures whole { IfOk result (λ graph. are_whole_blocks blocks.now ≡ true → All IsWholeMatch matches.now → are_whole_blocks graph.items ≡ true) }
 {
     let own = &matches[number];
     let inside = blocks_from(alloc, blocks, &tables.stops_after, own.after)?;

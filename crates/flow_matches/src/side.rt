@@ -1,10 +1,12 @@
 //! The graph of one side of a piece.
-ghost use Rattle.std.specs.Prelude.{◌≡◌, ◌∷◌, false, [], IfOk, OnOk, List, Some, map, length, replicate, unwrap_or, slice_get, slice_set, slice_index_or};
+ghost use Rattle.std.specs.Prelude.{◌≡◌, ◌∷◌, true, false, [], IfOk, OnOk, List, Some, map, length, replicate, unwrap_or, slice_get, slice_set, slice_index_or};
 ghost use Rattle.flow_model.specs.declared.graph.Block.{Block as ABlock};
 ghost use Rattle.flow_model.specs.Polish.{values_of, statement_of, jump_of, block_of, graph_of};
+ghost use Rattle.flow_model.specs.WholeGraphs.{are_whole_exprs, is_whole_jump, is_whole_block, are_whole_blocks};
 ghost use Rattle.flow_pieces.specs.PieceGraphs.{Side as ASide, inside, side_blocks, number_of, block_at, block_inside, jump_of as jump_of_side, mark as a_mark, side_graph as graph_of_side};
 ghost use Rattle.flow_matches.specs.Tables.{AreMarks};
 ghost use Rattle.flow_matches.specs.Working.SideViews.{AreBelowIf, leave_tree, leave_trees, side_arrivals, AddsBlocks, leave_blocks, arrival_blocks, blocks_of_arrivals, after_arrival as number_after, after_arrivals, numbers_of_leaves, number_blocks, number_all_arrivals, IsSide};
+ghost use Rattle.flow_matches.specs.Working.WholeSides.{are_whole_statements, is_whole_leave, are_whole_leaves, are_all_whole_leaves, IsWholeSide, AddsWholeBlocks};
 
 use crate::copies::{copy_cond, copy_exprs, copy_statements, push_exprs};
 use crate::interface::mark;
@@ -112,7 +114,8 @@ pub(crate) fn new_side(
     otherwise: u64,
 ) -> Result<Side, NoMemory>
     requires { AreBelowIf (length blocks.now) (λ k. slice_index_or stops.now k false) }
-    ensures { IfOk result (λ side. (s : ASide) → s.graph ≡ graph_of blocks.now → AreMarks stops.now s.is_matched → inside.items ≡ side_blocks s → arrivals.now ≡ side_arrivals s → map (λ l. leave_trees l.items) leaves.items ≡ map s.leaves (side_arrivals s) → map statement_of opening.items ≡ s.opening → s.otherwise ≡ a_mark otherwise ∷ [] → IsSide side blocks.now s) }
+    ensures side { IfOk result (λ side. (s : ASide) → s.graph ≡ graph_of blocks.now → AreMarks stops.now s.is_matched → inside.items ≡ side_blocks s → arrivals.now ≡ side_arrivals s → map (λ l. leave_trees l.items) leaves.items ≡ map s.leaves (side_arrivals s) → map statement_of opening.items ≡ s.opening → s.otherwise ≡ a_mark otherwise ∷ [] → IsSide side blocks.now s) }
+    ensures whole { IfOk result (λ side. are_whole_statements opening.items ≡ true → are_all_whole_leaves leaves.items ≡ true → IsWholeSide side) }
 {
     let count = count_points(inside.len() + 1, &leaves)?;
     let mut targets = same_numbers(alloc, count, blocks.len())?;
@@ -136,7 +139,8 @@ fn target(side: &Side, block: usize) -> usize
 }
 
 fn one_value(alloc: Global, number: u64) -> Result<Vec<Vec<ExprNode>>, NoMemory>
-    ensures { IfOk result (λ values. values_of values.items ≡ a_mark number ∷ []) }
+    ensures trees { IfOk result (λ values. values_of values.items ≡ a_mark number ∷ []) }
+    ensures whole { IfOk result (λ values. are_whole_exprs values.items ≡ true) }
 {
     let mut values = Vec::new(alloc);
     values.push(mark(alloc, number)?)?;
@@ -145,7 +149,8 @@ fn one_value(alloc: Global, number: u64) -> Result<Vec<Vec<ExprNode>>, NoMemory>
 
 // Returns the jump of a block inside: a return begins with its mark.
 fn jump_inside(alloc: Global, side: &Side, jump: &Jump) -> Result<Jump, NoMemory>
-    ensures { IfOk result (λ copy. (s : ASide) (blocks : List ABlock) → IsSide side.now blocks s → jump_of copy ≡ jump_of_side s (jump_of jump.now)) }
+    ensures jump { IfOk result (λ copy. (s : ASide) (blocks : List ABlock) → IsSide side.now blocks s → jump_of copy ≡ jump_of_side s (jump_of jump.now)) }
+    ensures whole { IfOk result (λ copy. is_whole_jump copy ≡ is_whole_jump jump.now) }
 {
     match jump {
         Jump::Goto(k) => Ok(Jump::Goto(target(side, *k))),
@@ -169,7 +174,8 @@ fn push_block(
     jump: Jump,
     list: &mut Vec<Block>,
 ) -> Result<(), NoMemory>
-    ensures { OnOk result (AddsBlocks list.old list.new (record { is_cut = is_cut; statements = map statement_of statements.items; jump = jump_of jump } ∷ [])) }
+    ensures added { OnOk result (AddsBlocks list.old list.new (record { is_cut = is_cut; statements = map statement_of statements.items; jump = jump_of jump } ∷ [])) }
+    ensures whole { OnOk result (are_whole_statements statements.items ≡ true → is_whole_jump jump ≡ true → AddsWholeBlocks list.old list.new) }
 {
     list.push(Block {
         is_cut,
@@ -186,7 +192,8 @@ fn push_copy(
     side: &Side,
     list: &mut Vec<Block>,
 ) -> Result<(), NoMemory>
-    ensures { OnOk result ((s : ASide) (blocks : List ABlock) → IsSide side.now blocks s → AddsBlocks list.old list.new (block_inside s (Some (block_of block.now)) ∷ [])) }
+    ensures added { OnOk result ((s : ASide) (blocks : List ABlock) → IsSide side.now blocks s → AddsBlocks list.old list.new (block_inside s (Some (block_of block.now)) ∷ [])) }
+    ensures whole { OnOk result (is_whole_block block.now ≡ true → AddsWholeBlocks list.old list.new) }
 {
     let statements = copy_statements(alloc, &block.statements)?;
     let jump = jump_inside(alloc, side, &block.jump)?;
@@ -201,7 +208,8 @@ fn push_inside(
     side: &Side,
     list: &mut Vec<Block>,
 ) -> Result<(), NoMemory>
-    ensures { OnOk result ((s : ASide) → IsSide side.now blocks.now s → AddsBlocks list.old list.new (map (λ k. block_at s (inside k)) (side_blocks s))) }
+    ensures added { OnOk result ((s : ASide) → IsSide side.now blocks.now s → AddsBlocks list.old list.new (map (λ k. block_at s (inside k)) (side_blocks s))) }
+    ensures whole { OnOk result (are_whole_blocks blocks.now ≡ true → AddsWholeBlocks list.old list.new) }
 {
     for number in &side.inside {
         if let Some(block) = blocks.get(*number) {
@@ -213,7 +221,8 @@ fn push_inside(
 
 // Adds the two points of an exit: the second is there only if its condition holds.
 fn push_leave(alloc: Global, leave: &Leave, list: &mut Vec<Block>) -> Result<(), NoMemory>
-    ensures { OnOk result (AddsBlocks list.old list.new (leave_blocks (length (graph_of list.old.items)) (leave_tree leave.now))) }
+    ensures added { OnOk result (AddsBlocks list.old list.new (leave_blocks (length (graph_of list.old.items)) (leave_tree leave.now))) }
+    ensures whole { OnOk result (is_whole_leave leave.now ≡ true → AddsWholeBlocks list.old list.new) }
 {
     let number = list.len();
     let cond = copy_cond(alloc, &leave.condition)?;
@@ -231,7 +240,8 @@ fn push_arrival(
     otherwise: u64,
     list: &mut Vec<Block>,
 ) -> Result<(), NoMemory>
-    ensures { OnOk result (AddsBlocks list.old list.new (arrival_blocks (length (graph_of list.old.items)) (leave_trees leaves.now) (a_mark otherwise ∷ []))) }
+    ensures added { OnOk result (AddsBlocks list.old list.new (arrival_blocks (length (graph_of list.old.items)) (leave_trees leaves.now) (a_mark otherwise ∷ []))) }
+    ensures whole { OnOk result (are_whole_leaves leaves.now ≡ true → AddsWholeBlocks list.old list.new) }
 {
     for leave in leaves {
         push_leave(alloc, leave, list)?;
@@ -254,7 +264,8 @@ fn first_point(side: &Side) -> usize
 
 // Adds the blocks of all arrivals.
 fn push_arrivals(alloc: Global, side: &Side, list: &mut Vec<Block>) -> Result<(), NoMemory>
-    ensures { OnOk result (AddsBlocks list.old list.new (blocks_of_arrivals (length (graph_of list.old.items)) (map (λ l. leave_trees l.items) side.now.leaves.items) (a_mark side.now.otherwise ∷ []))) }
+    ensures added { OnOk result (AddsBlocks list.old list.new (blocks_of_arrivals (length (graph_of list.old.items)) (map (λ l. leave_trees l.items) side.now.leaves.items) (a_mark side.now.otherwise ∷ []))) }
+    ensures whole { OnOk result (are_all_whole_leaves side.now.leaves.items ≡ true → AddsWholeBlocks list.old list.new) }
 {
     for leaves in &side.leaves {
         push_arrival(alloc, leaves, side.otherwise, list)?;
@@ -268,7 +279,8 @@ pub(crate) fn side_graph(
     blocks: &[Block],
     side: &Side,
 ) -> Result<Vec<Block>, NoMemory>
-    ensures { IfOk result (λ list. (s : ASide) → IsSide side.now blocks.now s → graph_of list.items ≡ graph_of_side s) }
+    ensures graph { IfOk result (λ list. (s : ASide) → IsSide side.now blocks.now s → graph_of list.items ≡ graph_of_side s) }
+    ensures whole { IfOk result (λ list. are_whole_blocks blocks.now ≡ true → IsWholeSide side.now → are_whole_blocks list.items ≡ true) }
 {
     let mut list = Vec::new(alloc);
     let statements = copy_statements(alloc, &side.opening)?;

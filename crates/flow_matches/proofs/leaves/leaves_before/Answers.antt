@@ -6,6 +6,8 @@ use Rattle.flow_matches.specs.declared.leaves.Leave.{Leave}
 use Rattle.flow_matches.specs.Working.ExitViews.{exit_tree, exit_trees}
 use Rattle.flow_matches.specs.Working.SideViews.{leave_trees}
 use Rattle.flow_matches.proofs.ExitSteps.{exit_step, exit_passed, all_exits, exit_has}
+use Rattle.flow_matches.specs.Working.WholeSides.{is_whole_leave, are_whole_leaves}
+use Rattle.flow_matches.proofs.WholeParts.{all_pushed, match_at_whole}
 use Rattle.flow_matches.proofs.leaves.leaves_before.Goals as goal
 use Rattle.flow_matches.proofs.leaves.leaves_before.Goals.{then-contains+in_ok-leave_before+in_ok-append, else-contains}
 
@@ -30,16 +32,26 @@ loop-place-preserved c =
     let here = λ (e : Exit). has_block e.rows c.args.block in
     let test : c.contains.result ≡ here (exit_tree ms exit) = c.contains.ensures.value ∙ ap (λ ks. has_block ks c.args.block) c.deref.ensures.value in
     let rest = leaves_from leave_before here (i + 1) (drop (i + 1) (exit_trees ms es)) in
-    elim c.if-contains.branch [
-      | then-contains+in_ok-leave_before+in_ok-append w ↦
-          ap (λ (v : Vec Leave Global). leave_trees v.items ++ rest) w.leaves-is
-          ∙ exit_step leave_before here ms es i exit w.index-matches-exit.result c.loop-place.leaves.items w.append.new.list.items w.in_ok-leave_before.field-0 _ c.loop-place-test.true c.index-exits-place.is own.0 w.index-matches-exit.is
-          (sym test ∙ w.if-contains.true) w.in_ok-leave_before.ensures w.in_ok-append.ensures c.loop-place.invariant
-      | else-contains w ↦
-          ap (λ (v : Vec Leave Global). leave_trees v.items ++ rest) w.leaves-is
-          ∙ exit_passed leave_before here ms es i exit c.loop-place.leaves.items _ c.loop-place-test.true c.index-exits-place.is (sym test ∙ w.if-contains.false) c.loop-place.invariant
-    ]
+    let are_whole = λ (v : Vec Leave Global). are_whole_leaves v.items in
+    record {
+      trees = elim c.if-contains.branch [
+        | then-contains+in_ok-leave_before+in_ok-append w ↦
+            ap (λ (v : Vec Leave Global). leave_trees v.items ++ rest) w.leaves-is
+            ∙ exit_step leave_before here ms es i exit w.index-matches-exit.result c.loop-place.leaves.items w.append.new.list.items w.in_ok-leave_before.field-0 _ c.loop-place-test.true c.index-exits-place.is own.0 w.index-matches-exit.is
+            (sym test ∙ w.if-contains.true) w.in_ok-leave_before.ensures.tree w.in_ok-append.ensures c.loop-place.invariant.trees
+        | else-contains w ↦
+            ap (λ (v : Vec Leave Global). leave_trees v.items ++ rest) w.leaves-is
+            ∙ exit_passed leave_before here ms es i exit c.loop-place.leaves.items _ c.loop-place-test.true c.index-exits-place.is (sym test ∙ w.if-contains.false) c.loop-place.invariant.trees
+      ];
+      whole = λ whole. elim c.if-contains.branch [
+        | then-contains+in_ok-leave_before+in_ok-append w ↦
+            ap are_whole w.leaves-is
+            ∙ all_pushed is_whole_leave c.loop-place.leaves.items w.append.new.list.items w.in_ok-leave_before.field-0 w.in_ok-append.ensures (c.loop-place.invariant.whole whole)
+            (w.in_ok-leave_before.ensures.whole (match_at_whole ms exit.number w.index-matches-exit.result own.0 w.index-matches-exit.is whole))
+        | else-contains w ↦ ap are_whole w.leaves-is ∙ c.loop-place.invariant.whole whole
+      ];
+    }
 
-pub returns : goal.returns
-returns c =
-    all_exits leave_before (λ (e : Exit). has_block e.rows c.args.block) c.args.matches.now c.args.exits.now c.loop-place.place c.loop-place.leaves.items _ c.loop-place-test.false c.loop-place.invariant
+pub returns-clause-trees : goal.returns-clause-trees
+returns-clause-trees c =
+    all_exits leave_before (λ (e : Exit). has_block e.rows c.args.block) c.args.matches.now c.args.exits.now c.loop-place.place c.loop-place.leaves.items _ c.loop-place-test.false c.loop-place.invariant.trees

@@ -56,6 +56,9 @@ returns-clause-piece c =
     let text : has_same_text p (matches_of ms) m ≡ false = sym (c.in_ok-has_same_text.ensures c.args.sorts.now) ∙ c.if-branch.false in
     let none : is_ambiguous (piece_exits p (matches_of ms) m) ≡ false = ap is_ambiguous (sym (ap (exit_trees ms) c.deref.ensures.value ∙ exits)) ∙ c.in-None.ensures ms in
     let graphs = question_is p (matches_of ms) m (exit_trees ms c.in_ok-exits.exits.items) (piece_exits p (matches_of ms) m) (graph_of c.in_ok-first-in-None.first.items) (graph_of c.in_ok-second-in-None.second.items) exits
-    (c.in_ok-first-in-None.ensures c.args.sorts.now c.args.after.now ∙ ap (λ es. side_graph (side_before p (matches_of ms) m (exit_trees ms es))) c.deref-in-None.ensures.value)
-    (c.in_ok-second-in-None.ensures c.args.sorts.now c.args.before.now ∙ ap (λ es. side_graph (side_after p (matches_of ms) m (exit_trees ms es))) c.deref-in-None-2.ensures.value) in
+    (c.in_ok-first-in-None.ensures.graph c.args.sorts.now c.args.after.now ∙ ap (λ es. side_graph (side_before p (matches_of ms) m (exit_trees ms es))) c.deref-in-None.ensures.value)
+    (c.in_ok-second-in-None.ensures.graph c.args.sorts.now c.args.before.now ∙ ap (λ es. side_graph (side_after p (matches_of ms) m (exit_trees ms es))) c.deref-in-None-2.ensures.value) in
     (text, none, graphs)
+
+pub returns-clause-whole : goal.returns-clause-whole
+returns-clause-whole c = λ before after matches. (c.in_ok-first-in-None.ensures.whole before matches, c.in_ok-second-in-None.ensures.whole after matches)

@@ -4,8 +4,8 @@ use Rattle.flow_matches.specs.Working.SideViews.{after_arrivals, numbers_of_leav
 use Rattle.flow_matches.proofs.SideGraphs.{points_counted, targets_made}
 use Rattle.flow_matches.proofs.side.new_side.Goals as goal
 
-pub returns : goal.returns
-returns c = λ s graph marks inside arrivals leaves opening otherwise.
+pub returns-clause-side : goal.returns-clause-side
+returns-clause-side c = λ s graph marks inside arrivals leaves opening otherwise.
     let blocks = c.args.blocks.now in
     let stops = c.args.stops.now in
     let ks = c.args.inside.items in
@@ -26,3 +26,6 @@ returns c = λ s graph marks inside arrivals leaves opening otherwise.
       count = counted;
       otherwise = otherwise;
     }
+
+pub returns-clause-whole : goal.returns-clause-whole
+returns-clause-whole c = λ opening leaves. record { opening = opening; leaves = leaves }
