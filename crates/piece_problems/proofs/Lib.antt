@@ -1,0 +1,5 @@
+pub mod Reasons
+pub mod SortedPieces
+pub mod SamePieces
+pub mod FoundPieces
+pub mod PieceProblemExamples
