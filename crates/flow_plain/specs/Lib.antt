@@ -1,0 +1,3 @@
+pub mod PlainGraphs
+pub mod PrintableGraphs
+pub mod Laws
