@@ -1,6 +1,6 @@
 //! Laws of the top call. Each function does nothing: its contract is the law.
 ghost use Rattle.kat_tool.specs.HeadlineAgreement.{HeadlinesAgree};
-ghost use Rattle.kat_tool.specs.FlowAgreement.{FlowsAgree};
+ghost use Rattle.kat_tool.specs.FlowAgreement.{FlowsAgree, PlainFlowsAgree};
 ghost use Rattle.kat_tool.specs.Laws.{CausesExclude, WordsGiveStores, CheckAgrees, NotesFollow};
 
 /// If the content of each file is known and the shelf did not fail, two replies to the same words have one status, so
@@ -34,4 +34,10 @@ pub fn headlines_agree()
 /// graphs always return the same; and so if `check` replies with 0 to the printed text and evidence from any source.
 pub fn flows_agree()
     ensures { FlowsAgree }
+{}
+
+/// The same for the plainest text of two flow graphs, which is read as these graphs: which graphs always return the same
+/// is then said without a grammar.
+pub fn plain_flows_agree()
+    ensures { PlainFlowsAgree }
 {}

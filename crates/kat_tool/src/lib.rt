@@ -14,7 +14,8 @@ use kat_io::{Shelf, Sink, send};
 use kat_model::NoMemory;
 use kat_report::words_line;
 pub use laws::{
-    causes_exclude, check_agrees, flows_agree, headlines_agree, notes_follow, words_give_stores,
+    causes_exclude, check_agrees, flows_agree, headlines_agree, notes_follow, plain_flows_agree,
+    words_give_stores,
 };
 use std::alloc::Global;
 pub use tool_check::{chain_bytes, check_bytes, replay_bytes};
