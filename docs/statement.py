@@ -2,7 +2,7 @@
 # SPDX-License-Identifier: MIT OR Apache-2.0
 """Writes docs/statement.md: the clauses that carry the claim, with every definition behind them.
 
-    docs/statement.py            writes the page, which has the first five parts
+    docs/statement.py            writes the page, which has the first six parts
     docs/statement.py --part N   prints part N of PARTS, without the definitions of earlier parts
     docs/statement.py --check    ends with 1 if the page is not what the sources give, if README.md does not have the
                                  count of the first part, or if that part is longer than a few pages
@@ -20,7 +20,7 @@ from typing import Iterable, Iterator, Optional
 
 TOP = Path(__file__).resolve().parent.parent
 PAGE = TOP / "docs/statement.md"
-ON_PAGE = 5
+ON_PAGE = 6
 # A module and a name in it; what the names of a file stand for.
 Name = tuple[str, str]
 Imported = dict[str, Name]
@@ -50,7 +50,7 @@ PARTS = [
          clauses=[("tool_decide/src/decide.rt", "decide_bytes", ["plain"])],
          later=("IsAccepted", "Spells", "SameInModels", "HasChain", "IsSmallCert", "IsSmall")),
     Part("What `decide` answers of programs", "The bytes are those of the plainest text of two programs, or of a triple of "
-         "one, so no grammar is needed here either. The problem of an abstraction (`abstract_of`) is in part 6: the statement "
+         "one, so no grammar is needed here either. The problem of an abstraction (`abstract_of`) is in part 7: the statement "
          "on stores does not need it.",
          clauses=[("tool_decide/src/decide.rt", "decide_bytes", ["programs", "triples"])], later=("abstract_of",)),
     Part("Evidence", "The certificates that are accepted, and the bytes that spell evidence.",
@@ -60,9 +60,15 @@ PARTS = [
          "shortest string.",
          names=[("kat_laws", "Models", "SameInModels"), ("kat_axioms", "Laws", "HasChain"), ("tool_decide", "SmallCerts", "IsSmallCert"),
                 ("kat_laws", "SmallStrings", "IsSmall")]),
-    Part("Flow graphs", "What `flow` answers, and that two flow graphs always return the same where `decide` or `check` ends with 0 on "
-         "the printed text. The text of flow graphs and the problem that is printed are in part 12, what a problem file asks and what the "
-         "replies of `decide` and `check` are is in part 6: what an answer says about the graphs does not need them.",
+    Part("Flow graphs", "That two flow graphs always return the same where `decide` or `check` ends with 0 on what `flow` printed "
+         "with 0. The bytes are those of the plainest text of the graphs, so no grammar is needed to read this part. "
+         "`crates/flow_plain/proofs/GraphExamples.antt` works two graphs and their text by hand. The replies of the three commands are in "
+         "parts 6 and 7: that the graphs agree does not need them.",
+         clauses=[("kat_tool/src/laws.rt", "plain_flows_agree", [])], later=("FlowHeadline", "DecideReply", "CheckReply")),
+    Part("Every text of flow graphs", "What `flow` answers, and that the two graphs of any flow file always return the same where "
+         "`decide` or `check` ends with 0 on the printed text. The text of flow graphs and the problem that is printed are in part 13, what "
+         "a problem file asks and what the replies of `decide` and `check` are is in part 7: what an answer says about the graphs does "
+         "not need them.",
          clauses=[("tool_flow/src/flow.rt", "flow_bytes", ["headline"]), ("kat_tool/src/laws.rt", "flows_agree", [])],
          later=("Poses", "IsFlowText", "FirstFault", "IsFaultOf", "HasFlowProblem", "HasNoFlowProblem", "problem_text", "variable_names",
                 "function_names", "ItemSyntax", "DecideReply", "CheckReply")),
